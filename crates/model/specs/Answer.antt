@@ -1,0 +1,65 @@
+-- Answers: the number, the place and the count of each case, and the asking of questions in order.
+use Prim.Native.Nat.{ℕ}
+use mathlib.Core.Bool.{Bool, true, false}
+use mathlib.Core.List.{List, [], _∷_}
+use Rattle.model.specs.declared.Refusal.{Refusal}
+use Rattle.model.specs.declared.Refusal.the-variants.{Table, PolicyLength, Shape, Level, Predicate, Variable, Mode, LogLength, Row, Repeat, Scratch, Room}
+use Rattle.model.specs.declared.Answer.{Answer}
+use Rattle.model.specs.declared.Answer.the-variants.{Accepted, Refused}
+
+-- the number of the question that a refusal answers with no
+unfoldable pub question : Refusal → ℕ
+question Table = 1
+question PolicyLength = 2
+question Shape = 3
+question Level = 4
+question Predicate = 5
+question Variable = 6
+question Mode = 7
+question LogLength = 8
+question Row = 9
+question Repeat = 10
+question Scratch = 11
+question Room = 12
+
+-- accepted is 0 with place 0; refused, the count is 0
+unfoldable pub number : Answer → ℕ
+number (Accepted n) = 0
+number (Refused r p) = question r
+
+unfoldable pub place : Answer → ℕ
+place (Accepted n) = 0
+place (Refused r p) = p
+
+unfoldable pub count : Answer → ℕ
+count (Accepted n) = n
+count (Refused r p) = 0
+
+-- what comes of a list of questions: the first one refused, with its place, or what they were asked for
+pub data Outcome (A : Type 0) : Type 0 where
+  refused : Refusal → ℕ → Outcome A
+  passed : A → Outcome A
+
+-- one question
+unfoldable pub ask : Bool → Refusal → ℕ → Outcome (Unit {0})
+ask true r p = passed tt
+ask false r p = refused r p
+
+module _ {A B : Type 0} where
+  -- the first questions, and, if they pass, the next ones
+  infixl 20 _>>=_
+  unfoldable pub _>>=_ : Outcome A → (A → Outcome B) → Outcome B
+  refused r p >>= next = refused r p
+  passed a >>= next = next a
+
+module _ {A : Type 0} where
+  -- the same questions at each element in turn
+  unfoldable pub inTurn : (A → Outcome (Unit {0})) → List A → Outcome (Unit {0})
+  unfolding _>>=_
+  inTurn questions [] = passed tt
+  inTurn questions (x ∷ xs) = questions x >>= λ _. inTurn questions xs
+
+  -- the answer, with the count that a call gives of what it accepts
+  unfoldable pub answer : (A → ℕ) → Outcome A → Answer
+  answer size (refused r p) = Refused r p
+  answer size (passed a) = Accepted (size a)

@@ -1,0 +1,79 @@
+-- The four calls, as functions of their words and of the lengths of scratch and buffer.
+use Prim.Native.Nat.{ℕ, _-_, _/_}
+use mathlib.Core.Bool.{_&&_}
+use mathlib.Core.List.{List, [], _++_}
+use lib.ListN.{length, replicate}
+use lib.Dec.{leb}
+use lib.IntN.{ℤ, pos}
+use Rattle.model.specs.declared.Answer.{Answer}
+use Rattle.model.specs.declared.Refusal.the-variants.{Scratch, Room}
+use Rattle.model.specs.Words.{Words, placeWords, policyLimit}
+use Rattle.model.specs.Answer.{Outcome, passed, refused, ask, answer, _>>=_}
+use Rattle.model.specs.Table.{askTable}
+use Rattle.model.specs.Log.{rows, rowCount, askLog}
+use Rattle.model.specs.Tree.{Tree, encode}
+use Rattle.model.specs.Level.{formula, greatest}
+use Rattle.model.specs.Reading.{readPolicy}
+use Rattle.model.specs.Mode.{askModes}
+use Rattle.model.specs.Reduction.{reduce, need}
+use Rattle.model.specs.Dual.{dual}
+
+-- what a call that is lent a buffer leaves: its answer and all words of buffer and scratch
+pub record Result : Type 0 where
+  pub answer : Answer
+  pub buffer : Words
+  pub scratch : Words
+
+unfoldable pub zeros : ℕ → Words
+zeros n = replicate n (pos 0)
+
+-- the words written, then zeros; refused, zeros only
+unfoldable pub filled : ℕ → Outcome Words → Words
+filled buffer (refused r p) = zeros buffer
+filled buffer (passed ws) = ws ++ zeros (buffer - length ws)
+
+unfoldable pub result : ℕ → ℕ → Outcome Words → Result
+result scratch buffer written =
+    record { answer = answer length written; buffer = filled buffer written; scratch = zeros scratch }
+
+-- questions 1 to 7, of a table and a policy: the tree
+unfoldable pub askPolicy : Words → Words → Outcome Tree
+askPolicy table policy = do
+  _ ← askTable table
+  tree ← readPolicy table policy
+  _ ← askModes tree table 0 0
+  passed tree
+
+-- question 12, of the words of a tree
+unfoldable pub write : ℕ → Tree → Outcome Words
+write buffer tree = do
+  let ws = encode tree
+  _ ← ask (leb (length ws) buffer && leb (length ws) policyLimit) Room 0
+  passed ws
+
+-- check a policy: 1 to 7; the greatest level
+unfoldable pub checkPolicy : Words → Words → Answer
+checkPolicy table policy = answer (λ tree. greatest tree formula 0) (askPolicy table policy)
+
+-- check a log: 1 and 8 to 10; the row count
+unfoldable pub checkLog : Words → Words → Answer
+checkLog table log =
+    answer (λ _. rowCount log) do
+      _ ← askTable table
+      askLog table log
+
+-- reduce: all questions; the length of the residual
+unfoldable pub reduceCall : Words → Words → Words → ℕ → ℕ → Result
+reduceCall table policy log scratch buffer =
+    result scratch buffer do
+      tree ← askPolicy table policy
+      _ ← askLog table log
+      _ ← ask (leb (need table (rows log) tree []) (scratch / placeWords)) Scratch 0
+      write buffer (reduce table (rows log) tree [])
+
+-- dual: 1 to 7 and 12; the length of the dual
+unfoldable pub dualCall : Words → Words → ℕ → Result
+dualCall table policy buffer =
+    result 0 buffer do
+      tree ← askPolicy table policy
+      write buffer (dual tree)

@@ -1,0 +1,20 @@
+-- What a reader of the product has to believe, one concept a file, in reading order.
+pub mod Words
+pub mod Lists
+pub mod Answer
+pub mod Table
+pub mod Log
+pub mod Tag
+pub mod Tree
+pub mod Level
+pub mod Reading
+pub mod Mode
+pub mod Truth
+pub mod Listing
+pub mod Putting
+pub mod Joining
+pub mod Reduction
+pub mod Dual
+pub mod Calls
+pub mod Runs
+pub mod Examples
