@@ -1,0 +1,1 @@
+// Theorems about the definitions of model: all of it stands in specs/.
