@@ -3,7 +3,7 @@ use Prim.Native.Nat.{ℕ}
 use mathlib.Core.Path.{_≡_, refl, sym, ap, ap₂, _∙_}
 use mathlib.Core.Logic.{_⊎_, inl, inr, ⊎-elim}
 use mathlib.Core.Bool.{Bool, true, false, not, _&&_, _||_, true≢false, false≢true}
-use mathlib.Core.List.{List, [], _∷_, List·Memᴰ, List·Memᴰ·head, List·Memᴰ·tail}
+use mathlib.Core.List.{List, [], _∷_, _++_, List·Memᴰ, List·Memᴰ·head, List·Memᴰ·tail}
 use lib.IntN.{ℤ, pos, negsuc}
 use borrow.Author.Tests.{eqb-true, eq-eqb}
 use Rattle.model.specs.Words.{equal, equalAll, member, same}
@@ -40,6 +40,14 @@ pub or-right : (a b : Bool) → b ≡ true → a || b ≡ true
 or-right true b e = refl
 or-right false b e = e
 
+pub or-false-left : (a b : Bool) → a || b ≡ false → a ≡ false
+or-false-left true b e = e
+or-false-left false b e = refl
+
+pub or-false-right : (a b : Bool) → a || b ≡ false → b ≡ false
+or-false-right true b e = absurd (true≢false e)
+or-false-right false b e = e
+
 pub same-true : (a b : Bool) → same a b ≡ true → a ≡ b
 same-true true true e = refl
 same-true true false e = absurd (false≢true e)
@@ -55,6 +63,18 @@ same-false false false e = absurd (true≢false e)
 pub same-refl : (a : Bool) → same a a ≡ true
 same-refl true = refl
 same-refl false = refl
+
+pub same-comm : (a b : Bool) → same a b ≡ same b a
+same-comm true true = refl
+same-comm true false = refl
+same-comm false true = refl
+same-comm false false = refl
+
+pub same-same : (a b : Bool) → same (same a b) b ≡ a
+same-same true true = refl
+same-same true false = refl
+same-same false true = refl
+same-same false false = refl
 
 pub equal-true : (x y : ℤ) → equal x y ≡ true → x ≡ y
 unfolding equal
@@ -96,3 +116,12 @@ pub mem-member : {τ : List ℤ} {l : List (List ℤ)} → List·Memᴰ τ l →
 unfolding member
 mem-member {τ} (List·Memᴰ·head {x = σ} {xs = l} e) = rw (← e) (or-left (equalAll τ τ) _ (equalAll-refl τ))
 mem-member {τ} (List·Memᴰ·tail {x = σ} m) = or-right (equalAll τ σ) _ (mem-member m)
+
+pub member-append : (τ : List ℤ) (l m : List (List ℤ)) → member τ (l ++ m) ≡ (member τ l || member τ m)
+unfolding member
+member-append τ [] m = refl
+member-append τ (σ ∷ l) m = ap (λ (x : Bool). equalAll τ σ || x) (member-append τ l m) ∙ or-assoc (equalAll τ σ) _ _
+  where
+    or-assoc : (a b c : Bool) → (a || (b || c)) ≡ ((a || b) || c)
+    or-assoc true b c = refl
+    or-assoc false b c = refl

@@ -1,0 +1,69 @@
+-- What it says that questions asked in order all pass: each of them passed.
+use Prim.Native.Nat.{ℕ}
+use mathlib.Core.Path.{_≡_, refl, sym, ap, _∙_}
+use mathlib.Core.Bool.{Bool, true, false}
+use native.Mathlib.Omega.{arith}
+use mathlib.Core.List.{List, [], _∷_, List·Memᴰ, List·Memᴰ·head, List·Memᴰ·tail}
+use Rattle.model.specs.Answer.{Outcome, refused, passed, ask, _>>=_, inTurn}
+use Rattle.model.specs.declared.Refusal.{Refusal}
+
+-- a question that passed was answered with yes
+pub ask-passed : (b : Bool) (r : Refusal) (p : ℕ) {u : Unit {0}} → ask b r p ≡ passed u → b ≡ true
+unfolding ask
+ask-passed true r p e = refl
+ask-passed false r p e = cc
+
+pub ask-true : {b : Bool} (r : Refusal) (p : ℕ) → b ≡ true → ask b r p ≡ passed tt
+unfolding ask
+ask-true r p e = rw e
+
+-- what was refused did not pass
+pub refused-passed {ℓ} : {X : Type ℓ} {A : Type 0} {r : Refusal} {p : ℕ} {a : A} → refused r p ≡ passed a → X
+refused-passed {X} {A} {r} {p} {a} e = absurd (let z : _≡_ {A = ℕ} 0 1 = cc in omega arith)
+
+-- what passed, passed with one value
+pub passed-same : {A : Type 0} {x y : A} → passed x ≡ passed y → x ≡ y
+passed-same e = cc
+
+module _ {A B : Type 0} where
+  -- both the first questions and the next ones passed
+  pub then-passed :
+      (o : Outcome A) (next : A → Outcome B) {b : B} →
+      (o >>= next) ≡ passed b →
+      (a : A) × (o ≡ passed a) × (next a ≡ passed b)
+  unfolding _>>=_
+  then-passed (refused r p) next e = refused-passed e
+  then-passed (passed a) next e = (a, refl, e)
+
+  -- the same, handed on to what follows from it
+  pub both-passed {ℓ} :
+      {X : Type ℓ} (o : Outcome A) (next : A → Outcome B) {b : B} →
+      (o >>= next) ≡ passed b →
+      ((a : A) → o ≡ passed a → next a ≡ passed b → X) →
+      X
+  both-passed o next e k = let r = then-passed o next e in k (r .0) (r .1) (r .2)
+
+  -- and the other way round
+  pub pass-then : {o : Outcome A} (next : A → Outcome B) {a : A} {r : Outcome B} → o ≡ passed a → next a ≡ r → (o >>= next) ≡ r
+  unfolding _>>=_
+  pass-then next e f = rw e f
+
+module _ {A : Type 0} where
+  -- questions asked at each element in turn pass at every element
+  pub inTurn-mem :
+      (questions : A → Outcome (Unit {0})) {x : A} {l : List A} →
+      inTurn questions l ≡ passed tt →
+      List·Memᴰ x l →
+      questions x ≡ passed tt
+  unfolding inTurn
+  inTurn-mem questions e (List·Memᴰ·head {x = y} p) = rw p (then-passed (questions y) _ e .1)
+  inTurn-mem questions e (List·Memᴰ·tail {x = y} m) = inTurn-mem questions (then-passed (questions y) _ e .2) m
+
+  pub inTurn-intro :
+      (questions : A → Outcome (Unit {0})) (l : List A) →
+      ((x : A) → List·Memᴰ x l → questions x ≡ passed tt) →
+      inTurn questions l ≡ passed tt
+  unfolding inTurn
+  inTurn-intro questions [] h = refl
+  inTurn-intro questions (x ∷ l) h =
+      pass-then (λ _. inTurn questions l) (h x (List·Memᴰ·head refl)) (inTurn-intro questions l (λ y m. h y (List·Memᴰ·tail m)))

@@ -1,0 +1,129 @@
+-- Truth in structures: nothing is both true and false, and what is true or false stays so in every extension.
+-- By induction on the tree, with both values of truth at once.
+use Prim.Native.Nat.{ℕ}
+use mathlib.Core.Path.{_≡_, refl, sym, ap, _∙_, subst}
+use mathlib.Core.Logic.{_⊎_, inl, inr, ⊎-elim, _↔_}
+use mathlib.Core.Bool.{Bool, true, false, not, cond, true≢false, false≢true}
+use mathlib.Core.List.{List, [], _∷_, _++_, map}
+use lib.ListN.{length}
+use lib.IntN.{ℤ}
+use Rattle.model.specs.Words.{same, member}
+use Rattle.model.specs.Log.{Value, known, unknown}
+use Rattle.model.specs.Tree.{Tree, Trees, plain, atom, compare, join, quantifier, some, nil, cons}
+use Rattle.model.specs.Truth.{Structure, Extends, numberOf, Is, Every, One}
+use Rattle.laws.specs.Words.{clash}
+
+-- the two statements about a quantifier, of tuples of v numbers: each tuple is excluded, or has a false restriction or the
+-- body's truth; some tuple is not excluded and has a true restriction and the body's truth
+abbrev pub EachTuple : ℕ → List (List ℤ) → (List ℤ → Type 0) → (List ℤ → Type 0) → Type 0
+EachTuple v excluded C F = (τ : List ℤ) → length τ ≡ v → (member τ excluded ≡ true) ⊎ C τ ⊎ F τ
+
+abbrev pub SomeTuple : ℕ → List (List ℤ) → (List ℤ → Type 0) → (List ℤ → Type 0) → Type 0
+SomeTuple v excluded C F = (τ : List ℤ) × (length τ ≡ v) × (member τ excluded ≡ false) × C τ × F τ
+
+tuple-clash :
+    (v : ℕ) (excluded : List (List ℤ)) (C C′ F F′ : List ℤ → Type 0) →
+    ((τ : List ℤ) → C τ → C′ τ → ⊥) →
+    ((τ : List ℤ) → F τ → F′ τ → ⊥) →
+    EachTuple v excluded C F →
+    SomeTuple v excluded C′ F′ →
+    ⊥
+tuple-clash v excluded C C′ F F′ hc hf h k =
+    ⊎-elim
+    (λ m. clash m (k .2))
+    (⊎-elim (λ c. hc (k .0) c (k .3)) (λ f. hf (k .0) f (k .4)))
+    (h (k .0) (k .1))
+
+known-same : (b : Bool) (v : Value) → v ≡ known (same true b) → v ≡ known (same false b) → ⊥
+known-same true v p q = let e : known true ≡ known false = sym p ∙ q in let z : true ≡ false = cc in true≢false z
+known-same false v p q = let e : known false ≡ known true = sym p ∙ q in let z : false ≡ true = cc in false≢true z
+
+bool-same : (b v : Bool) → v ≡ same true b → v ≡ same false b → ⊥
+bool-same true v p q = true≢false (sym p ∙ q)
+bool-same false v p q = false≢true (sym p ∙ q)
+
+module _ (s : Structure) where
+  mutual
+    unfolding Is
+
+    -- nothing is both true and false
+    pub consistent : (t : Tree) (ρ : List ℤ) → Is t s true ρ → Is t s false ρ → ⊥
+    consistent (plain b) ρ h k = true≢false (h ∙ sym k)
+    consistent (atom b p ts) ρ h k = known-same b (s p (map (numberOf ρ) ts)) h k
+    consistent (compare b d x y) ρ h k = bool-same b _ h k
+    consistent (join true ts) ρ h k = all-one ts ρ h k
+    consistent (join false ts) ρ h k = one-all ts ρ h k
+    consistent (quantifier true v excluded c f) ρ h k =
+        tuple-clash v excluded _ _ _ _
+        (λ τ a b. consistent c (ρ ++ τ) b a)
+        (λ τ a b. consistent f (ρ ++ τ) a b)
+        h
+        k
+    consistent (quantifier false v excluded c f) ρ h k =
+        tuple-clash v excluded _ _ _ _
+        (λ τ a b. consistent c (ρ ++ τ) b a)
+        (λ τ a b. consistent f (ρ ++ τ) b a)
+        k
+        h
+    consistent (some c) ρ h k = consistent c (ρ ++ h .0 ∷ []) (h .1) (k (h .0))
+
+    all-one : (ts : Trees) (ρ : List ℤ) → Every ts s true ρ → One ts s false ρ → ⊥
+    all-one nil ρ h k = k
+    all-one (cons t ts) ρ h k = ⊎-elim (λ a. consistent t ρ (h .0) a) (λ a. all-one ts ρ (h .1) a) k
+
+    one-all : (ts : Trees) (ρ : List ℤ) → One ts s true ρ → Every ts s false ρ → ⊥
+    one-all nil ρ h k = h
+    one-all (cons t ts) ρ h k = ⊎-elim (λ a. consistent t ρ a (k .0)) (λ a. one-all ts ρ a (k .1)) h
+
+-- a statement by a test, and functions between the statements on each side
+pub by-test : (b : Bool) {A A′ B B′ : Type 0} → (A → A′) → (B → B′) → cond b A B → cond b A′ B′
+by-test true f g h = f h
+by-test false f g h = g h
+
+-- both ways at once
+pub both : (b : Bool) {A A′ B B′ : Type 0} → A ↔ A′ → B ↔ B′ → cond b A B ↔ cond b A′ B′
+both b f g = (by-test b (f .0) (g .0), by-test b (f .1) (g .1))
+
+pub each-tuple :
+    (v : ℕ) (excluded : List (List ℤ)) (C C′ F F′ : List ℤ → Type 0) →
+    ((τ : List ℤ) → length τ ≡ v → C τ → C′ τ) →
+    ((τ : List ℤ) → length τ ≡ v → F τ → F′ τ) →
+    EachTuple v excluded C F →
+    EachTuple v excluded C′ F′
+each-tuple v excluded C C′ F F′ hc hf h τ e =
+    ⊎-elim inl (⊎-elim (λ c. inr (inl (hc τ e c))) (λ f. inr (inr (hf τ e f)))) (h τ e)
+
+pub some-tuple :
+    (v : ℕ) (excluded : List (List ℤ)) (C C′ F F′ : List ℤ → Type 0) →
+    ((τ : List ℤ) → length τ ≡ v → C τ → C′ τ) →
+    ((τ : List ℤ) → length τ ≡ v → F τ → F′ τ) →
+    SomeTuple v excluded C F →
+    SomeTuple v excluded C′ F′
+some-tuple v excluded C C′ F F′ hc hf h = (h .0, h .1, h .2, hc (h .0) (h .1) (h .3), hf (h .0) (h .1) (h .4))
+
+module _ (s larger : Structure) (extends : Extends s larger) where
+  mutual
+    unfolding Is Extends
+
+    -- what is true, or false, in a structure is so in every extension
+    pub monotone : (t : Tree) (truth : Bool) (ρ : List ℤ) → Is t s truth ρ → Is t larger truth ρ
+    monotone (plain b) truth ρ h = h
+    monotone (atom b p ts) truth ρ h = extends p (map (numberOf ρ) ts) (same truth b) h
+    monotone (compare b d x y) truth ρ h = h
+    monotone (join b ts) truth ρ h = by-test (same truth b) (λ a. monotone-every ts truth ρ a) (λ a. monotone-one ts truth ρ a) h
+    monotone (quantifier b v excluded c f) truth ρ h =
+        by-test (same truth b)
+        (each-tuple v excluded _ _ _ _ (λ τ e a. monotone c false (ρ ++ τ) a) (λ τ e a. monotone f truth (ρ ++ τ) a))
+        (some-tuple v excluded _ _ _ _ (λ τ e a. monotone c true (ρ ++ τ) a) (λ τ e a. monotone f truth (ρ ++ τ) a))
+        h
+    monotone (some c) true ρ h = (h .0, monotone c true (ρ ++ h .0 ∷ []) (h .1))
+    monotone (some c) false ρ h = λ k. monotone c false (ρ ++ k ∷ []) (h k)
+
+    monotone-every : (ts : Trees) (truth : Bool) (ρ : List ℤ) → Every ts s truth ρ → Every ts larger truth ρ
+    monotone-every nil truth ρ h = tt
+    monotone-every (cons t ts) truth ρ h = (monotone t truth ρ (h .0), monotone-every ts truth ρ (h .1))
+
+    monotone-one : (ts : Trees) (truth : Bool) (ρ : List ℤ) → One ts s truth ρ → One ts larger truth ρ
+    monotone-one nil truth ρ h = h
+    monotone-one (cons t ts) truth ρ h =
+        ⊎-elim (λ a. inl (monotone t truth ρ a)) (λ a. inr (monotone-one ts truth ρ a)) h
