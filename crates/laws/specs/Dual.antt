@@ -17,7 +17,10 @@ use Rattle.model.specs.Mode.{size, askModes, askModesAll}
 use Rattle.model.specs.Truth.{Structure, Is, Every, One, numberOf}
 use Rattle.model.specs.Dual.{dual, dualAll}
 use Rattle.laws.specs.Formed.{Formed, FormedAll}
-use Rattle.laws.specs.Truth.{both, each-tuple, some-tuple}
+use Rattle.model.specs.Calls.{askPolicy}
+use Rattle.laws.specs.Reading.{read-length}
+use Rattle.laws.specs.Policy.{accepted-asked, accepted-rules, rules-accepted}
+use Rattle.laws.specs.Truth.{both, Alike, alike-join, each-tuple, some-tuple}
 
 not-not : (b : Bool) → not (not b) ≡ b
 not-not true = refl
@@ -167,8 +170,7 @@ module _ (table : Words) (s : Structure) where
     dual-is (atom b p ts) scope h truth ρ = rw (not-same truth b) (λ x. x, λ x. x)
     dual-is (compare b d x y) scope h truth ρ = rw (not-same truth b) (λ x. x, λ x. x)
     dual-is (join b ts) scope h truth ρ =
-        rw (not-same truth b)
-        (both (same (not truth) b) (dual-every ts scope (h .1) truth ρ) (dual-one ts scope (h .1) truth ρ))
+        alike-join s truth ρ (not truth) ρ (not b) b (dualAll ts) ts (not-same truth b) (dual-alike ts scope (h .1) truth ρ)
     dual-is (quantifier b v excluded c f) scope h truth ρ =
         let ih : (τ : List ℤ) → Is (dual f) s truth (ρ ++ τ) ↔ Is f s (not truth) (ρ ++ τ)
         = λ τ. dual-is f (scope + v) (h .6) truth (ρ ++ τ) in
@@ -178,24 +180,35 @@ module _ (table : Words) (s : Structure) where
         (some-tuple v excluded _ _ _ _ (λ τ e x. x) (λ τ e. ih τ .0), some-tuple v excluded _ _ _ _ (λ τ e x. x) (λ τ e. ih τ .1)))
     dual-is (some c) scope h truth ρ = absurd (true≢false (h .0))
 
-    dual-every :
+    -- child by child
+    dual-alike :
         (ts : Trees) (scope : ℕ) →
         FormedAll ts table true scope →
         (truth : Bool) (ρ : List ℤ) →
-        Every (dualAll ts) s truth ρ ↔ Every ts s (not truth) ρ
-    dual-every nil scope h truth ρ = (λ x. x, λ x. x)
-    dual-every (cons t ts) scope h truth ρ =
-        let one = dual-is t scope (h .0) truth ρ in
-        let rest = dual-every ts scope (h .1) truth ρ in
-        (λ x. (one .0 (x .0), rest .0 (x .1)), λ x. (one .1 (x .0), rest .1 (x .1)))
+        Alike s truth ρ (not truth) ρ (dualAll ts) ts
+    dual-alike nil scope h truth ρ = tt
+    dual-alike (cons t ts) scope h truth ρ = (dual-is t scope (h .0) truth ρ, dual-alike ts scope (h .1) truth ρ)
 
-    dual-one :
-        (ts : Trees) (scope : ℕ) →
-        FormedAll ts table true scope →
-        (truth : Bool) (ρ : List ℤ) →
-        One (dualAll ts) s truth ρ ↔ One ts s (not truth) ρ
-    dual-one nil scope h truth ρ = (λ x. x, λ x. x)
-    dual-one (cons t ts) scope h truth ρ =
-        let one = dual-is t scope (h .0) truth ρ in
-        let rest = dual-one ts scope (h .1) truth ρ in
-        (⊎-elim (λ x. inl (one .0 x)) (λ x. inr (rest .0 x)), ⊎-elim (λ x. inl (one .1 x)) (λ x. inr (rest .1 x)))
+-- the dual of an accepted policy is accepted, in as many words and at the same levels
+pub dual-accepted :
+    (table words : Words) (tree : Tree) →
+    askPolicy table words ≡ passed tree →
+    (askPolicy table (encode (dual tree)) ≡ passed (dual tree))
+    × (length (encode (dual tree)) ≡ length words)
+    × (greatest (dual tree) formula 0 ≡ greatest tree formula 0)
+unfolding size
+dual-accepted table words tree e =
+    let (good, is, rules) = accepted-rules table words tree e in
+    let long : length (encode (dual tree)) ≡ length words = dual-size tree ∙ ap length is in
+    let deep = dual-greatest tree formula 0 in
+    let short = read-length table words tree (accepted-asked table words tree e .1) .1 in (
+      rules-accepted table (dual tree) good
+          (record {
+            formed = dual-formed tree table true 0 (rules .formed);
+            levels = rw deep (rules .levels);
+            modes = dual-modes tree table 0 0 ∙ rules .modes;
+          })
+          (rw long short),
+      long,
+      deep,
+    )

@@ -23,7 +23,7 @@ use Rattle.laws.specs.Words.{decide, clash, member-true, mem-member, mem
 use Rattle.laws.specs.Modes.{Moded, ModedAll}
 use Rattle.laws.specs.Formed.{Formed, FormedAll}
 use Rattle.laws.specs.Log.{Sound, known-same}
-use Rattle.laws.specs.Truth.{both, EachTuple, SomeTuple, consistent, monotone}
+use Rattle.laws.specs.Truth.{Alike, alike-join, EachTuple, SomeTuple, consistent, monotone}
 use Rattle.laws.specs.Putting.{is-put}
 use Rattle.laws.specs.Joining.{joined-is, every-append, one-append}
 use Rattle.laws.specs.Outer.{below-outer, decided-passes}
@@ -260,7 +260,7 @@ module _ (table : Words) (rows : List Words) (sound : Sound table rows) (s : Str
     reduce-is (join b ts) ρ h m truth =
         Iff·trans
         (joined-is s [] b truth (reduceAll table rows ts ρ))
-        (both (same truth b) (reduce-every ts ρ (h .1) m truth) (reduce-one ts ρ (h .1) m truth))
+        (alike-join s truth [] truth ρ b b (reduceAll table rows ts ρ) ts refl (reduce-alike ts ρ (h .1) m truth))
     reduce-is (quantifier b v excluded c f) ρ h m truth =
         Iff·trans
         (joined-is s [] b truth _)
@@ -277,26 +277,13 @@ module _ (table : Words) (rows : List Words) (sound : Sound table rows) (s : Str
         truth))
     reduce-is (some c) ρ h m truth = absurd (true≢false (h .0))
 
-    reduce-every :
+    -- child by child
+    reduce-alike :
         (ts : Trees) (ρ : List ℤ) →
         FormedAll ts table true (length ρ) →
         ModedAll table ts (length ρ) →
         (truth : Bool) →
-        Every (reduceAll table rows ts ρ) s truth [] ↔ Every ts s truth ρ
-    reduce-every nil ρ h m truth = (λ x. x, λ x. x)
-    reduce-every (cons t ts) ρ h m truth =
-        let one = reduce-is t ρ (h .0) (m .0) truth in
-        let rest = reduce-every ts ρ (h .1) (m .1) truth in
-        (λ x. (one .0 (x .0), rest .0 (x .1)), λ x. (one .1 (x .0), rest .1 (x .1)))
-
-    reduce-one :
-        (ts : Trees) (ρ : List ℤ) →
-        FormedAll ts table true (length ρ) →
-        ModedAll table ts (length ρ) →
-        (truth : Bool) →
-        One (reduceAll table rows ts ρ) s truth [] ↔ One ts s truth ρ
-    reduce-one nil ρ h m truth = (λ x. x, λ x. x)
-    reduce-one (cons t ts) ρ h m truth =
-        let one = reduce-is t ρ (h .0) (m .0) truth in
-        let rest = reduce-one ts ρ (h .1) (m .1) truth in
-        (⊎-elim (λ x. inl (one .0 x)) (λ x. inr (rest .0 x)), ⊎-elim (λ x. inl (one .1 x)) (λ x. inr (rest .1 x)))
+        Alike s truth [] truth ρ (reduceAll table rows ts ρ) ts
+    reduce-alike nil ρ h m truth = tt
+    reduce-alike (cons t ts) ρ h m truth =
+        (reduce-is t ρ (h .0) (m .0) truth, reduce-alike ts ρ (h .1) (m .1) truth)

@@ -127,3 +127,38 @@ module _ (s larger : Structure) (extends : Extends s larger) where
     monotone-one nil truth ρ h = h
     monotone-one (cons t ts) truth ρ h =
         ⊎-elim (λ a. inl (monotone t truth ρ a)) (λ a. inr (monotone-one ts truth ρ a)) h
+
+-- two lists of trees say the same, tree by tree, each under its own numbers and for its own truth
+module _ (s : Structure) (truth : Bool) (ρ : List ℤ) (truth′ : Bool) (ρ′ : List ℤ) where
+  abbrev pub Alike : Trees → Trees → Type 0
+  Alike nil nil = Unit {0}
+  Alike nil (cons u us) = ⊥
+  Alike (cons t ts) nil = ⊥
+  Alike (cons t ts) (cons u us) = (Is t s truth ρ ↔ Is u s truth′ ρ′) × Alike ts us
+
+  alike-every : (ts us : Trees) → Alike ts us → Every ts s truth ρ ↔ Every us s truth′ ρ′
+  unfolding Is
+  alike-every nil nil h = (λ x. x, λ x. x)
+  alike-every nil (cons u us) h = absurd h
+  alike-every (cons t ts) nil h = absurd h
+  alike-every (cons t ts) (cons u us) h =
+      let rest = alike-every ts us (h .1) in
+      (λ x. (h .0 .0 (x .0), rest .0 (x .1)), λ x. (h .0 .1 (x .0), rest .1 (x .1)))
+
+  alike-one : (ts us : Trees) → Alike ts us → One ts s truth ρ ↔ One us s truth′ ρ′
+  unfolding Is
+  alike-one nil nil h = (λ x. x, λ x. x)
+  alike-one nil (cons u us) h = absurd h
+  alike-one (cons t ts) nil h = absurd h
+  alike-one (cons t ts) (cons u us) h =
+      let rest = alike-one ts us (h .1) in
+      (⊎-elim (λ x. inl (h .0 .0 x)) (λ x. inr (rest .0 x)), ⊎-elim (λ x. inl (h .0 .1 x)) (λ x. inr (rest .1 x)))
+
+  -- their joins say the same
+  pub alike-join :
+      (b b′ : Bool) (ts us : Trees) →
+      same truth b ≡ same truth′ b′ →
+      Alike ts us →
+      Is (join b ts) s truth ρ ↔ Is (join b′ us) s truth′ ρ′
+  unfolding Is
+  alike-join b b′ ts us e h = rw e (both (same truth′ b′) (alike-every ts us h) (alike-one ts us h))
