@@ -20,6 +20,7 @@ pub mod Fitting
 pub mod Listing
 pub mod Outer
 pub mod Instances
+pub mod PuttingReduction
 pub mod Joining
 pub mod Level
 pub mod Dual

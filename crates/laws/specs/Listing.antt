@@ -1,44 +1,46 @@
 -- Listing is exact (theorem 3): by induction on the restriction, the environments listed are those that make it true.
 -- So a closed restriction is true or false under all numbers: with an empty list it is true under none.
-use Prim.Native.Nat.{ℕ, zero, suc, _+_, _≤_, _<_}
+use Prim.Native.Nat.{ℕ, _+_, _<_}
 use native.Mathlib.Omega.{arith}
 use mathlib.Core.Path.{_≡_, refl, sym, ap, ap₂, _∙_, subst}
-use mathlib.Core.Logic.{_↔_, _⊎_, inl, inr, ⊎-elim}
-use mathlib.Core.Bool.{Bool, true, false, not, cond, _&&_, _||_}
-use mathlib.Core.List.{List, [], _∷_, _++_, map, List·Memᴰ, List·Memᴰ·head, List·Memᴰ·tail, List·Memᴰ·not-nil, List·Memᴰ·cases-cons, List·Memᴰ·append-cases, Memᴰ·append-left, Memᴰ·append-right}
+use mathlib.Core.Logic.{_↔_, inl, inr, ⊎-elim}
+use mathlib.Core.Bool.{Bool, true, false, not, cond, _&&_}
+use mathlib.Core.List.{List, [], _∷_, _++_, map, List·Memᴰ, List·Memᴰ·not-nil, List·Memᴰ·append-cases, Memᴰ·append-left, Memᴰ·append-right}
 use lib.ListN.{length, getD, take, length-map, length-append, List·getD-append}
 use lib.Seq.{getD-at}
-use lib.Dec.{eqb, ltb}
+use lib.Dec.{eqb}
 use lib.IntN.{ℤ, pos}
-use borrow.Author.Tests.{eqb-true, eqb-false, eq-eqb, not-true}
+use borrow.Author.Tests.{eqb-false, not-true}
 use Rattle.model.specs.Words.{Words, word, same, equal}
-use Rattle.model.specs.Lists.{all, any, keep, gather}
-use Rattle.model.specs.Table.{arity, complete}
-use Rattle.model.specs.Tree.{Term, constant, variable, Tree, Trees, plain, atom, compare, join, quantifier, some, nil, cons, count}
+use Rattle.model.specs.Lists.{all}
+use Rattle.model.specs.Table.{arity}
+use Rattle.model.specs.Tree.{Term, constant, variable, Tree, Trees, plain, atom, compare, join, quantifier, some, nil, cons}
 use Rattle.model.specs.Answer.{passed}
-use Rattle.model.specs.Mode.{Variables, isBound, isVariable, bindings}
-use Rattle.model.specs.Log.{Value, known, unknown, arguments, saysTrue, holds, valueIn}
-use Rattle.model.specs.Truth.{Structure, numberOf, sumAtMost, Is, Every, One}
-use Rattle.model.specs.Listing.{bound, free, Environment, outer, release, numberIn, look, numbersIn, fit, matches, isFalse, list, listAll, listAny}
-use Rattle.model.specs.Reduction.{closed, closedAll}
-use Rattle.laws.specs.Words.{decide, clash, and-left, and-right, and-true, same-true, same-refl, equal-true, equal-refl}
-use Rattle.laws.specs.Lists.{all-mem, mem-keep, keep-mem, mem-gather, gather-mem, mem-map, map-mem}
-use Rattle.laws.specs.Formed.{InScope, AllInScope, Formed, FormedAll}
-use Rattle.laws.specs.Log.{Sound, holds-predicate, holds-arguments, holds-intro, value-of-row, row-of-value, known-same, unknown-known}
+use Rattle.model.specs.Mode.{Variables, isBound, bindings}
+use Rattle.model.specs.Log.{Value, known, unknown, arguments, saysTrue, valueIn}
+use Rattle.model.specs.Truth.{numberOf, sumAtMost, Is, Every, One}
+use Rattle.model.specs.Listing.{bound, Environment, release, numberIn, look, numbersIn, fit, matches, isFalse, list, listAll, listAny}
+use Rattle.laws.specs.Words.{clash, and-left, and-right, same-true, same-refl, equal-true, equal-refl}
+use Rattle.laws.specs.Lists.{mem-keep, keep-mem, mem-gather, gather-mem, mem-map, map-mem}
+use Rattle.laws.specs.Formed.{Formed, FormedAll}
+use Rattle.laws.specs.Log.{Sound, holds-predicate, holds-arguments, holds-intro, value-of-row, row-of-value}
 use Rattle.laws.specs.Span.{side}
 use Rattle.laws.specs.Modes.{after, afterAll, afterAny, Passes, PassesAll, PassesAny, bindings-passes}
-use Rattle.laws.specs.Fitting.{Agrees, Binds, Supported, Found, bound-free, bound-same, release-same, release-other, same-or-not, number-look, fit-sound, fit-complete, fit-binds, fit-supported}
+use Rattle.laws.specs.Fitting.{Agrees, Binds, Supported, Found, bound-free, bound-same, release-same, release-other, same-or-not, fit-sound, fit-complete, fit-binds, fit-supported}
 
 -- every environment of a list binds those variables, and only the first n
 abbrev pub Fits : Variables → ℕ → List Environment → Type 0
 Fits b n es = (e : Environment) → List·Memᴰ e es → Binds b e × Supported n e
 
+-- what fits a scope fits the scope with one more variable
 wider : {b : Variables} {n : ℕ} {es : List Environment} → Fits b n es → Fits b (n + 1) es
 wider fits e m = (fits e m .0, λ x l. fits e m .1 x (omega arith))
 
+-- one number more
 pub one-more : (σ : List ℤ) (k : ℤ) {n : ℕ} → length σ ≡ n → length (σ ++ k ∷ []) ≡ n + 1
 one-more σ k l = length-append σ (k ∷ []) ∙ ap (λ (m : ℕ). m + 1) l
 
+-- a Bool is its equality with true
 same-of-true : (v : Bool) → same true v ≡ v
 same-of-true true = refl
 same-of-true false = refl
@@ -62,38 +64,48 @@ release-fits b n e h s = (
 
 -- numbers behind those of the scope do not matter to an environment that binds the scope only
 module _ (n : ℕ) (e : Environment) (σ : List ℤ) (long : length σ ≡ n) where
+  -- what is bound lies in the scope
   below : (m : ℕ) → Supported m e → (x : ℕ) (k : ℤ) → e x ≡ bound k → x < m
   below m s x k p = ⊎-elim (λ l. l) (λ l. bound-free p (s x l)) (side m x)
 
+  -- more numbers keep the agreement
   widen-agrees : (τ : List ℤ) → Supported n e → Agrees e σ → Agrees e (σ ++ τ)
   widen-agrees τ s g x k p =
       List·getD-append σ τ (pos 0) x (let l = below n s x k p in omega arith) ∙ g x k p
 
+  -- and so do fewer
   narrow-agrees : (τ : List ℤ) → Supported n e → Agrees e (σ ++ τ) → Agrees e σ
   narrow-agrees τ s g x k p =
       sym (List·getD-append σ τ (pos 0) x (let l = below n s x k p in omega arith)) ∙ g x k p
 
   -- to drop the variable n is to forget its number
   release-agrees : (k : ℤ) → Supported (n + 1) e → Agrees e (σ ++ k ∷ []) → Agrees (release e n) σ
-  release-agrees k s g x j p =
-      ⊎-elim
-      (λ q. bound-free p (ap (release e n) q ∙ release-same e n))
-      (λ q.
-      let w = sym (release-other e n x q) ∙ p in
-      let l = below (n + 1) s x j w in
-      let m : x < length σ = omega arith in
-      sym (List·getD-append σ (k ∷ []) (pos 0) x m) ∙ g x j w)
-      (same-or-not x n)
+  release-agrees k s g x j p = ⊎-elim (λ q. bound-free p (ap (release e n) q ∙ release-same e n)) other (same-or-not x n)
+    where
+      other : (x ≡ n → ⊥) → getD σ x (pos 0) ≡ j
+      other q =
+          let w = sym (release-other e n x q) ∙ p in
+          let l : x < n + 1 = below (n + 1) s x j w in
+          sym (List·getD-append σ (k ∷ []) (pos 0) x (omega arith)) ∙ g x j w
 
+  -- and a released environment agrees with the number that was bound
   agrees-release : (k : ℤ) → Supported (n + 1) e → e n ≡ bound k → Agrees (release e n) σ → Agrees e (σ ++ k ∷ [])
-  agrees-release k s w g x j p =
-      ⊎-elim
-      (λ q. getD-at σ k [] (pos 0) x (long ∙ sym q) ∙ bound-same (sym w ∙ sym (ap e q) ∙ p))
-      (λ q.
-      let l = below (n + 1) s x j p in
-      let m : x < length σ = omega arith in
-      List·getD-append σ (k ∷ []) (pos 0) x m ∙ g x j (release-other e n x q ∙ p))
-      (same-or-not x n)
+  agrees-release k s w g x j p = ⊎-elim last other (same-or-not x n)
+    where
+      last : x ≡ n → getD (σ ++ k ∷ []) x (pos 0) ≡ j
+      last q = getD-at σ k [] (pos 0) x (long ∙ sym q) ∙ bound-same (sym w ∙ sym (ap e q) ∙ p)
+
+      other : (x ≡ n → ⊥) → getD (σ ++ k ∷ []) x (pos 0) ≡ j
+      other q =
+          let l : x < n + 1 = below (n + 1) s x j p in
+          List·getD-append σ (k ∷ []) (pos 0) x (omega arith) ∙ g x j (release-other e n x q ∙ p)
+
+-- an environment of one of two lists is one of the joined lists
+found-left : {es : List Environment} (ds : List Environment) (σ : List ℤ) → Found es σ → Found (es ++ ds) σ
+found-left ds σ (e, m, g) = (e, Memᴰ·append-left ds m, g)
+
+found-right : (es : List Environment) {ds : List Environment} (σ : List ℤ) → Found ds σ → Found (es ++ ds) σ
+found-right es σ (e, m, g) = (e, Memᴰ·append-right es m, g)
 
 -- the environments that the true rows of a predicate make of one
 pub matches-mem :
@@ -110,6 +122,7 @@ matches-mem rows p ts e {e′} m =
     chosen true n = (refl, n)
     chosen false n = absurd (List·Memᴰ·not-nil n)
 
+-- and each true row of the predicate makes what the terms make of its arguments
 pub mem-matches :
     (rows : List Words) (p : ℕ) (ts : List Term) (e : Environment) {e′ : Environment} {row : Words} →
     List·Memᴰ row rows →
@@ -133,6 +146,7 @@ unfolding isBound look numberIn numberOf
 bound-number b e σ (constant k) h g q = refl
 bound-number b e σ (variable x) h g q = let (k, w) = h x q in ap numberIn w ∙ sym (g x k w)
 
+-- the same of all terms
 bound-numbers :
     (b : Variables) (e : Environment) (σ : List ℤ) (ts : List Term) →
     Binds b e →
@@ -146,6 +160,7 @@ bound-numbers b e σ (t ∷ ts) h g q =
     (bound-number b e σ t h g (and-left _ _ q))
     (bound-numbers b e σ ts h g (and-right (isBound b t) _ q))
 
+-- an atom that is known to be false, as a test
 is-false : (v : Value) → isFalse v ≡ true → v ≡ known false
 unfolding isFalse
 is-false (known b) e = ap known (not-true b e)
@@ -171,7 +186,8 @@ module _ (table : Words) (rows : List Words) where
     list-fits (atom true p ts) b next es f h fits = λ e m.
         let (e₀, m₀, m₁) = gather-mem (matches rows p ts) es m in
         let (row, mr, t, w, m₂) = matches-mem rows p ts e₀ m₁ in
-        (fit-binds ts (arguments row) e₀ b m₂ (fits e₀ m₀ .0), fit-supported ts (arguments row) e₀ next m₂ (f .4) (fits e₀ m₀ .1))
+        let (h₀, s₀) = fits e₀ m₀ in
+        (fit-binds ts (arguments row) e₀ b m₂ h₀, fit-supported ts (arguments row) e₀ next m₂ (f .4) s₀)
     list-fits (atom false p ts) b next es f h fits = λ e m. fits e (keep-mem _ es m .0)
     list-fits (compare v d x y) b next es f h fits = λ e m. fits e (keep-mem _ es m .0)
     list-fits (join true ts) b next es f h fits = list-fits-all ts b next es (f .1) h fits
@@ -191,7 +207,8 @@ module _ (table : Words) (rows : List Words) where
         Fits (afterAll ts b next) next (listAll table rows ts next es)
     list-fits-all nil b next es f h fits = fits
     list-fits-all (cons t ts) b next es f h fits =
-        list-fits-all ts (after t b next) next (list table rows t next es) (f .1) (h .1) (list-fits t b next es (f .0) (h .0) fits)
+        let fits′ = list-fits t b next es (f .0) (h .0) fits in
+        list-fits-all ts (after t b next) next (list table rows t next es) (f .1) (h .1) fits′
 
     list-fits-any :
         (ts : Trees) (b : Variables) (next : ℕ) (es : List Environment) →
@@ -224,6 +241,7 @@ module _ (table : Words) (rows : List Words) where
         (holds-intro p ns row w (ap (λ (k : ℕ). take k (arguments row)) n ∙ sym q))
         ∙ ap known t
 
+    -- and a true atom has such a row
     true-row :
         (p : ℕ) (ts : List Term) (σ : List ℤ) →
         valueIn table rows p (map (numberOf σ) ts) ≡ known true →
@@ -286,8 +304,9 @@ module _ (table : Words) (rows : List Words) where
           let (inner, supported) = list-fits c b (next + 1) es (f .2) (h .0) (wider fits) e₀ m₀ in
           let (k, w) = inner next (h .1) in
           let g₀ = agrees-release next e₀ σ l k supported w (subst (λ (i : Environment). Agrees i σ) s g) in
-          let ((e₁, m₁, g₁), true-at) = listed-true c b (next + 1) es (σ ++ k ∷ []) (f .2) (h .0) (wider fits) (one-more σ k l) (e₀, m₀, g₀) in
-          ((e₁, m₁, narrow-agrees next e₁ σ l (k ∷ []) (fits e₁ m₁ .1) g₁), (k, true-at))
+          let long = one-more σ k l in
+          let ((e₁, m₁, g₁), i) = listed-true c b (next + 1) es (σ ++ k ∷ []) (f .2) (h .0) (wider fits) long (e₀, m₀, g₀) in
+          ((e₁, m₁, narrow-agrees next e₁ σ l (k ∷ []) (fits e₁ m₁ .1) g₁), (k, i))
 
       listed-every :
           (ts : Trees) (b : Variables) (next : ℕ) (es : List Environment) (σ : List ℤ) →
@@ -299,7 +318,8 @@ module _ (table : Words) (rows : List Words) where
           Found es σ × Every ts (valueIn table rows) true σ
       listed-every nil b next es σ f h fits l found = (found, tt)
       listed-every (cons t ts) b next es σ f h fits l found =
-          let (first, rest) = listed-every ts (after t b next) next (list table rows t next es) σ (f .1) (h .1) (list-fits t b next es (f .0) (h .0) fits) l found in
+          let fits′ = list-fits t b next es (f .0) (h .0) fits in
+          let (first, rest) = listed-every ts (after t b next) next (list table rows t next es) σ (f .1) (h .1) fits′ l found in
           let (before, true-at) = listed-true t b next es σ (f .0) (h .0) fits l first in
           (before, (true-at, rest))
 
@@ -361,7 +381,8 @@ module _ (table : Words) (rows : List Words) where
           let (e, m, g) = found in
           let (k, true-at) = i in
           let g₀ = widen-agrees next e σ l (k ∷ []) (fits e m .1) g in
-          let (e₁, m₁, g₁) = true-listed c b (next + 1) es (σ ++ k ∷ []) (f .2) (h .0) (wider fits) (one-more σ k l) (e, m, g₀) true-at in
+          let long = one-more σ k l in
+          let (e₁, m₁, g₁) = true-listed c b (next + 1) es (σ ++ k ∷ []) (f .2) (h .0) (wider fits) long (e, m, g₀) true-at in
           let (inner, supported) = list-fits c b (next + 1) es (f .2) (h .0) (wider fits) e₁ m₁ in
           (release e₁ next, mem-map (λ e. release e next) m₁, release-agrees next e₁ σ l k supported g₁)
 
@@ -392,15 +413,11 @@ module _ (table : Words) (rows : List Words) where
       one-listed nil b next es σ f h fits l found i = absurd i
       one-listed (cons t ts) b next es σ f h fits l found i =
           ⊎-elim
-          (λ j.
-          let (e, m, g) = true-listed t b next es σ (f .0) (h .0) fits l found j in
-          (e, Memᴰ·append-left _ m, g))
-          (λ j.
-          let (e, m, g) = one-listed ts b next es σ (f .1) (h .1) fits l found j in
-          (e, Memᴰ·append-right (list table rows t next es) m, g))
+          (λ j. found-left _ σ (true-listed t b next es σ (f .0) (h .0) fits l found j))
+          (λ j. found-right (list table rows t next es) σ (one-listed ts b next es σ (f .1) (h .1) fits l found j))
           i
 
-    -- the environments listed that agree with σ: there is one exactly if one was handed in and the restriction is true under σ
+    -- an environment listed agrees with σ exactly if one handed in does and the restriction is true under σ
     pub list-exact :
         (c : Tree) (b : Variables) (next : ℕ) (es : List Environment) →
         Formed c table false next →

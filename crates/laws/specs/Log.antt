@@ -1,7 +1,6 @@
 -- Facts about a log that questions 8, 9 and 10 accept, and about its front parts.
 -- Two rows with one atom are one row, since unused arguments are 0; so the value of an atom is that of any row that holds it.
-use Prim.Native.Nat.{ℕ, zero, suc, _+_, _*_, _-_, _/_, _%_, _≤_, _<_, min}
-use native.Mathlib.Nat.{le-refl, eq-or-lt-of-le}
+use Prim.Native.Nat.{ℕ, zero, suc, _+_, _*_, _-_, _%_, _≤_, _<_, min}
 use native.Mathlib.Omega.{arith}
 use mathlib.Core.Path.{_≡_, refl, sym, ap, ap₂, _∙_, subst}
 use mathlib.Core.Logic.{_↔_, _⊎_, inl, inr, ⊎-elim}
@@ -11,18 +10,18 @@ use lib.ListN.{length, take, drop, length-take, length-drop, take-append-drop}
 use lib.Seq.{take-take, length-take-le}
 use lib.Dec.{leb, eqb}
 use lib.IntN.{ℤ, pos, natAbs}
-use borrow.Author.Tests.{eqb-true, eq-eqb, leb-true, leb-false, le-leb, not-true}
-use Rattle.model.specs.Words.{Words, word, value, within, below, equal, equalAll, rowWords, rowLimit}
+use borrow.Author.Tests.{eqb-true, eq-eqb, leb-true, le-leb, not-true}
+use Rattle.model.specs.Words.{Words, word, value, within, below, equal, rowLimit}
 use Rattle.model.specs.Lists.{span, all, any}
 use Rattle.model.specs.Answer.{Outcome, passed, ask, _>>=_, inTurn}
 use Rattle.model.specs.Table.{predicates, arity, complete}
 use Rattle.model.specs.Log.{rowCount, rowAt, rows, front, arguments, saysTrue, goodRow, sameAtom, askLog, known, unknown, holds, valueIn}
 use Rattle.model.specs.Truth.{Extends}
 use Rattle.model.specs.declared.Refusal.the-variants.{LogLength, Row, Repeat}
-use Rattle.laws.specs.Words.{decide, clash, and-left, and-right, and-true, or-left, or-right, equal-true, equal-refl, equalAll-true, equalAll-refl}
-use Rattle.laws.specs.Lists.{all-mem, map-mem, mem-map}
+use Rattle.laws.specs.Words.{decide, clash, and-left, and-right, and-true, equal-true, equal-refl, equalAll-true, equalAll-refl}
+use Rattle.laws.specs.Lists.{map-mem}
 use Rattle.laws.specs.Answer.{ask-passed, ask-true, then-passed, pass-then, inTurn-mem, inTurn-intro}
-use Rattle.laws.specs.Span.{span-mem, mem-span, take-span, drop-take, any-same, any-none, none-any, map-same, take-map}
+use Rattle.laws.specs.Span.{order, span-mem, mem-span, take-span, drop-take, any-none, none-any, map-same, take-map}
 
 -- rows that hold the same atom say the same of it, and a row has six arguments
 pub record Sound (table : Words) (rows : List Words) : Type 0 where
@@ -58,15 +57,18 @@ pub holds-predicate : (p : ℕ) (ns : List ℤ) (row : Words) → holds p ns row
 unfolding holds
 holds-predicate p ns row e = equal-true (word row 0) (pos p) (and-left _ _ e)
 
+-- its predicate, as a number
 pub holds-value : (p : ℕ) (ns : List ℤ) (row : Words) → holds p ns row ≡ true → value row 0 ≡ p
 unfolding value
 holds-value p ns row e = ap natAbs (holds-predicate p ns row e)
 
+-- its first arguments are the atom's numbers
 pub holds-arguments : (p : ℕ) (ns : List ℤ) (row : Words) → holds p ns row ≡ true → take (length ns) (arguments row) ≡ ns
 unfolding holds
 holds-arguments p ns row e =
     equalAll-true (take (length ns) (arguments row)) ns (and-right (equal (word row 0) (pos p)) _ e)
 
+-- a row of that predicate with those first arguments holds the atom
 pub holds-intro :
     (p : ℕ) (ns : List ℤ) (row : Words) →
     word row 0 ≡ pos p →
@@ -77,16 +79,18 @@ holds-intro p ns row e f = rw (e, f) (and-true (equal-refl (pos p)) (equalAll-re
 
 -- the unused arguments of a good row are 0
 unused-zero :
-    (table row : Words) (p : ℕ) →
+    (table row : Words) (p n : ℕ) →
+    arity table p ≡ n →
     goodRow table row ≡ true →
     value row 0 ≡ p →
-    all (λ a. equal a (pos 0)) (drop (arity table p) (arguments row)) ≡ true
+    all (λ a. equal a (pos 0)) (drop n (arguments row)) ≡ true
 unfolding goodRow
-unused-zero table row p g e =
-    subst (λ (q : ℕ). all (λ a. equal a (pos 0)) (drop (arity table q) (arguments row)) ≡ true) e
+unused-zero table row p n a g e =
+    subst (λ (k : ℕ). all (λ a. equal a (pos 0)) (drop k (arguments row)) ≡ true)
+    (ap (arity table) e ∙ a)
     (and-right (below (predicates table) (word row 0) && within 0 1 (word row 1)) _ g)
 
--- such rows of one predicate with the same used arguments have the same arguments
+-- good rows that hold one atom, with as many numbers as the predicate has arguments, have the same arguments
 same-arguments :
     (table r₁ r₂ : Words) (p : ℕ) (ns : List ℤ) →
     goodRow table r₁ ≡ true →
@@ -98,15 +102,15 @@ same-arguments :
     arguments r₁ ≡ arguments r₂
 same-arguments table r₁ r₂ p ns g₁ g₂ l a h₁ h₂ =
     let n = length ns in
-    let z₁ = subst (λ (k : ℕ). all (λ a. equal a (pos 0)) (drop k (arguments r₁)) ≡ true) (sym a) (unused-zero table r₁ p g₁ (holds-value p ns r₁ h₁)) in
-    let z₂ = subst (λ (k : ℕ). all (λ a. equal a (pos 0)) (drop k (arguments r₂)) ≡ true) (sym a) (unused-zero table r₂ p g₂ (holds-value p ns r₂ h₂)) in
+    let used : take n (arguments r₁) ≡ take n (arguments r₂) = holds-arguments p ns r₁ h₁ ∙ sym (holds-arguments p ns r₂ h₂) in
+    let z₁ = unused-zero table r₁ p n (sym a) g₁ (holds-value p ns r₁ h₁) in
+    let z₂ = unused-zero table r₂ p n (sym a) g₂ (holds-value p ns r₂ h₂) in
+    let unused : drop n (arguments r₁) ≡ drop n (arguments r₂) = zeros-same _ _ z₁ z₂ (simp length-drop (rw l)) in
     sym (take-append-drop n (arguments r₁))
-    ∙ ap₂ (λ (x y : List ℤ). x ++ y)
-    (holds-arguments p ns r₁ h₁ ∙ sym (holds-arguments p ns r₂ h₂))
-    (zeros-same _ _ z₁ z₂ (simp length-drop (rw l)))
+    ∙ ap₂ (λ (x y : List ℤ). x ++ y) used unused
     ∙ take-append-drop n (arguments r₂)
 
--- good rows that hold one atom, with as many numbers as the predicate has arguments, hold the same atom to question 10
+-- so they are rows of the same atom to question 10
 one-atom :
     (table r₁ r₂ : Words) (p : ℕ) (ns : List ℤ) →
     goodRow table r₁ ≡ true →
@@ -126,6 +130,7 @@ pub rowAt-length : (log : Words) (i : ℕ) → i < rowCount log → length (rowA
 unfolding rowAt rowCount
 rowAt-length log i h = length-take-le 8 (drop (8 * i) log) (simp length-drop (omega arith))
 
+-- so six of them are arguments
 pub arguments-length : (log : Words) (i : ℕ) → i < rowCount log → length (arguments (rowAt log i)) ≡ 6
 unfolding arguments
 arguments-length log i h = rw (length-drop 2 (rowAt log i), rowAt-length log i h)
@@ -151,6 +156,7 @@ pub record Accepted (table log : Words) : Type 0 where
   pub good : (i : ℕ) → i < rowCount log → goodRow table (rowAt log i) ≡ true
   pub once : (i j : ℕ) → i < rowCount log → j < i → sameAtom (rowAt log i) (rowAt log j) ≡ false
 
+-- an accepted log has answered each of these with yes
 pub accepted : (table log : Words) → askLog table log ≡ passed tt → Accepted table log
 unfolding askLog
 accepted table log e =
@@ -190,53 +196,51 @@ accept table log h =
         (ask-true Repeat i
         (ap not (none-any _ (span 0 i) (λ j k. h .once i j (omega arith) (let b = span-mem 0 i k in omega arith)))))
 
--- rows of an accepted log that hold the same atom are one row
-same-row :
-    (table log : Words) (i j : ℕ) (p : ℕ) (ns : List ℤ) →
+-- of two rows of an accepted log only one holds an atom
+row-once :
+    (table log : Words) (i j p : ℕ) (ns : List ℤ) →
     Accepted table log →
-    j ≤ i →
     i < rowCount log →
+    j < i →
     length ns ≡ arity table p →
     holds p ns (rowAt log i) ≡ true →
     holds p ns (rowAt log j) ≡ true →
-    j ≡ i
-same-row table log i j p ns ok le b a h k =
-    ⊎-elim
-    (λ q. q)
-    (λ lt. clash
-    (one-atom table (rowAt log i) (rowAt log j) p ns (ok .good i b) (ok .good j (omega arith))
-    (arguments-length log i b ∙ sym (arguments-length log j (omega arith))) a h k)
-    (ok .once i j b lt))
-    (eq-or-lt-of-le le)
+    ⊥
+row-once table log i j p ns ok b l a h k =
+    let long = arguments-length log i b ∙ sym (arguments-length log j (omega arith)) in
+    let again = one-atom table (rowAt log i) (rowAt log j) p ns (ok .good i b) (ok .good j (omega arith)) long a h k in
+    clash again (ok .once i j b l)
+
+-- so rows that hold the same atom are one row
+same-row :
+    (table log : Words) (i j p : ℕ) (ns : List ℤ) →
+    Accepted table log →
+    i < rowCount log →
+    j < rowCount log →
+    length ns ≡ arity table p →
+    holds p ns (rowAt log i) ≡ true →
+    holds p ns (rowAt log j) ≡ true →
+    i ≡ j
+same-row table log i j p ns ok bi bj a h k = go (order i j)
+  where
+    go : (i < j) ⊎ (i ≡ j) ⊎ (j < i) → i ≡ j
+    go (inl l) = absurd (row-once table log j i p ns ok bj l a k h)
+    go (inr (inl e)) = e
+    go (inr (inr l)) = absurd (row-once table log i j p ns ok bi l a h k)
 
 -- an accepted log is sound
 pub sound : (table log : Words) → askLog table log ≡ passed tt → Sound table (rows log)
-sound table log e = record { agree = both; six = λ r m. let k = rows-mem log m in rw (k .2) (arguments-length log (k .0) (k .1)) }
+sound table log e = record {
+  agree = λ r₁ r₂ m₁ m₂ p ns a h₁ h₂.
+      let (i, bi, ei) = rows-mem log m₁ in
+      let (j, bj, ej) = rows-mem log m₂ in
+      let q = same-row table log i j p ns (accepted table log e) bi bj a (moved p ns ei h₁) (moved p ns ej h₂) in
+      ap saysTrue (ei ∙ ap (rowAt log) q ∙ sym ej);
+  six = λ r m. let (i, b, q) = rows-mem log m in rw q (arguments-length log i b);
+}
   where
-    ok : Accepted table log
-    ok = accepted table log e
-
-    both :
-        (r₁ r₂ : Words) →
-        List·Memᴰ r₁ (rows log) →
-        List·Memᴰ r₂ (rows log) →
-        (p : ℕ) (ns : List ℤ) →
-        length ns ≡ arity table p →
-        holds p ns r₁ ≡ true →
-        holds p ns r₂ ≡ true →
-        saysTrue r₁ ≡ saysTrue r₂
-    both r₁ r₂ m₁ m₂ p ns a h₁ h₂ =
-        let (i, bi, ei) = rows-mem log m₁ in
-        let (j, bj, ej) = rows-mem log m₂ in
-        let k₁ : holds p ns (rowAt log i) ≡ true = subst (λ (r : Words). holds p ns r ≡ true) ei h₁ in
-        let k₂ : holds p ns (rowAt log j) ≡ true = subst (λ (r : Words). holds p ns r ≡ true) ej h₂ in
-        let q : i ≡ j =
-        ⊎-elim
-        (λ l. same-row table log j i p ns ok (leb-true i j l) bj a k₂ k₁)
-        (λ l. sym (same-row table log i j p ns ok (let z = leb-false i j l in omega arith) bi a k₁ k₂))
-        (decide (leb i j))
-        in
-        ap saysTrue (ei ∙ ap (rowAt log) q ∙ sym ej)
+    moved : {r r′ : Words} (p : ℕ) (ns : List ℤ) → r ≡ r′ → holds p ns r ≡ true → holds p ns r′ ≡ true
+    moved p ns q h = subst (λ (r : Words). holds p ns r ≡ true) q h
 
 -- the front part of a log has its first rows
 pub rowAt-front : (log : Words) (k i : ℕ) → i < k → rowAt (front k log) i ≡ rowAt log i
@@ -247,6 +251,7 @@ rowAt-front log k i h =
     ∙ ap (take 8) (drop-take (8 * i) (8 * (k - i)) log)
     ∙ take-take 8 (8 * (k - i)) (drop (8 * i) log) (omega arith)
 
+-- the number of words and of rows of a front part
 front-length : (log : Words) (k : ℕ) → length (front k log) ≡ min (8 * k) (length log)
 unfolding front
 front-length log k = length-take (8 * k) log
@@ -255,6 +260,7 @@ rowCount-front : (log : Words) (k : ℕ) → rowCount (front k log) ≡ min k (r
 unfolding rowCount front
 rowCount-front log k = rw length-take (omega arith)
 
+-- the rows of a front part are the first rows
 pub rows-front : (log : Words) (k : ℕ) → rows (front k log) ≡ take k (rows log)
 unfolding rows
 rows-front log k =
@@ -270,6 +276,7 @@ take-mem zero l m = absurd (List·Memᴰ·not-nil m)
 take-mem (suc k) [] m = m
 take-mem (suc k) (y ∷ l) m = ⊎-elim (λ p. List·Memᴰ·head p) (λ n. List·Memᴰ·tail (take-mem k l n)) (List·Memᴰ·cases-cons m)
 
+-- so rules about all rows hold of them
 pub sound-front : (table : Words) (rows : List Words) (k : ℕ) → Sound table rows → Sound table (take k rows)
 sound-front table rows k s =
     record {
@@ -277,23 +284,26 @@ sound-front table rows k s =
       six = λ r m. s .six r (take-mem k rows m);
     }
 
+-- a row of the front part is a row of the log
+front-inside : (log : Words) (k i : ℕ) → i < rowCount (front k log) → (i < k) × (i < rowCount log)
+front-inside log k i h = let b = rowCount-front log k in omega arith
+
 -- the front part of an accepted log is accepted
 pub front-accepted : (table log : Words) (k : ℕ) → askLog table log ≡ passed tt → askLog table (front k log) ≡ passed tt
-front-accepted table log k e = accept table (front k log) (record {
-  whole = let b = ok .whole in rw (front-length log k) (omega arith);
-  short = rw (rowCount-front log k) (let b = ok .short in omega arith);
-  good = λ i h. rw (rowAt-front log k i (inside i h .0)) (ok .good i (inside i h .1));
-  once = λ i j h l.
-      rw (rowAt-front log k i (inside i h .0), rowAt-front log k j (let b = inside i h in omega arith))
-      (ok .once i j (inside i h .1) l);
-})
-  where
-    ok : Accepted table log
-    ok = accepted table log e
+front-accepted table log k e =
+    let ok : Accepted table log = accepted table log e in
+    accept table (front k log) (record {
+      whole = let b = ok .whole in rw (front-length log k) (omega arith);
+      short = rw (rowCount-front log k) (let b = ok .short in omega arith);
+      good = λ i h.
+          let (l, b) = front-inside log k i h in
+          rw (rowAt-front log k i l) (ok .good i b);
+      once = λ i j h m.
+          let (l, b) = front-inside log k i h in
+          rw (rowAt-front log k i l, rowAt-front log k j (omega arith)) (ok .once i j b m);
+    })
 
-    inside : (i : ℕ) → i < rowCount (front k log) → (i < k) × (i < rowCount log)
-    inside i h = let b = rowCount-front log k in omega arith
-
+-- sound rows without the first are sound
 tail-sound : {table row : Words} {rest : List Words} → Sound table (row ∷ rest) → Sound table rest
 tail-sound s =
     record {
@@ -301,6 +311,7 @@ tail-sound s =
       six = λ r m. s .six r (List·Memᴰ·tail m);
     }
 
+-- a value is known in one way, and not both known and unknown
 pub known-same : {a b : Bool} → known a ≡ known b → a ≡ b
 known-same e = cc
 
@@ -312,6 +323,7 @@ no-row : (c b : Bool) → cond c (known false) unknown ≡ known b → (c ≡ tr
 no-row true b e = (refl, sym (known-same e))
 no-row false b e = absurd (unknown-known e)
 
+-- of two Bools that are not both true, with the second true, the first is false
 not-both : (a c : Bool) → not (a && c) ≡ true → c ≡ true → a ≡ false
 not-both true true e h = sym e
 not-both true false e h = sym h
@@ -330,11 +342,12 @@ value-of-row table [] p ns s a m h = absurd (List·Memᴰ·not-nil m)
 value-of-row table (row ∷ rest) p ns {r} s a m h =
     ⊎-elim
     (λ k. rw k (ap known (s .agree row r (List·Memᴰ·head refl) m p ns a k h)))
-    (λ k. rw k (⊎-elim
-    (λ q. clash h (ap (holds p ns) q ∙ k))
-    (λ n. value-of-row table rest p ns (tail-sound s) a n h)
-    (List·Memᴰ·cases-cons m)))
+    (λ k. rw k (value-of-row table rest p ns (tail-sound s) a (later k (List·Memᴰ·cases-cons m)) h))
     (decide (holds p ns row))
+  where
+    later : holds p ns row ≡ false → (r ≡ row) ⊎ List·Memᴰ r rest → List·Memᴰ r rest
+    later k (inl q) = clash h (ap (holds p ns) q ∙ k)
+    later k (inr n) = n
 
 -- a row behind a value
 pub row-of-value :
@@ -349,6 +362,7 @@ row-of-value table (row ∷ rest) p ns e =
     (λ k. let (r, m, h, t) = row-of-value table rest p ns (rw k at e) in (r, List·Memᴰ·tail m, h, t))
     (decide (holds p ns row))
 
+-- an atom is known to be true exactly if a row that holds it says true
 pub known-true :
     (table : Words) (rows : List Words) (p : ℕ) (ns : List ℤ) →
     Sound table rows →
@@ -367,9 +381,12 @@ unfolding valueIn all
 rest-false table [] p ns e c = rw c
 rest-false table (row ∷ rest) p ns e c =
     ⊎-elim
-    (λ h. rw h (ap known (not-both (saysTrue row) (complete table (value row 0)) (and-left _ _ e) (ap (complete table) (holds-value p ns row h) ∙ c))))
+    (λ h. rw h (ap known (says-false h)))
     (λ h. rw h (rest-false table rest p ns (and-right (not (saysTrue row && complete table (value row 0))) _ e) c))
     (decide (holds p ns row))
+  where
+    says-false : holds p ns row ≡ true → saysTrue row ≡ false
+    says-false h = not-both (saysTrue row) _ (and-left _ _ e) (ap (complete table) (holds-value p ns row h) ∙ c)
 
 -- behind a front part with such rows only, what the front part knows stays as it is
 pub front-extends :
@@ -386,3 +403,12 @@ front-extends table (row ∷ rest) (suc k) e p ns b f =
     (λ h. rw h (rw h at f))
     (λ h. rw h (front-extends table rest k e p ns b (rw h at f)))
     (decide (holds p ns row))
+
+-- the same of a log and its front part
+pub log-extends :
+    (table log : Words) (k : ℕ) →
+    all (λ row. not (saysTrue row && complete table (value row 0))) (drop k (rows log)) ≡ true →
+    Extends (valueIn table (rows (front k log))) (valueIn table (rows log))
+log-extends table log k e =
+    subst (λ (l : List Words). Extends (valueIn table l) (valueIn table (rows log))) (sym (rows-front log k))
+    (front-extends table (rows log) k e)

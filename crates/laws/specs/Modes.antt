@@ -1,24 +1,20 @@
 -- The mode rule with no places: what passes at a node, and the variables bound after it, by clauses that follow the tree.
 -- The questions of model pass exactly if this holds, whatever the place.
-use Prim.Native.Nat.{ℕ, _+_, _*_, _<_, _≤_}
-use native.Mathlib.Omega.{arith}
+use Prim.Native.Nat.{ℕ, _+_, _*_}
 use mathlib.Core.Path.{_≡_, refl, sym, ap, ap₂, _∙_, subst}
-use mathlib.Core.Logic.{⊎-elim}
-use mathlib.Core.Bool.{Bool, true, false, not, _&&_, _||_}
-use mathlib.Core.List.{List, [], _∷_}
+use mathlib.Core.Bool.{true, false, not, _&&_, _||_}
 use lib.ListN.{length}
 use lib.Dec.{eqb, ltb}
-use lib.IntN.{ℤ}
-use borrow.Author.Tests.{eqb-true}
 use Rattle.model.specs.Words.{Words}
 use Rattle.model.specs.Lists.{span, all, any}
-use Rattle.model.specs.Answer.{Outcome, passed, ask, _>>=_}
-use Rattle.model.specs.Tree.{Term, constant, variable, Tree, Trees, plain, atom, compare, join, quantifier, some, nil, cons}
+use Rattle.model.specs.Answer.{passed, ask}
+use Rattle.model.specs.Tree.{Tree, Trees, plain, atom, compare, join, quantifier, some, nil, cons}
 use Rattle.model.specs.Mode.{Variables, size, isBound, isVariable, inputsBound, bindings, bindingsAll, bindingsAny, askModes, askModesAll}
 use Rattle.model.specs.declared.Refusal.the-variants.{Mode}
-use Rattle.laws.specs.Words.{and-left, and-right, and-true, or-cases, clash}
+use Rattle.laws.specs.Words.{and-left, and-right, and-true}
 use Rattle.laws.specs.Answer.{passed-same, ask-passed, ask-true, then-passed, pass-then}
 
+-- what passed is one thing
 -- the variables bound after a restriction, from those bound before it
 unfoldable mutual
   pub after : Tree → Variables → ℕ → Variables
@@ -117,7 +113,10 @@ module _ (table : Words) where
   mutual
     unfolding bindings Passes after
 
-    pub passes-bindings : (c : Tree) (b : Variables) (next at : ℕ) → Passes c b next → bindings c table b next at ≡ passed (after c b next)
+    pub passes-bindings :
+        (c : Tree) (b : Variables) (next at : ℕ) →
+        Passes c b next →
+        bindings c table b next at ≡ passed (after c b next)
     passes-bindings (plain v) b next at h = refl
     passes-bindings (atom true p ts) b next at h = pass-then _ (ask-true Mode at h) refl
     passes-bindings (atom false p ts) b next at h = pass-then _ (ask-true Mode at h) refl
@@ -128,12 +127,18 @@ module _ (table : Words) where
     passes-bindings (some c) b next at h =
         pass-then _ (passes-bindings c b (next + 1) (at + 1) (h .0)) (pass-then _ (ask-true Mode at (h .1)) refl)
 
-    passes-bindings-all : (ts : Trees) (b : Variables) (next at : ℕ) → PassesAll ts b next → bindingsAll ts table b next at ≡ passed (afterAll ts b next)
+    passes-bindings-all :
+        (ts : Trees) (b : Variables) (next at : ℕ) →
+        PassesAll ts b next →
+        bindingsAll ts table b next at ≡ passed (afterAll ts b next)
     passes-bindings-all nil b next at h = refl
     passes-bindings-all (cons t ts) b next at h =
         pass-then _ (passes-bindings t b next at (h .0)) (passes-bindings-all ts (after t b next) next (at + size t) (h .1))
 
-    passes-bindings-any : (ts : Trees) (b : Variables) (next at : ℕ) → PassesAny ts b next → bindingsAny ts table b next at ≡ passed (afterAny ts b next)
+    passes-bindings-any :
+        (ts : Trees) (b : Variables) (next at : ℕ) →
+        PassesAny ts b next →
+        bindingsAny ts table b next at ≡ passed (afterAny ts b next)
     passes-bindings-any nil b next at h = refl
     passes-bindings-any (cons t ts) b next at h =
         pass-then _ (passes-bindings t b next at (h .0)) (pass-then _ (passes-bindings-any ts b next (at + size t) (h .1)) refl)
@@ -155,6 +160,7 @@ module _ (table : Words) where
     ModedAll nil scope = Unit {0}
     ModedAll (cons t ts) scope = Moded t scope × ModedAll ts scope
 
+  -- if the questions of a formula pass, the rule does
   mutual
     unfolding askModes Moded
 
@@ -177,6 +183,7 @@ module _ (table : Words) where
         let (a, e₁, e₂) = then-passed (askModes t table scope at) _ e in
         (modes-moded t scope at e₁, modes-moded-all ts scope (at + size t) e₂)
 
+  -- and the other way round, at every place
   mutual
     unfolding askModes Moded
 

@@ -4,21 +4,21 @@ use Prim.Native.Nat.{ℕ, zero, suc, _+_, _≤_, _<_}
 use native.Mathlib.Nat.{zero-add, suc-add, add-suc, add-zero}
 use native.Mathlib.Omega.{arith}
 use mathlib.Core.Path.{_≡_, refl, sym, ap, ap₂, _∙_, subst}
-use mathlib.Core.Logic.{_↔_, _⊎_, inl, inr, ⊎-elim}
-use mathlib.Core.Bool.{Bool, true, false, not, cond, _&&_, _||_}
-use mathlib.Core.List.{List, [], _∷_, _++_, map, List·Memᴰ, List·Memᴰ·head, List·Memᴰ·tail, List·Memᴰ·not-nil, List·Memᴰ·eq-of-singleton}
-use lib.ListN.{length, getD, length-map, length-append, List·getD-append, List·getD-eq-default}
-use lib.Seq.{getD-append-add, ext-getD}
+use mathlib.Core.Logic.{_⊎_, inl, inr, ⊎-elim}
+use mathlib.Core.Bool.{Bool, true, false}
+use mathlib.Core.List.{List, [], _∷_, _++_, map, List·Memᴰ, List·Memᴰ·head, List·Memᴰ·not-nil, List·Memᴰ·eq-of-singleton}
+use lib.ListN.{length, getD, length-map, length-append, List·getD-append}
+use lib.Seq.{ext-getD}
 use lib.Dec.{eqb, ltb}
 use lib.IntN.{ℤ, pos}
-use borrow.Author.Tests.{ltb-true, ltb-false, lt-ltb, le-ltb, eqb-true, eqb-false, not-true}
+use borrow.Author.Tests.{ltb-true, lt-ltb, le-ltb, eqb-true, eqb-false, not-true}
 use Rattle.model.specs.Words.{Words, same}
-use Rattle.model.specs.Lists.{span, all, any}
+use Rattle.model.specs.Lists.{span, any}
 use Rattle.model.specs.Table.{complete}
 use Rattle.model.specs.Tree.{Term, constant, variable, Tree, Trees, plain, atom, compare, join, quantifier, some, nil, cons, count}
 use Rattle.model.specs.Answer.{passed}
 use Rattle.model.specs.Mode.{Variables, isVariable, bindings}
-use Rattle.model.specs.Log.{known, unknown, saysTrue, holds, valueIn}
+use Rattle.model.specs.Log.{known, saysTrue, holds, valueIn}
 use Rattle.model.specs.Truth.{numberOf, sumAtMost, Is, Every, One}
 use Rattle.model.specs.Listing.{bound, free, Environment, outer, numberIn, list}
 use Rattle.model.specs.Reduction.{tuple, closed, closedAll}
@@ -27,12 +27,16 @@ use Rattle.laws.specs.Formed.{InScope, AllInScope, Formed, FormedAll}
 use Rattle.laws.specs.Span.{length-span, side}
 use Rattle.laws.specs.Log.{Sound}
 use Rattle.laws.specs.Modes.{after, afterAll, afterAny, Passes, PassesAll, PassesAny, bindings-passes}
-use Rattle.laws.specs.Fitting.{Agrees, Binds, Supported, Found, bound-free, bound-same}
+use Rattle.laws.specs.Fitting.{Agrees, Supported, Found, bound-free, bound-same}
 use Rattle.laws.specs.Listing.{Fits, list-fits, listed-true, true-listed, one-more}
 
 -- a set holds only variables below n
 abbrev pub Below : ℕ → Variables → Type 0
 Below n b = (x : ℕ) → b x ≡ true → x < n
+
+-- such a set holds only variables below a greater number; the outer variables are such a set
+below-more : {n : ℕ} {b : Variables} → Below n b → Below (n + 1) b
+below-more h x e = let l = h x e in omega arith
 
 pub below-outer : (n : ℕ) → Below n (λ x. ltb x n)
 below-outer n x e = ltb-true x n e
@@ -46,6 +50,7 @@ pub outer-free : (ρ : List ℤ) (x : ℕ) → length ρ ≤ x → outer ρ x �
 unfolding outer
 outer-free ρ x h = rw (le-ltb x (length ρ) h)
 
+-- it binds every set of outer variables, and no other variable
 pub outer-fits : (b : Variables) (ρ : List ℤ) (m : ℕ) → Below (length ρ) b → length ρ ≤ m → Fits b m (outer ρ ∷ [])
 outer-fits b ρ m h l e k =
     let s = List·Memᴰ·eq-of-singleton k in (
@@ -61,6 +66,7 @@ outer-agrees ρ τ x k p =
     (λ h. bound-free p (outer-free ρ x h))
     (side (length ρ) x)
 
+-- and numbers that agree with it have its numbers
 agrees-outer : (ρ σ : List ℤ) (x : ℕ) → Agrees (outer ρ) σ → x < length ρ → getD σ x (pos 0) ≡ getD ρ x (pos 0)
 agrees-outer ρ σ x g h = g x (getD ρ x (pos 0)) (outer-bound ρ x h)
 
@@ -69,6 +75,7 @@ pub tuple-length : (i v : ℕ) (e : Environment) → length (tuple i v e) ≡ v
 unfolding tuple
 tuple-length i v e = length-map (span i v) (λ x. numberIn (e x)) ∙ length-span i v
 
+-- its elements
 pub tuple-number : (i v : ℕ) (e : Environment) (x : ℕ) → x < v → getD (tuple i v e) x (pos 0) ≡ numberIn (e (i + x))
 unfolding tuple span
 tuple-number i zero e x h = absurd (omega arith)
@@ -76,6 +83,7 @@ tuple-number i (suc v) e zero h = ap (λ (y : ℕ). numberIn (e y)) (sym (add-ze
 tuple-number i (suc v) e (suc x) h =
     tuple-number (suc i) v e x (omega arith) ∙ ap (λ (y : ℕ). numberIn (e y)) (suc-add i x ∙ sym (add-suc i x))
 
+-- a longer span's numbers are those of its two parts
 tuple-split : (i n v : ℕ) (e : Environment) → tuple i (n + v) e ≡ tuple i n e ++ tuple (i + n) v e
 unfolding tuple span
 tuple-split i zero v e = ap₂ (λ (j w : ℕ). tuple j w e) (sym (add-zero i)) (zero-add v)
@@ -85,6 +93,7 @@ tuple-split i (suc n) v e =
     (tuple-split (suc i) n v e
     ∙ ap (λ (j : ℕ). tuple (suc i) n e ++ tuple j v e) (suc-add i n ∙ sym (add-suc i n)))
 
+-- an environment agrees with its own numbers for the scope
 tuple-agrees : (n : ℕ) (e : Environment) → Supported n e → Agrees e (tuple 0 n e)
 unfolding numberIn
 tuple-agrees n e s x k p =
@@ -94,18 +103,25 @@ tuple-agrees n e s x k p =
     (side n x)
 
 -- numbers that agree with the outer environment begin with its numbers
-outer-tuple : (ρ : List ℤ) (v : ℕ) (e : Environment) → Agrees (outer ρ) (tuple 0 (length ρ + v) e) → tuple 0 (length ρ + v) e ≡ ρ ++ tuple (length ρ) v e
-outer-tuple ρ v e g =
-    let n = length ρ in
-    let front : tuple 0 n e ≡ ρ =
-    ext-getD (pos 0) (tuple 0 n e) ρ (tuple-length 0 n e)
-    (λ x h.
-    let l : x < n = let k = tuple-length 0 n e in omega arith in
-    tuple-number 0 n e x l
-    ∙ sym (tuple-number 0 (n + v) e x (omega arith))
-    ∙ agrees-outer ρ (tuple 0 (n + v) e) x g l)
-    in
-    tuple-split 0 n v e ∙ ap₂ (λ (l : List ℤ) (j : ℕ). l ++ tuple j v e) front (zero-add n)
+outer-tuple :
+    (ρ : List ℤ) (v : ℕ) (e : Environment) →
+    Agrees (outer ρ) (tuple 0 (length ρ + v) e) →
+    tuple 0 (length ρ + v) e ≡ ρ ++ tuple (length ρ) v e
+outer-tuple ρ v e g = tuple-split 0 n v e ∙ ap₂ (λ (l : List ℤ) (j : ℕ). l ++ tuple j v e) front (zero-add n)
+  where
+    n : ℕ
+    n = length ρ
+
+    same-number : (x : ℕ) → x < n → getD (tuple 0 n e) x (pos 0) ≡ getD ρ x (pos 0)
+    same-number x l =
+        tuple-number 0 n e x l
+        ∙ sym (tuple-number 0 (n + v) e x (omega arith))
+        ∙ agrees-outer ρ (tuple 0 (n + v) e) x g l
+
+    front : tuple 0 n e ≡ ρ
+    front =
+        ext-getD (pos 0) (tuple 0 n e) ρ (tuple-length 0 n e)
+        (λ x h. same-number x (subst (λ (m : ℕ). x < m) (tuple-length 0 n e) h))
 
 module _ (table : Words) (rows : List Words) (sound : Sound table rows) where
   module _ (c : Tree) (b : Variables) (ρ : List ℤ) (v : ℕ) where
@@ -121,7 +137,8 @@ module _ (table : Words) (rows : List Words) (sound : Sound table rows) where
         let n = length ρ + v in
         let fits = outer-fits b ρ n w (omega arith) in
         let g : Agrees e (tuple 0 n e) = tuple-agrees n e (list-fits table rows c b n (outer ρ ∷ []) f h fits e m .1) in
-        let ((e₀, m₀, g₀), i) = listed-true table rows sound c b n (outer ρ ∷ []) (tuple 0 n e) f h fits (tuple-length 0 n e) (e, m, g) in
+        let long = tuple-length 0 n e in
+        let ((e₀, m₀, g₀), i) = listed-true table rows sound c b n (outer ρ ∷ []) (tuple 0 n e) f h fits long (e, m, g) in
         subst (Is c (valueIn table rows) true)
         (outer-tuple ρ v e (subst (λ (f : Environment). Agrees f (tuple 0 n e)) (List·Memᴰ·eq-of-singleton m₀) g₀)) i
 
@@ -169,7 +186,7 @@ module _ (table : Words) where
     after-below (join false ts) b next f h = after-below-any ts b next (omega (arith, f .0)) (f .1) h
     after-below (quantifier v n excluded c g) b next f h = h
     after-below (some c) b next f h = λ x e.
-        let l = after-below c b (next + 1) (f .2) (λ y q. let k = h y q in omega arith) x (and-left _ _ e) in
+        let l = after-below c b (next + 1) (f .2) (below-more h) x (and-left _ _ e) in
         let n : ¬ (x ≡ next) = eqb-false x next (not-true _ (and-right (after c b (next + 1) x) _ e)) in
         omega arith
 
@@ -203,14 +220,26 @@ complete-known table (row ∷ rest) p ns e =
     (λ h. let (v, q) = complete-known table rest p ns e in (v, rw h q))
     (decide (holds p ns row))
 
+-- a Bool is what makes an atom true or what makes it false
 either-same : (v b : Bool) → (v ≡ same true b) ⊎ (v ≡ same false b)
 either-same true true = inl refl
 either-same true false = inr refl
 either-same false true = inr refl
 either-same false false = inl refl
 
+-- of two decided things all hold or one fails; one holds or all fail
+all-or-one : {A B C D : Type 0} → A ⊎ C → B ⊎ D → (A × B) ⊎ (C ⊎ D)
+all-or-one (inl a) (inl b) = inl (a, b)
+all-or-one (inl a) (inr d) = inr (inr d)
+all-or-one (inr c) e = inr (inl c)
+
+one-or-all : {A B C D : Type 0} → A ⊎ C → B ⊎ D → (A ⊎ B) ⊎ (C × D)
+one-or-all (inl a) e = inl (inl a)
+one-or-all (inr c) (inl b) = inl (inr b)
+one-or-all (inr c) (inr d) = inr (c, d)
+
 module _ (table : Words) (rows : List Words) (sound : Sound table rows) where
-  -- a restriction with one more variable, true or false under each number for it, is true under some number or false under all
+  -- a restriction that is true or false under each number for one more variable is true under one or false under all
   decided-some :
       (c : Tree) (b : Variables) (σ : List ℤ) →
       Formed c table false (length σ + 1) →
@@ -221,22 +250,23 @@ module _ (table : Words) (rows : List Words) (sound : Sound table rows) where
   unfolding Is tuple span
   decided-some c b σ f h w either = go (list table rows c (length σ + 1) (outer σ ∷ [])) refl
     where
+      never :
+          list table rows c (length σ + 1) (outer σ ∷ []) ≡ [] →
+          (k : ℤ) →
+          Is c (valueIn table rows) true (σ ++ k ∷ []) →
+          Is c (valueIn table rows) false (σ ++ k ∷ [])
+      never q k i =
+          let (e, m, g) = true-found table rows sound c b σ 1 f h w (k ∷ []) refl i in
+          absurd (List·Memᴰ·not-nil (subst (List·Memᴰ e) q m))
+
       go :
           (l : List Environment) →
           list table rows c (length σ + 1) (outer σ ∷ []) ≡ l →
           ((k : ℤ) × Is c (valueIn table rows) true (σ ++ k ∷ [])) ⊎ ((k : ℤ) → Is c (valueIn table rows) false (σ ++ k ∷ []))
-      go [] q = inr (λ k.
-          ⊎-elim
-          (λ i.
-          let found = true-found table rows sound c b σ 1 f h w (k ∷ []) refl i in
-          absurd (List·Memᴰ·not-nil (subst (List·Memᴰ (found .0)) q (found .1))))
-          (λ i. i)
-          (either k))
+      go [] q = inr (λ k. ⊎-elim (λ i. never q k i) (λ i. i) (either k))
       go (e ∷ es) q =
-          inl (
-            numberIn (e (length σ)),
-            found-true table rows sound c b σ 1 f h w {e = e} (subst (List·Memᴰ e) (sym q) (List·Memᴰ·head refl)),
-          )
+          let m : List·Memᴰ e (list table rows c (length σ + 1) (outer σ ∷ [])) = rw q (List·Memᴰ·head refl) in
+          inl (numberIn (e (length σ)), found-true table rows sound c b σ 1 f h w m)
 
   -- a closed restriction is true or false under all numbers
   mutual
@@ -265,7 +295,7 @@ module _ (table : Words) (rows : List Words) (sound : Sound table rows) where
         (subst (λ (n : ℕ). Formed c table false (n + 1)) (sym l) (f .2))
         (subst (λ (n : ℕ). Passes table c b (n + 1)) (sym l) (h .0))
         (subst (λ (n : ℕ). Below n b) (sym l) w)
-        (λ k. decided-passes c b (next + 1) cl (f .2) (h .0) (λ x q. let i = w x q in omega arith) (σ ++ k ∷ []) (one-more σ k l))
+        (λ k. decided-passes c b (next + 1) cl (f .2) (h .0) (below-more w) (σ ++ k ∷ []) (one-more σ k l))
 
     decided-every :
         (ts : Trees) (b : Variables) (next : ℕ) →
@@ -278,12 +308,10 @@ module _ (table : Words) (rows : List Words) (sound : Sound table rows) where
         Every ts (valueIn table rows) true σ ⊎ One ts (valueIn table rows) false σ
     decided-every nil b next cl f h w σ l = inl tt
     decided-every (cons t ts) b next cl f h w σ l =
-        ⊎-elim
-        (λ i. ⊎-elim (λ j. inl (i, j)) (λ j. inr (inr j))
-        (decided-every ts (after t b next) next (and-right (closed t table) _ cl) (f .1) (h .1)
-        (after-below table t b next (f .0) w) σ l))
-        (λ i. inr (inl i))
+        let below = after-below table t b next (f .0) w in
+        all-or-one
         (decided-passes t b next (and-left _ _ cl) (f .0) (h .0) w σ l)
+        (decided-every ts (after t b next) next (and-right (closed t table) _ cl) (f .1) (h .1) below σ l)
 
     decided-one :
         (ts : Trees) (b : Variables) (next : ℕ) →
@@ -296,12 +324,11 @@ module _ (table : Words) (rows : List Words) (sound : Sound table rows) where
         One ts (valueIn table rows) true σ ⊎ Every ts (valueIn table rows) false σ
     decided-one nil b next cl f h w σ l = inr tt
     decided-one (cons t ts) b next cl f h w σ l =
-        ⊎-elim
-        (λ i. inl (inl i))
-        (λ i. ⊎-elim (λ j. inl (inr j)) (λ j. inr (i, j))
-        (decided-one ts b next (and-right (closed t table) _ cl) (f .1) (h .1) w σ l))
+        one-or-all
         (decided-passes t b next (and-left _ _ cl) (f .0) (h .0) w σ l)
+        (decided-one ts b next (and-right (closed t table) _ cl) (f .1) (h .1) w σ l)
 
+  -- the same, said of the questions of the mode rule
   pub decided :
       (c : Tree) (b : Variables) (next at : ℕ) {b′ : Variables} →
       closed c table ≡ true →

@@ -1,33 +1,32 @@
--- Putting numbers in for the outer variables: it can be done in parts, and truth, rules and levels stay as they are (theorem 2).
+-- Putting numbers in for the outer variables can be done in parts, and truth, rules and levels stay as they are (theorem 2).
 -- All by induction on the tree; a term's number is the same before and after.
-use Prim.Native.Nat.{ℕ, zero, suc, _+_, _*_, _-_, _≤_, _<_, max}
-use native.Mathlib.Nat.{add-assoc, add-sub-cancel-left}
+use Prim.Native.Nat.{ℕ, suc, _+_, _-_, _≤_, _<_, max}
+use native.Mathlib.Nat.{add-assoc}
 use native.Mathlib.Omega.{arith}
-use mathlib.Core.Path.{_≡_, refl, sym, ap, ap₂, _∙_, subst, fun-ext}
+use mathlib.Core.Path.{_≡_, refl, sym, ap, ap₂, _∙_, subst}
 use mathlib.Core.Logic.{_↔_, _⊎_, inl, inr, ⊎-elim}
-use mathlib.Core.Bool.{Bool, true, false, not, cond, _&&_, _||_}
-use mathlib.Core.List.{List, [], _∷_, _++_, map, append-assoc, append-nil}
+use mathlib.Core.Bool.{Bool, true, false, cond, _&&_}
+use mathlib.Core.List.{List, [], _∷_, _++_, map, append-assoc}
 use lib.ListN.{length, getD, length-append, length-map, List·getD-append}
 use lib.Seq.{getD-append-add}
-use lib.Dec.{ltb, eqb}
 use lib.IntN.{ℤ, pos}
 use borrow.Author.Tests.{lt-ltb, le-ltb}
-use Rattle.model.specs.Words.{Words, same, member, scopeLimit}
+use Rattle.model.specs.Words.{Words, same, member}
 use Rattle.model.specs.Tree.{Term, constant, variable, Tree, Trees, plain, atom, compare, join, quantifier, some, nil, cons, count}
-use Rattle.model.specs.Table.{predicates, arity, complete}
-use Rattle.model.specs.Log.{Value, known}
+use Rattle.model.specs.Log.{known}
 use Rattle.model.specs.Truth.{Structure, numberOf, sumAtMost, Is, Every, One}
 use Rattle.model.specs.Level.{Role, restriction, formula, under, quantifierCost, greatest, greatestAll}
 use Rattle.model.specs.Putting.{putTerm, put, putAll}
 use Rattle.model.specs.Reduction.{closed, closedAll}
 use Rattle.laws.specs.Span.{side}
-use Rattle.laws.specs.Formed.{InScope, AllInScope, AllOfLength, Formed, FormedAll}
+use Rattle.laws.specs.Formed.{InScope, AllInScope, Formed, FormedAll}
 
 -- what putting makes of a variable: an outer one, and a greater one
 pub put-outer : (ρ : List ℤ) (x : ℕ) → x < length ρ → putTerm ρ (variable x) ≡ constant (getD ρ x (pos 0))
 unfolding putTerm
 put-outer ρ x h = rw (lt-ltb x (length ρ) h)
 
+-- a greater variable falls
 pub put-inner : (ρ : List ℤ) (x : ℕ) → length ρ ≤ x → putTerm ρ (variable x) ≡ variable (x - length ρ)
 unfolding putTerm
 put-inner ρ x h = rw (le-ltb x (length ρ) h)
@@ -48,36 +47,45 @@ numberOf-put ρ τ (variable x) =
     (λ h. ap (numberOf τ) (put-inner ρ x h) ∙ sym (getD-right ρ τ x h))
     (side (length ρ) x)
 
+-- numbers can be put into a term one part after the other; no numbers change nothing
 putTerm-put : (ρ τ : List ℤ) (t : Term) → putTerm (ρ ++ τ) t ≡ putTerm τ (putTerm ρ t)
 unfolding putTerm
 putTerm-put ρ τ (constant k) = refl
-putTerm-put ρ τ (variable x) =
-    let e = length-append ρ τ in
-    ⊎-elim
-    (λ h. put-outer (ρ ++ τ) x (omega arith)
-    ∙ ap constant (List·getD-append ρ τ (pos 0) x h)
-    ∙ ap (putTerm τ) (sym (put-outer ρ x h)))
-    (λ h. ⊎-elim
-    (λ k. put-outer (ρ ++ τ) x (omega arith)
-    ∙ ap constant (getD-right ρ τ x h)
-    ∙ sym (put-outer τ (x - length ρ) (omega arith))
-    ∙ ap (putTerm τ) (sym (put-inner ρ x h)))
-    (λ k. put-inner (ρ ++ τ) x (omega arith)
-    ∙ ap variable (omega arith)
-    ∙ sym (put-inner τ (x - length ρ) (omega arith))
-    ∙ ap (putTerm τ) (sym (put-inner ρ x h)))
-    (side (length ρ + length τ) x))
-    (side (length ρ) x)
+putTerm-put ρ τ (variable x) = go (side (length ρ) x) (side (length ρ + length τ) x)
+  where
+    long : length (ρ ++ τ) ≡ length ρ + length τ
+    long = length-append ρ τ
+
+    go :
+        (x < length ρ) ⊎ (length ρ ≤ x) →
+        (x < length ρ + length τ) ⊎ (length ρ + length τ ≤ x) →
+        putTerm (ρ ++ τ) (variable x) ≡ putTerm τ (putTerm ρ (variable x))
+    go (inl h) k =
+        put-outer (ρ ++ τ) x (omega (arith, long))
+        ∙ ap constant (List·getD-append ρ τ (pos 0) x h)
+        ∙ ap (putTerm τ) (sym (put-outer ρ x h))
+    go (inr h) (inl k) =
+        put-outer (ρ ++ τ) x (omega (arith, long))
+        ∙ ap constant (getD-right ρ τ x h)
+        ∙ sym (put-outer τ (x - length ρ) (omega arith))
+        ∙ ap (putTerm τ) (sym (put-inner ρ x h))
+    go (inr h) (inr k) =
+        put-inner (ρ ++ τ) x (omega (arith, long))
+        ∙ ap variable (omega (arith, long))
+        ∙ sym (put-inner τ (x - length ρ) (omega arith))
+        ∙ ap (putTerm τ) (sym (put-inner ρ x h))
 
 putTerm-nil : (t : Term) → putTerm [] t ≡ t
 putTerm-nil (constant k) = unfold putTerm in refl
 putTerm-nil (variable x) = put-inner [] x (omega arith) ∙ ap variable (omega arith)
 
 module _ {A B C : Type 0} where
+  -- two functions over a list, one after the other
   pub map-map : (f : A → B) (g : B → C) (h : A → C) (l : List A) → ((x : A) → g (f x) ≡ h x) → map g (map f l) ≡ map h l
   map-map f g h [] e = refl
   map-map f g h (x ∷ l) e = ap₂ (λ (a : C) (r : List C). a ∷ r) (e x) (map-map f g h l e)
 
+-- a function that changes nothing changes no list
 map-self : {A : Type 0} (f : A → A) (l : List A) → ((x : A) → f x ≡ x) → map f l ≡ l
 map-self f [] e = refl
 map-self {A} f (x ∷ l) e = ap₂ (λ (a : A) (r : List A). a ∷ r) (e x) (map-self f l e)
@@ -99,6 +107,7 @@ mutual
   put-put-all nil ρ τ = refl
   put-put-all (cons t ts) ρ τ = ap₂ cons (put-put t ρ τ) (put-put-all ts ρ τ)
 
+-- with no numbers, a tree stays as it is
 mutual
   unfolding put
 
@@ -140,7 +149,8 @@ module _ (s : Structure) where
     is-same : (t : Tree) (truth : Bool) (ρ τ : List ℤ) → Is (put t ρ) s truth τ ≡ Is t s truth (ρ ++ τ)
     is-same (plain b) truth ρ τ = refl
     is-same (atom b p ts) truth ρ τ =
-        ap (λ (ns : List ℤ). s p ns ≡ known (same truth b)) (map-map (putTerm ρ) (numberOf τ) (numberOf (ρ ++ τ)) ts (numberOf-put ρ τ))
+        ap (λ (ns : List ℤ). s p ns ≡ known (same truth b))
+        (map-map (putTerm ρ) (numberOf τ) (numberOf (ρ ++ τ)) ts (numberOf-put ρ τ))
     is-same (compare b d x y) truth ρ τ =
         ap₂ (λ (m n : ℤ). sumAtMost d m n ≡ same truth b) (numberOf-put ρ τ x) (numberOf-put ρ τ y)
     is-same (join b ts) truth ρ τ =
@@ -169,10 +179,13 @@ module _ (s : Structure) where
     one-same nil truth ρ τ = refl
     one-same (cons t ts) truth ρ τ = ap₂ (λ (X Y : Type 0). X ⊎ Y) (is-same t truth ρ τ) (one-same ts truth ρ τ)
 
+-- so the one holds exactly if the other does
 pub is-put : (t : Tree) (s : Structure) (truth : Bool) (ρ τ : List ℤ) → Is (put t ρ) s truth τ ↔ Is t s truth (ρ ++ τ)
-is-put t s truth ρ τ = (subst (λ (X : Type 0). X) (is-same s t truth ρ τ), subst (λ (X : Type 0). X) (sym (is-same s t truth ρ τ)))
+is-put t s truth ρ τ =
+    let e = is-same s t truth ρ τ in
+    (subst (λ (X : Type 0). X) e, subst (λ (X : Type 0). X) (sym e))
 
--- the rules hold of a tree with the numbers put in
+-- a term in scope is in scope afterwards
 put-in-scope : (ρ : List ℤ) (n : ℕ) (t : Term) → InScope (length ρ + n) t → InScope n (putTerm ρ t)
 unfolding InScope putTerm
 put-in-scope ρ n (constant k) h = tt
@@ -182,21 +195,27 @@ put-in-scope ρ n (variable x) h =
     (λ l. subst (InScope n) (sym (put-inner ρ x l)) (omega arith))
     (side (length ρ) x)
 
+-- the same of all terms
 put-all-in-scope : (ρ : List ℤ) (n : ℕ) (ts : List Term) → AllInScope (length ρ + n) ts → AllInScope n (map (putTerm ρ) ts)
 unfolding AllInScope
 put-all-in-scope ρ n [] h = tt
 put-all-in-scope ρ n (t ∷ ts) h = (put-in-scope ρ n t (h .0), put-all-in-scope ρ n ts (h .1))
 
+-- there are as many trees as before
 pub put-count : (ts : Trees) (ρ : List ℤ) → count (putAll ts ρ) ≡ count ts
 unfolding count putAll
 put-count nil ρ = refl
 put-count (cons t ts) ρ = ap suc (put-count ts ρ)
 
 module _ (table : Words) where
+  -- the rules hold of a tree with the numbers put in
   mutual
     unfolding put Formed
 
-    pub put-formed : (t : Tree) (kind : Bool) (ρ : List ℤ) (n : ℕ) → Formed t table kind (length ρ + n) → Formed (put t ρ) table kind n
+    pub put-formed :
+        (t : Tree) (kind : Bool) (ρ : List ℤ) (n : ℕ) →
+        Formed t table kind (length ρ + n) →
+        Formed (put t ρ) table kind n
     put-formed (plain b) kind ρ n h = tt
     put-formed (atom b p ts) kind ρ n h =
         rw (length-map ts (putTerm ρ)) (h .0, h .1, h .2, h .3, put-all-in-scope ρ n ts (h .4))
@@ -225,7 +244,9 @@ module _ (table : Words) where
 mutual
   unfolding put greatest
 
-  pub put-greatest : (t : Tree) (ρ : List ℤ) (role : Role) (above : ℕ) → greatest (put t ρ) role above ≡ greatest t role above
+  pub put-greatest :
+      (t : Tree) (ρ : List ℤ) (role : Role) (above : ℕ) →
+      greatest (put t ρ) role above ≡ greatest t role above
   put-greatest (plain b) ρ role above = refl
   put-greatest (atom b p ts) ρ role above = refl
   put-greatest (compare b d x y) ρ role above = refl

@@ -4,22 +4,22 @@ use native.Mathlib.Nat.{add-assoc, add-suc}
 use native.Mathlib.Omega.{arith}
 use mathlib.Core.Path.{_≡_, refl, sym, ap, ap₂, _∙_, subst, fun-ext}
 use mathlib.Core.Logic.{⊎-elim}
-use mathlib.Core.Bool.{Bool, true, false, not, cond, _&&_, _||_}
+use mathlib.Core.Bool.{Bool, true, false, not, _&&_, _||_}
 use mathlib.Core.List.{List, [], _∷_, _++_, map}
-use lib.ListN.{length, getD, length-append, length-map}
+use lib.ListN.{length, length-append, length-map}
 use lib.Dec.{eqb, ltb}
-use lib.IntN.{ℤ, pos}
+use lib.IntN.{ℤ}
 use borrow.Author.Tests.{eqb-true, eqb-false, eq-eqb, ne-eqb, ltb-true, ltb-false, lt-ltb, le-ltb}
 use Rattle.model.specs.Words.{Words}
 use Rattle.model.specs.Lists.{span, all, any, gather}
 use Rattle.model.specs.Answer.{passed}
 use Rattle.model.specs.Table.{input}
-use Rattle.model.specs.Tree.{Term, constant, variable, Tree, Trees, plain, atom, compare, join, quantifier, some, nil, cons, count, encodeTerm, encode, encodeAll}
+use Rattle.model.specs.Tree.{Term, constant, variable, Tree, Trees, plain, atom, compare, join, quantifier, some, nil, cons, encodeTerm, encode, encodeAll}
 use Rattle.model.specs.Mode.{Variables, size, isBound, isVariable, inputsBound, bindings, askModes}
 use Rattle.model.specs.Putting.{putTerm, put, putAll}
-use Rattle.laws.specs.Words.{decide, and-left, and-right, and-true, or-left}
+use Rattle.laws.specs.Words.{decide, and-true, or-left}
 use Rattle.laws.specs.Span.{side}
-use Rattle.laws.specs.Putting.{put-outer, put-inner, put-count}
+use Rattle.laws.specs.Putting.{put-outer, put-inner}
 use Rattle.laws.specs.Modes.{after, afterAll, afterAny, Passes, PassesAll, PassesAny, Moded, ModedAll, bindings-passes, passes-bindings, modes-moded, moded-modes}
 
 -- tests on shifted numbers
@@ -38,25 +38,27 @@ ltb-shift n x y =
     (decide (ltb x y))
 
 module _ (ρ : List ℤ) where
-  -- the sets of variables with the outer ones left out, and the sets that hold all outer ones
+  -- a set of variables with the outer ones left out; and a set that holds all outer ones
   abbrev pub inner : Variables → Variables
   inner b x = b (length ρ + x)
 
   abbrev pub HoldsOuter : Variables → Type 0
   HoldsOuter b = (x : ℕ) → x < length ρ → b x ≡ true
 
+  -- a term is the variable x afterwards if it was the variable x behind the outer ones
   isVariable-put : (x : ℕ) (t : Term) → isVariable x (putTerm ρ t) ≡ isVariable (length ρ + x) t
   unfolding isVariable putTerm
   isVariable-put x (constant k) = refl
   isVariable-put x (variable y) =
       ⊎-elim
       (λ h. ap (isVariable x) (put-outer ρ y h) ∙ sym (ne-eqb (length ρ + x) y (λ q. omega arith)))
-      (λ h.
-      ap (isVariable x) (put-inner ρ y h)
-      ∙ sym (eqb-shift (length ρ) x (y - length ρ))
-      ∙ ap (eqb (length ρ + x)) (omega arith))
+      (λ h. ap (isVariable x) (put-inner ρ y h) ∙ inner-same h)
       (side (length ρ) y)
+    where
+      inner-same : length ρ ≤ y → eqb x (y - length ρ) ≡ eqb (length ρ + x) y
+      inner-same h = sym (eqb-shift (length ρ) x (y - length ρ)) ∙ ap (eqb (length ρ + x)) (omega arith)
 
+  -- a term is bound afterwards if it was before, the outer variables being bound
   isBound-put : (b : Variables) (t : Term) → HoldsOuter b → isBound (inner b) (putTerm ρ t) ≡ isBound b t
   unfolding isBound putTerm
   isBound-put b (constant k) h = refl
@@ -66,12 +68,17 @@ module _ (ρ : List ℤ) where
       (λ l. ap (isBound (inner b)) (put-inner ρ y l) ∙ ap b (omega arith))
       (side (length ρ) y)
 
+  -- the same of all terms
   any-put : (x : ℕ) (ts : List Term) → any (isVariable x) (map (putTerm ρ) ts) ≡ any (isVariable (length ρ + x)) ts
   unfolding any
   any-put x [] = refl
   any-put x (t ∷ ts) = ap₂ (λ (a b : Bool). a || b) (isVariable-put x t) (any-put x ts)
 
-  all-put : (b : Variables) (ts : List Term) → HoldsOuter b → all (isBound (inner b)) (map (putTerm ρ) ts) ≡ all (isBound b) ts
+  -- all terms are bound afterwards if they were before, and so are those at input positions
+  all-put :
+      (b : Variables) (ts : List Term) →
+      HoldsOuter b →
+      all (isBound (inner b)) (map (putTerm ρ) ts) ≡ all (isBound b) ts
   unfolding all
   all-put b [] h = refl
   all-put b (t ∷ ts) h = ap₂ (λ (a c : Bool). a && c) (isBound-put b t h) (all-put b ts h)
@@ -102,13 +109,17 @@ module _ (ρ : List ℤ) where
         (put-after c b (next + 1) ∙ ap (λ (m : ℕ). inner (after c b m)) (sym (add-assoc (length ρ) next 1)))
         (sym (eqb-shift (length ρ) x next)))
 
-    put-after-all : (ts : Trees) (b : Variables) (next : ℕ) → afterAll (putAll ts ρ) (inner b) next ≡ inner (afterAll ts b (length ρ + next))
+    put-after-all :
+        (ts : Trees) (b : Variables) (next : ℕ) →
+        afterAll (putAll ts ρ) (inner b) next ≡ inner (afterAll ts b (length ρ + next))
     put-after-all nil b next = refl
     put-after-all (cons t ts) b next =
         ap (λ (a : Variables). afterAll (putAll ts ρ) a next) (put-after t b next)
         ∙ put-after-all ts (after t b (length ρ + next)) next
 
-    put-after-any : (ts : Trees) (b : Variables) (next : ℕ) → afterAny (putAll ts ρ) (inner b) next ≡ inner (afterAny ts b (length ρ + next))
+    put-after-any :
+        (ts : Trees) (b : Variables) (next : ℕ) →
+        afterAny (putAll ts ρ) (inner b) next ≡ inner (afterAny ts b (length ρ + next))
     put-after-any nil b next = refl
     put-after-any (cons t ts) b next =
         ap₂ {C = Variables} (λ (a c : Variables) (x : ℕ). a x && c x) (put-after t b next) (put-after-any ts b next)
@@ -139,6 +150,7 @@ module _ (ρ : List ℤ) where
     after-outer-any (cons t ts) b next h = λ x l. and-true (after-outer t b next h x l) (after-outer-any ts b next h x l)
 
   module _ (table : Words) where
+    -- the mode rule passes at a restriction with the numbers put in
     mutual
       unfolding after Passes put
 
@@ -192,6 +204,7 @@ module _ (ρ : List ℤ) where
         passes-bindings table (put c ρ) (inner b) next at′ (put-passes c b next h p)
         ∙ ap passed (put-after c b next ∙ ap inner s)
 
+    -- the outer variables are still bound after a restriction
     pub bindings-outer :
         (c : Tree) (b : Variables) (next at : ℕ) {b′ : Variables} →
         bindings c table b (length ρ + next) at ≡ passed b′ →
@@ -205,9 +218,11 @@ module _ (ρ : List ℤ) where
     below-put : (scope : ℕ) → _≡_ {A = Variables} (inner (λ x. ltb x (length ρ + scope))) (λ x. ltb x scope)
     below-put scope = fun-ext (λ x. ltb-shift (length ρ) x scope)
 
+    -- a scope holds the outer variables
     outer-below : (scope : ℕ) → HoldsOuter (λ x. ltb x (length ρ + scope))
     outer-below scope x l = lt-ltb x (length ρ + scope) (omega arith)
 
+    -- a span of variables, seen from inside
     span-put : (b : Variables) (i v : ℕ) → all (inner b) (span i v) ≡ all b (span (length ρ + i) v)
     unfolding all span
     span-put b i zero = refl
@@ -241,13 +256,15 @@ module _ (ρ : List ℤ) where
       put-moded-all nil scope h = tt
       put-moded-all (cons t ts) scope h = (put-moded t scope (h .0), put-moded-all ts scope (h .1))
 
+    -- the questions of the mode rule pass afterwards, at any place
     pub put-modes :
         (f : Tree) (scope at at′ : ℕ) →
         askModes f table (length ρ + scope) at ≡ passed tt →
         askModes (put f ρ) table scope at′ ≡ passed tt
-    put-modes f scope at at′ e = moded-modes table (put f ρ) scope at′ (put-moded f scope (modes-moded table f (length ρ + scope) at e))
+    put-modes f scope at at′ e =
+        moded-modes table (put f ρ) scope at′ (put-moded f scope (modes-moded table f (length ρ + scope) at e))
 
--- the number of words
+-- lists joined of lists of the same lengths
 append-length :
     (xs xs′ ys ys′ : List ℤ) →
     length xs ≡ length xs′ →
@@ -255,11 +272,13 @@ append-length :
     length (xs ++ ys) ≡ length (xs′ ++ ys′)
 append-length xs xs′ ys ys′ p q = length-append xs ys ∙ ap₂ (λ (m n : ℕ). m + n) p q ∙ sym (length-append xs′ ys′)
 
+-- a term has two words
 encodeTerm-length : (t : Term) → length (encodeTerm t) ≡ 2
 unfolding encodeTerm
 encodeTerm-length (constant k) = refl
 encodeTerm-length (variable x) = refl
 
+-- and so have all terms
 terms-length : (ts : List Term) → length (gather encodeTerm ts) ≡ 2 * length ts
 unfolding gather
 terms-length [] = refl
@@ -268,6 +287,7 @@ terms-length (t ∷ ts) =
     ∙ ap₂ (λ (m n : ℕ). m + n) (encodeTerm-length t) (terms-length ts)
     ∙ omega arith
 
+-- a tree has as many words as before
 mutual
   unfolding put encode
 
@@ -293,8 +313,11 @@ mutual
   put-length-all : (ts : Trees) (ρ : List ℤ) → length (encodeAll (putAll ts ρ)) ≡ length (encodeAll ts)
   put-length-all nil ρ = refl
   put-length-all (cons t ts) ρ =
-      append-length (encode (put t ρ)) (encode t) (encodeAll (putAll ts ρ)) (encodeAll ts) (put-length t ρ) (put-length-all ts ρ)
+      append-length (encode (put t ρ)) (encode t) (encodeAll (putAll ts ρ)) (encodeAll ts)
+      (put-length t ρ)
+      (put-length-all ts ρ)
 
+-- so it has the same size
 pub put-size : (t : Tree) (ρ : List ℤ) → size (put t ρ) ≡ size t
 unfolding size
 put-size t ρ = put-length t ρ
