@@ -7,6 +7,7 @@ pub mod Log
 pub mod Formed
 pub mod Modes
 pub mod ReadingWords
+pub mod Table
 pub mod ReadingItems
 pub mod ReadingNodes
 pub mod Reading

@@ -1,0 +1,69 @@
+-- `auditor::check_log` meets its contract, from what the two checks ensure.
+use mathlib.Core.Path.{_≡_, sym, ap, _∙_}
+use Rattle.model.specs.Log.{rowCount}
+use Rattle.laws.specs.Table.{accepted, short}
+use Rattle.checks.specs.Checked.{outcome}
+use Rattle.auditor.proofs.Calls.{log-table-refused, log-refused, log-accepted}
+use borrow.Author.Needs.{needs}
+use Rattle.auditor.proofs.check_log.Statement.{statement}
+use Rattle.auditor.proofs.check_log.Tie as tie
+
+check-table-requires : tie.Need-check-table-requires
+check-table-requires c κs = search needs
+
+enum-known-first : tie.Need-enum-known-first
+enum-known-first c = search needs
+
+enum-told : tie.Need-enum-told
+enum-told c = search needs
+
+check-log-requires : tie.Need-check-log-requires
+check-log-requires c κs =
+    let table = c .before .before .before .args .table .now in
+    short table (accepted table (sym (c .before .before .check-table .ensures) ∙ ap outcome (c .enum-told .given .1)))
+
+enum-known-second : tie.Need-enum-known-second
+enum-known-second c = search needs
+
+enum-told-2 : tie.Need-enum-told-2
+enum-told-2 c = search needs
+
+returns : tie.Need-returns
+returns c =
+    let a = c .before .before .before .before .args in
+    sym
+    (log-table-refused (a .table .now) (a .log .now)
+    (sym (c .before .before .before .check-table .ensures) ∙ ap outcome (c .before .first .given .1)))
+
+returns-2 : tie.Need-returns-2
+returns-2 c =
+    let t = c .before .before .before .before in
+    let a = t .before .before .before .args in
+    sym
+    (log-refused (a .table .now) (a .log .now)
+    (sym (t .before .before .check-table .ensures) ∙ ap outcome (t .enum-told .given .1))
+    (sym (c .before .before .before .check-log .ensures) ∙ ap outcome (c .before .second .given .1)))
+
+returns-3 : tie.Need-returns-3
+unfolding rowCount
+returns-3 c =
+    let t = c .before .before .before in
+    let a = t .before .before .before .args in
+    sym
+    (log-accepted (a .table .now) (a .log .now)
+    (sym (t .before .before .check-table .ensures) ∙ ap outcome (t .enum-told .given .1))
+    (sym (c .before .before .check-log .ensures) ∙ ap outcome (c .enum-told2 .given .1)))
+
+pub check-log-spec : {M : Type 1} → statement M
+check-log-spec =
+    tie.close
+    (tie.spec
+    check-table-requires
+    enum-known-first
+    enum-told
+    check-log-requires
+    enum-known-second
+    enum-told-2
+    returns
+    returns-2
+    returns-3)

@@ -1,0 +1,12 @@
+// The checks of a table, a log and a policy: questions 1 to 10.
+pub mod log;
+pub mod table;
+pub mod words;
+
+use model::Refusal;
+
+// What comes of questions asked in order.
+pub enum Checked {
+    Passed,
+    Refused(Refusal, usize),
+}
