@@ -14,6 +14,7 @@ pub mod Reading
 pub mod ReadingParts
 pub mod ReadingBack
 pub mod Policy
+pub mod Places
 pub mod Truth
 pub mod Putting
 pub mod PuttingModes
