@@ -2,3 +2,10 @@
 pub mod Signed
 pub mod Loops
 pub mod Rows
+pub mod NodeTag
+pub mod NodeTerms
+pub mod NodeShape
+pub mod NodeQuestions
+pub mod PolicyRead
+pub mod PolicyNode
+pub mod PolicyWhole

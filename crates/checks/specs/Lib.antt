@@ -1,2 +1,4 @@
 pub mod Checked
+pub mod Node
+pub mod Policy
 pub mod Search
