@@ -124,6 +124,7 @@ module _ (table words : Words) where
 -- question 7: the places are those of the tree's words
 mutual
   unfolding bindings size encode
+
   bindings-within : (c : Tree) (table : Words) (b : Variables) (next at n : ℕ) → at + size c ≤ n → Within n (bindings c table b next at)
   bindings-within (plain x) table b next at n h = tt
   bindings-within (atom true p ts) table b next at n h =
@@ -163,6 +164,7 @@ tuples-long v (τ ∷ τs) h =
 
 mutual
   unfolding askModes size encode Formed
+
   modes-within : (f : Tree) (table : Words) (scope at n : ℕ) → Formed f table true scope → at + size f ≤ n → Within n (askModes f table scope at)
   modes-within (plain x) table scope at n k h = tt
   modes-within (atom x p ts) table scope at n k h = tt
@@ -205,8 +207,8 @@ table-within table =
     within-then _ (ask _ Table 0) _ (within-ask _ Table 0 256 (omega arith)) λ _ e.
     let few = leb-true (predicates table) 256 (and-right (eqb (length table % 3) 0 && leb 1 (predicates table)) _ (ask-passed _ Table 0 e)) in
     within-turn 256 (λ p. ask (goodRecord table p) Table p) (span 0 (predicates table)) (λ p m.
-      let below = span-mem 0 (predicates table) m .1 in
-      within-ask (goodRecord table p) Table p 256 (omega (arith, zero-add (predicates table))))
+    let below = span-mem 0 (predicates table) m .1 in
+    within-ask (goodRecord table p) Table p 256 (omega (arith, zero-add (predicates table))))
 
 whole : (tree : Tree) (words : Words) → encode tree ≡ words → 0 + size tree ≤ length words
 unfolding size
@@ -247,6 +249,6 @@ log-within table log =
     within-then _ (ask _ LogLength 0) _ (within-ask _ LogLength 0 4096 (omega arith)) λ _ e.
     let few = leb-true (rowCount log) 4096 (and-right (eqb (length log % 8) 0) _ (ask-passed _ LogLength 0 e)) in
     within-turn 4096 _ (span 0 (rowCount log)) (λ r m.
-      let below = span-mem 0 (rowCount log) m .1 in
-      within-then _ (ask (goodRow table (rowAt log r)) Row r) _ (within-ask _ Row r 4096 (omega (arith, zero-add (rowCount log)))) λ _ _.
-      within-ask _ Repeat r 4096 (omega (arith, zero-add (rowCount log))))
+    let below = span-mem 0 (rowCount log) m .1 in
+    within-then _ (ask (goodRow table (rowAt log r)) Row r) _ (within-ask _ Row r 4096 (omega (arith, zero-add (rowCount log)))) λ _ _.
+    within-ask _ Repeat r 4096 (omega (arith, zero-add (rowCount log))))
