@@ -1,12 +1,10 @@
 -- The calls, outcome by outcome.
 use Prim.Native.Nat.{ℕ}
-use mathlib.Core.Path.{_≡_, refl}
-use lib.ListN.{length}
-use Rattle.model.specs.declared.Answer.{Answer}
+use mathlib.Core.Path.{_≡_}
 use Rattle.model.specs.declared.Answer.the-variants.{Accepted, Refused}
 use Rattle.model.specs.declared.Refusal.{Refusal}
 use Rattle.model.specs.Words.{Words}
-use Rattle.model.specs.Answer.{Outcome, passed, refused, answer, _>>=_}
+use Rattle.model.specs.Answer.{passed, refused, answer, _>>=_}
 use Rattle.model.specs.Table.{askTable}
 use Rattle.model.specs.Log.{rowCount, askLog}
 use Rattle.model.specs.Calls.{checkLog}

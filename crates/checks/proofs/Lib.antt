@@ -9,3 +9,8 @@ pub mod NodeQuestions
 pub mod PolicyRead
 pub mod PolicyNode
 pub mod PolicyWhole
+pub mod ModeTerms
+pub mod ModeAtoms
+pub mod ModeWalk
+pub mod ModeLoops
+pub mod ModeSome

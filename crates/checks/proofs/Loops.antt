@@ -1,10 +1,9 @@
 -- Loops over a span of numbers: one step, and the end, of questions asked in turn.
-use Prim.Native.Nat.{ℕ, zero, suc, _+_, _-_, _≤_, _<_}
-use native.Mathlib.Nat.{sub-eq-zero-of-le}
+use Prim.Native.Nat.{ℕ, suc, _+_, _-_, _≤_, _<_}
 use native.Mathlib.Numerals.{add-one}
 use native.Mathlib.Omega.{arith}
-use mathlib.Core.Path.{_≡_, refl, sym, ap, ap₂, _∙_, subst}
-use mathlib.Core.List.{List, [], _∷_}
+use mathlib.Core.Path.{_≡_, sym, ap, _∙_}
+use mathlib.Core.List.{[], _∷_}
 use Rattle.model.specs.declared.Refusal.{Refusal}
 use Rattle.model.specs.Lists.{span}
 use Rattle.model.specs.Answer.{Outcome, passed, refused, inTurn, _>>=_}

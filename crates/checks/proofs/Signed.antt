@@ -1,16 +1,15 @@
 -- Signed words of 32 bits: what the machine reads back from their bits, their magnitude, and tests on them.
-use Prim.Native.Nat.{ℕ, zero, suc, _+_, _-_, _^_, _<_, _≤_}
+use Prim.Native.Nat.{ℕ, suc, _-_, _^_, _<_}
 use native.Mathlib.Nat.{zero-add}
 use native.Mathlib.Omega.{arith}
-use mathlib.Core.Path.{_≡_, refl, sym, ap, _∙_, subst}
+use mathlib.Core.Path.{_≡_, refl, sym, ap, _∙_}
 use mathlib.Core.Logic.{⊎-elim}
-use mathlib.Core.Bool.{Bool, true, false, true≢false, false≢true, _&&_}
-use lib.Dec.{T, lit<, leb, ltb, eqb, leb·zero}
+use mathlib.Core.Bool.{true, false, true≢false, false≢true, _&&_}
+use lib.Dec.{T, leb, ltb, eqb, leb·zero}
 use lib.IntN.{ℤ, pos, negsuc, natAbs, _-ℤ_}
-use lib.Signed.{leZ, ltZ, nonNeg, mag}
+use lib.Signed.{leZ, ltZ, nonNeg}
 use mir.Syntax.{w32, w64}
-use mir.Val.{Fits, SFits, toZ, ofZ}
-use mir.Facts.{toZ-ofZ, sfits-widen, fits-natAbs}
+use mir.Val.{SFits, ofZ}
 use borrow.Author.Tests.{ltb-true, eqb-true, eqb-false, eq-eqb, ne-eqb}
 use Rattle.model.specs.Words.{atLeast, within, below, equal}
 use Rattle.laws.specs.Words.{decide}

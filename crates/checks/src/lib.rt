@@ -1,5 +1,6 @@
 // The checks of a table, a log and a policy: questions 1 to 10.
 pub mod log;
+pub mod mode;
 pub mod node;
 pub mod policy;
 pub mod table;

@@ -2,19 +2,17 @@
 use Prim.Native.Nat.{ℕ, _+_, _≤_, max}
 use native.Mathlib.Nat.{zero-add, add-zero}
 use native.Mathlib.Omega.{arith}
-use mathlib.Core.Path.{_≡_, refl, sym, ap, _∙_, subst}
-use mathlib.Core.Logic.{_⊎_, inl, inr, ⊎-elim, _↔_}
-use mathlib.Core.Bool.{Bool, true, false, true≢false, cond}
-use mathlib.Core.List.{List, [], _∷_, _++_, map, append-nil, List·Memᴰ, List·Memᴰ·head, List·Memᴰ·tail}
+use mathlib.Core.Path.{_≡_, refl, sym, subst}
+use mathlib.Core.Logic.{inl}
+use mathlib.Core.Bool.{Bool, true, false, true≢false}
+use mathlib.Core.List.{List, [], _∷_, _++_, map, List·Memᴰ, List·Memᴰ·head, List·Memᴰ·tail}
 use lib.ListN.{length}
-use lib.Dec.{ltb}
 use lib.IntN.{ℤ}
-use Rattle.model.specs.Words.{Words, same, member, levelLimit}
-use Rattle.model.specs.Answer.{passed}
+use Rattle.model.specs.Words.{Words, same, levelLimit}
 use Rattle.model.specs.Log.{Value, known, unknown, valueIn}
-use Rattle.model.specs.Tree.{Term, Tree, Trees, plain, atom, compare, join, quantifier, some, nil, cons, count}
+use Rattle.model.specs.Tree.{Tree, Trees, plain, atom, compare, join, quantifier, some, nil, cons, count}
 use Rattle.model.specs.Level.{Role, restriction, formula, operand, under, quantifierCost, greatest, greatestAll}
-use Rattle.model.specs.Truth.{Structure, Is, numberOf}
+use Rattle.model.specs.Truth.{numberOf}
 use Rattle.model.specs.Putting.{put}
 use Rattle.model.specs.Joining.{joined, parts}
 use Rattle.model.specs.Reduction.{settle, closed, instances, reduce, reduceAll}
@@ -23,7 +21,7 @@ use Rattle.laws.specs.Formed.{Formed, FormedAll, AllOfLength, Rules}
 use Rattle.laws.specs.Putting.{put-formed, put-greatest}
 use Rattle.laws.specs.PuttingModes.{put-moded}
 use Rattle.laws.specs.Joining.{All, joined-has, result-all}
-use Rattle.laws.specs.Level.{Formal, Keeps, Stand, stand, own-cost, greatest-least, under-formal, tree-keeps, joined-keeps, up-keeps}
+use Rattle.laws.specs.Level.{Formal, Keeps, stand, own-cost, greatest-least, under-formal, tree-keeps, joined-keeps, up-keeps}
 use Rattle.laws.specs.Instances.{instances-length}
 use Rattle.laws.specs.Reduction.{length-more}
 

@@ -1,20 +1,19 @@
 -- The dual: it is accepted where the policy is, at the same levels and in as many words; it is true where the policy is
 -- false and false where it is true; and the dual of the dual is the policy.
-use Prim.Native.Nat.{ℕ, suc, _+_, _*_, max}
-use mathlib.Core.Path.{_≡_, refl, sym, ap, ap₂, _∙_, subst}
-use mathlib.Core.Logic.{_⊎_, inl, inr, ⊎-elim, _↔_}
-use mathlib.Core.Bool.{Bool, true, false, not, cond, true≢false}
-use mathlib.Core.List.{List, [], _∷_, _++_, map}
+use Prim.Native.Nat.{ℕ, suc, _+_, max}
+use mathlib.Core.Path.{_≡_, refl, sym, ap, ap₂, _∙_}
+use mathlib.Core.Logic.{_↔_}
+use mathlib.Core.Bool.{Bool, true, false, not, true≢false}
+use mathlib.Core.List.{List, _∷_, _++_}
 use lib.ListN.{length, length-append}
 use lib.IntN.{ℤ, pos}
 use Rattle.model.specs.Lists.{gather}
-use Rattle.model.specs.Words.{Words, same, member}
-use Rattle.model.specs.Answer.{Outcome, passed, refused, _>>=_}
-use Rattle.model.specs.Log.{Value, known}
+use Rattle.model.specs.Words.{Words, same}
+use Rattle.model.specs.Answer.{Outcome, passed, _>>=_}
 use Rattle.model.specs.Tree.{Tree, Trees, plain, atom, compare, join, quantifier, some, nil, cons, count, encode, encodeAll}
 use Rattle.model.specs.Level.{Role, restriction, formula, operand, under, quantifierCost, greatest, greatestAll}
 use Rattle.model.specs.Mode.{size, askModes, askModesAll}
-use Rattle.model.specs.Truth.{Structure, Is, Every, One, numberOf}
+use Rattle.model.specs.Truth.{Structure, Is}
 use Rattle.model.specs.Dual.{dual, dualAll}
 use Rattle.laws.specs.Formed.{Formed, FormedAll}
 use Rattle.model.specs.Calls.{askPolicy}

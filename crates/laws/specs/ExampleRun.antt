@@ -1,6 +1,5 @@
 -- A run to which the run claim is applied, so that its premises are seen to be met: a refused call, a call over the first
 -- two rows, a call over the whole log. The log is log A and one more row.
-use Prim.Native.Nat.{ℕ}
 use mathlib.Core.Path.{_≡_, refl}
 use mathlib.Core.Logic.{_↔_}
 use mathlib.Core.Bool.{Bool, true}

@@ -1,11 +1,10 @@
 -- Levels: a tree that moves up, or a join that takes a join's children in its place, reaches no deeper.
 -- A node's cost depends on its role by at most one, and the join that a tree loses above it cost one.
-use Prim.Native.Nat.{ℕ, _+_, _≤_, max}
+use Prim.Native.Nat.{ℕ, _+_, _≤_}
 use native.Mathlib.Omega.{arith}
-use mathlib.Core.Path.{_≡_, refl, sym, ap, _∙_, subst}
-use mathlib.Core.Logic.{_⊎_, inl, inr, ⊎-elim}
-use mathlib.Core.Bool.{Bool, true, false, cond}
-use Rattle.model.specs.Words.{same}
+use mathlib.Core.Path.{_≡_, refl, sym, subst}
+use mathlib.Core.Logic.{_⊎_, inl, inr}
+use mathlib.Core.Bool.{Bool, true, false}
 use Rattle.model.specs.Tree.{Tree, Trees, plain, atom, compare, join, quantifier, some, nil, cons}
 use Rattle.model.specs.Level.{Role, restriction, formula, operand, under, quantifierCost, greatest, greatestAll}
 use Rattle.model.specs.Joining.{parts, joined}

@@ -1,25 +1,24 @@
 -- One reduction: in every structure that extends the log, a policy and its residual are true together and false together;
 -- the residual is settled; and it is accepted, at no more levels. By induction on the policy's tree; at a quantifier, a
 -- tuple is an instance, or excluded, or stands in the last part.
-use Prim.Native.Nat.{ℕ, _+_, _≤_}
+use Prim.Native.Nat.{ℕ, _+_}
 use native.Mathlib.Omega.{arith}
 use mathlib.Core.Path.{_≡_, refl, sym, ap, _∙_, subst}
 use mathlib.Core.Logic.{_⊎_, inl, inr, ⊎-elim, _↔_, Iff·trans}
-use mathlib.Core.Bool.{Bool, true, false, not, cond, true≢false}
+use mathlib.Core.Bool.{Bool, true, false, cond, true≢false}
 use mathlib.Core.List.{List, [], _∷_, _++_, map, append-nil, List·Memᴰ, List·Memᴰ·head, List·Memᴰ·tail}
 use lib.ListN.{length, length-append}
 use lib.Dec.{ltb}
 use lib.IntN.{ℤ}
 use Rattle.model.specs.Words.{Words, same, member}
-use Rattle.model.specs.Lists.{span, all}
-use Rattle.model.specs.Answer.{Outcome, passed, ask, _>>=_}
+use Rattle.model.specs.Answer.{_>>=_}
 use Rattle.model.specs.Log.{Value, known, unknown, valueIn}
 use Rattle.model.specs.Tree.{Term, Tree, Trees, plain, atom, compare, join, quantifier, some, nil, cons}
 use Rattle.model.specs.Truth.{Structure, Extends, Is, Every, One, numberOf, sumAtMost}
 use Rattle.model.specs.Putting.{put}
-use Rattle.model.specs.Joining.{append, joined}
+use Rattle.model.specs.Joining.{append}
 use Rattle.model.specs.Reduction.{settle, closed, each, instances, reduce, reduceAll}
-use Rattle.laws.specs.Words.{decide, clash, member-true, mem-member, member-append, same-same, same-comm, or-cases, or-left, or-right, or-false-left, or-false-right}
+use Rattle.laws.specs.Words.{clash, member-true, mem-member, member-append, same-same, same-comm, or-left, or-false-left}
 use Rattle.laws.specs.Modes.{Moded, ModedAll}
 use Rattle.laws.specs.Formed.{Formed, FormedAll}
 use Rattle.laws.specs.Log.{Sound, known-same}

@@ -1,25 +1,23 @@
 -- The run claim, by induction on the list of calls: a call that is refused leaves the policy held as it was; one that is
 -- accepted leaves the words of the reduction of the tree held, which is a policy again, settled, and true and false as the
 -- tree held was.
-use Prim.Native.Nat.{ℕ, suc, _+_, _≤_, _-_, _/_}
+use Prim.Native.Nat.{ℕ, _≤_, _-_, _/_}
 use native.Mathlib.Omega.{arith}
-use mathlib.Core.Path.{_≡_, refl, sym, ap, ap₂, _∙_, subst}
-use mathlib.Core.Logic.{_⊎_, inl, inr, ⊎-elim, _↔_, Iff·trans}
-use mathlib.Core.Bool.{Bool, true, false, not, _&&_, _||_, true≢false, false≢true}
-use mathlib.Core.List.{List, [], _∷_, _++_, append-nil, append-assoc}
-use lib.ListN.{length, take, drop}
+use mathlib.Core.Path.{_≡_, refl, sym, ap, _∙_, subst}
+use mathlib.Core.Logic.{⊎-elim, _↔_, Iff·trans}
+use mathlib.Core.Bool.{Bool, true, false, not, _&&_, _||_, false≢true}
+use mathlib.Core.List.{List, [], _∷_, _++_}
+use lib.ListN.{length, take}
 use lib.Seq.{take-at}
 use lib.Dec.{leb, eqb}
-use lib.IntN.{ℤ, pos}
 use borrow.Author.Tests.{leb-true}
-use Rattle.model.specs.declared.Answer.{Answer}
-use Rattle.model.specs.declared.Answer.the-variants.{Accepted, Refused}
+use Rattle.model.specs.declared.Answer.the-variants.{Accepted}
 use Rattle.model.specs.declared.Refusal.{Refusal}
 use Rattle.model.specs.declared.Refusal.the-variants.{Table, PolicyLength, Shape, Level, Predicate, Variable, Mode, LogLength, Row, Repeat, Scratch, Room}
-use Rattle.model.specs.Words.{Words, policyLimit, levelLimit, placeWords}
+use Rattle.model.specs.Words.{Words, policyLimit, placeWords}
 use Rattle.model.specs.Answer.{Outcome, passed, refused, ask, answer, question, number, count, _>>=_}
 use Rattle.model.specs.Table.{askTable}
-use Rattle.model.specs.Log.{rows, rowCount, front, askLog, valueIn}
+use Rattle.model.specs.Log.{rows, rowCount, front, askLog}
 use Rattle.model.specs.Tree.{Tree, encode}
 use Rattle.model.specs.Level.{formula, greatest}
 use Rattle.model.specs.Truth.{Structure, structure, Extends, Is}
@@ -27,9 +25,8 @@ use Rattle.model.specs.Reduction.{need, reduce}
 use Rattle.model.specs.Calls.{Result, zeros, filled, result, askPolicy, write, checkPolicy, checkLog, reduceCall}
 use Rattle.model.specs.Runs.{Call, accepted, Settled, leaves, next, after, held, results, clear, proviso, RunClaim, EveryRun}
 use Rattle.laws.specs.Words.{and-left, and-right, decide, clash}
-use Rattle.laws.specs.Answer.{passed-same, ask-passed, then-passed, pass-then}
+use Rattle.laws.specs.Answer.{passed-same, ask-passed, then-passed}
 use Rattle.laws.specs.Modes.{modes-moded}
-use Rattle.laws.specs.Formed.{Rules}
 use Rattle.laws.specs.Policy.{accepted-rules, rules-accepted}
 use Rattle.laws.specs.Log.{Sound, sound, front-accepted, rows-front, front-extends}
 use Rattle.laws.specs.Reduction.{reduce-is}

@@ -1,16 +1,13 @@
 -- After a reduction nothing is left outside quantifiers that the log decides, and no instance that it shows.
 -- By induction on the policy's tree: an atom stays only where its value is unknown, and every tuple at which a restriction
 -- is true is excluded or an instance.
-use Prim.Native.Nat.{ℕ, _+_}
-use mathlib.Core.Path.{_≡_, refl, sym, ap, _∙_, subst}
-use mathlib.Core.Logic.{_⊎_, inl, inr, ⊎-elim, _↔_}
-use mathlib.Core.Bool.{Bool, true, false, true≢false, cond}
-use mathlib.Core.List.{List, [], _∷_, _++_, map, append-nil, List·Memᴰ}
+use Prim.Native.Nat.{ℕ}
+use mathlib.Core.Path.{_≡_, refl, sym, _∙_, subst}
+use mathlib.Core.Bool.{Bool, true, false, true≢false}
+use mathlib.Core.List.{List, [], _++_, map, append-nil, List·Memᴰ}
 use lib.ListN.{length}
-use lib.Dec.{ltb}
 use lib.IntN.{ℤ}
 use Rattle.model.specs.Words.{Words, same, member}
-use Rattle.model.specs.Answer.{passed}
 use Rattle.model.specs.Log.{Value, known, unknown, valueIn}
 use Rattle.model.specs.Tree.{Term, Tree, Trees, plain, atom, compare, join, quantifier, some, nil, cons}
 use Rattle.model.specs.Truth.{Structure, Is, numberOf}

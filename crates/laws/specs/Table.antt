@@ -1,17 +1,15 @@
 -- What an accepted table is: its length, and the records in it.
-use Prim.Native.Nat.{ℕ, _*_, _/_, _%_, _≤_, _<_}
+use Prim.Native.Nat.{ℕ, _%_, _≤_, _<_}
 use native.Mathlib.Nat.{zero-add}
 use native.Mathlib.Omega.{arith}
-use mathlib.Core.Path.{_≡_, refl, sym, ap, _∙_, subst}
-use mathlib.Core.Bool.{Bool, true, false, _&&_}
+use mathlib.Core.Path.{_≡_}
+use mathlib.Core.Bool.{true, _&&_}
 use lib.ListN.{length}
 use lib.Dec.{leb, eqb}
-use lib.IntN.{natAbs}
 use borrow.Author.Tests.{leb-true, eqb-true}
 use Rattle.model.specs.declared.Refusal.the-variants.{Table}
-use Rattle.model.specs.Words.{Words, word, value, within}
-use Rattle.model.specs.Lists.{span}
-use Rattle.model.specs.Answer.{passed, ask, inTurn}
+use Rattle.model.specs.Words.{Words, value}
+use Rattle.model.specs.Answer.{passed, ask}
 use Rattle.model.specs.Table.{predicates, arity, goodRecord, askTable}
 use Rattle.laws.specs.Words.{and-left, and-right}
 use Rattle.laws.specs.Answer.{ask-passed, then-passed, inTurn-mem}

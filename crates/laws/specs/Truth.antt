@@ -1,14 +1,14 @@
 -- Truth in structures: nothing is both true and false, and what is true or false stays so in every extension.
 -- By induction on the tree, with both values of truth at once.
 use Prim.Native.Nat.{ℕ}
-use mathlib.Core.Path.{_≡_, refl, sym, ap, _∙_, subst}
+use mathlib.Core.Path.{_≡_, sym, _∙_}
 use mathlib.Core.Logic.{_⊎_, inl, inr, ⊎-elim, _↔_}
-use mathlib.Core.Bool.{Bool, true, false, not, cond, true≢false, false≢true}
+use mathlib.Core.Bool.{Bool, true, false, cond, true≢false, false≢true}
 use mathlib.Core.List.{List, [], _∷_, _++_, map}
 use lib.ListN.{length}
 use lib.IntN.{ℤ}
 use Rattle.model.specs.Words.{same, member}
-use Rattle.model.specs.Log.{Value, known, unknown}
+use Rattle.model.specs.Log.{Value, known}
 use Rattle.model.specs.Tree.{Tree, Trees, plain, atom, compare, join, quantifier, some, nil, cons}
 use Rattle.model.specs.Truth.{Structure, Extends, numberOf, Is, Every, One}
 use Rattle.laws.specs.Words.{clash}

@@ -1,10 +1,10 @@
 -- The four calls, as functions of their words and of the lengths of scratch and buffer.
 use Prim.Native.Nat.{ℕ, _-_, _/_}
 use mathlib.Core.Bool.{_&&_}
-use mathlib.Core.List.{List, [], _++_}
+use mathlib.Core.List.{[], _++_}
 use lib.ListN.{length, replicate}
 use lib.Dec.{leb}
-use lib.IntN.{ℤ, pos}
+use lib.IntN.{pos}
 use Rattle.model.specs.declared.Answer.{Answer}
 use Rattle.model.specs.declared.Refusal.the-variants.{Scratch, Room}
 use Rattle.model.specs.Words.{Words, placeWords, policyLimit}

@@ -7,7 +7,7 @@ use lib.IntN.{pos}
 use Rattle.model.specs.declared.Answer.{Answer}
 use Rattle.model.specs.Words.{Words}
 use Rattle.model.specs.Answer.{number, place, count}
-use Rattle.model.specs.Calls.{Result, zeros, checkPolicy, reduceCall}
+use Rattle.model.specs.Calls.{zeros, checkPolicy, reduceCall}
 use Rattle.model.specs.Words
 use Rattle.model.specs.Lists
 use Rattle.model.specs.Answer

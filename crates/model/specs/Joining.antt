@@ -1,5 +1,5 @@
 -- The join rule: one all-of or any-of of reduced parts. All-of, any-of and both quantifiers share it.
-use mathlib.Core.Bool.{Bool, true, false, not, cond, _||_}
+use mathlib.Core.Bool.{Bool, false, not, cond, _||_}
 use Rattle.model.specs.Words.{same}
 use Rattle.model.specs.Tree.{Tree, Trees, plain, atom, compare, join, quantifier, some, nil, cons}
 

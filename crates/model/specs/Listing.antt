@@ -1,12 +1,12 @@
 -- Environments, the listing of a restriction, and the entries of its lists.
-use Prim.Native.Nat.{ℕ, suc, _+_}
+use Prim.Native.Nat.{ℕ, _+_}
 use mathlib.Core.Bool.{Bool, true, false, not, cond, _&&_}
 use mathlib.Core.List.{List, [], _∷_, _++_, map}
-use lib.ListN.{length, getD, take}
+use lib.ListN.{length, getD}
 use lib.Dec.{ltb, eqb}
 use lib.IntN.{ℤ, pos}
 use Rattle.model.specs.Words.{Words, word, same, equal}
-use Rattle.model.specs.Lists.{span, keep, gather}
+use Rattle.model.specs.Lists.{keep, gather}
 use Rattle.model.specs.Log.{Value, known, unknown, arguments, saysTrue, valueIn}
 use Rattle.model.specs.Tree.{Term, constant, variable, Tree, Trees, plain, atom, compare, join, quantifier, some, nil, cons}
 use Rattle.model.specs.Truth.{sumAtMost}

@@ -1,6 +1,6 @@
 -- The log, questions 8, 9 and 10, and the value of a ground atom in a log.
-use Prim.Native.Nat.{ℕ, _+_, _*_, _/_, _%_}
-use mathlib.Core.Bool.{Bool, true, false, not, cond, _&&_}
+use Prim.Native.Nat.{ℕ, _*_, _/_, _%_}
+use mathlib.Core.Bool.{Bool, false, not, cond, _&&_}
 use mathlib.Core.List.{List, [], _∷_, map}
 use lib.ListN.{length, take, drop}
 use lib.Dec.{leb, eqb}

@@ -1,5 +1,5 @@
 -- Putting numbers in for the outer variables of a tree: they become constants, and greater variable numbers fall.
-use Prim.Native.Nat.{ℕ, _-_}
+use Prim.Native.Nat.{_-_}
 use mathlib.Core.Bool.{cond}
 use mathlib.Core.List.{List, map}
 use lib.ListN.{length, getD}

@@ -1,10 +1,10 @@
 -- The reading of a policy's words: questions 2 to 6. A list of words is refused, or gives its tree.
 use Prim.Native.Nat.{ℕ, zero, suc, _+_, _*_}
 use mathlib.Core.Bool.{Bool, true, false, cond, _&&_, _||_}
-use mathlib.Core.List.{List, [], _∷_, map}
+use mathlib.Core.List.{List, map}
 use lib.ListN.{length, take, drop}
 use lib.Dec.{leb, eqb}
-use lib.IntN.{ℤ, pos}
+use lib.IntN.{pos}
 use Rattle.model.specs.Words.{Words, word, value, atLeast, within, below, equal, policyLimit, levelLimit, scopeLimit}
 use Rattle.model.specs.Lists.{span, all}
 use Rattle.model.specs.Answer.{Outcome, passed, refused, ask, _>>=_}

@@ -1,6 +1,6 @@
 -- The reduction of a formula over a log, and its need of places.
 use Prim.Native.Nat.{ℕ, _+_, max}
-use mathlib.Core.Bool.{Bool, true, false, cond, _&&_}
+use mathlib.Core.Bool.{Bool, true, cond, _&&_}
 use mathlib.Core.List.{List, [], _∷_, _++_, map}
 use lib.ListN.{length}
 use lib.IntN.{ℤ}
@@ -11,7 +11,7 @@ use Rattle.model.specs.Log.{Value, known, unknown, valueIn}
 use Rattle.model.specs.Tree.{Tree, Trees, plain, atom, compare, join, quantifier, some, nil, cons}
 use Rattle.model.specs.Truth.{numberOf, sumAtMost}
 use Rattle.model.specs.Listing.{Environment, outer, numberIn, list, entries}
-use Rattle.model.specs.Putting.{put, putAll}
+use Rattle.model.specs.Putting.{put}
 use Rattle.model.specs.Joining.{append, joined}
 
 -- an atom of known value is plain; else it stays as it is

@@ -1,5 +1,4 @@
 -- The tags of nodes. Where two tags are each other's dual, a Bool tells them apart, true for the first of the two.
-use Prim.Native.Nat.{ℕ}
 use mathlib.Core.Bool.{Bool, true, false}
 use mathlib.Core.List.{List, [], _∷_}
 use lib.ListN.{getD}

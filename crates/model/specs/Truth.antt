@@ -8,7 +8,7 @@ use lib.ListN.{length, getD}
 use lib.IntN.{ℤ, pos, _+ℤ_}
 use lib.Signed.{leZ}
 use Rattle.model.specs.Words.{Words, same, member}
-use Rattle.model.specs.Log.{Value, known, unknown, rows, valueIn}
+use Rattle.model.specs.Log.{Value, known, rows, valueIn}
 use Rattle.model.specs.Tree.{Term, constant, variable, Tree, Trees, plain, atom, compare, join, quantifier, some, nil, cons}
 
 -- a partial structure gives each ground atom, a predicate at whole numbers, a value

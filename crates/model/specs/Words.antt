@@ -1,6 +1,6 @@
 -- Words, the limits of the format, and tests on words.
 -- A word is a signed number, and the contents of a slice are a list of words. Counts, places and indices are natural numbers.
-use Prim.Native.Nat.{ℕ, zero, suc}
+use Prim.Native.Nat.{ℕ}
 use mathlib.Core.Bool.{Bool, true, false, _&&_, _||_, Bool·beq}
 use mathlib.Core.List.{List, [], _∷_}
 use lib.ListN.{getD}

@@ -1,5 +1,5 @@
 -- `auditor::check_log` meets its contract, from what the two checks ensure.
-use mathlib.Core.Path.{_≡_, sym, ap, _∙_}
+use mathlib.Core.Path.{sym, ap, _∙_}
 use Rattle.model.specs.Log.{rowCount}
 use Rattle.laws.specs.Table.{accepted, short}
 use Rattle.checks.specs.Checked.{outcome}

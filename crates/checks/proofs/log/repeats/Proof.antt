@@ -1,7 +1,7 @@
 -- `checks::log::repeats` meets its contract: a search through the earlier rows for the row's atom.
 use Prim.Native.Nat.{ℕ, _+_, _*_, _-_}
 use native.Mathlib.Omega.{arith}
-use mathlib.Core.Path.{_≡_, refl, sym, ap, ap₂, _∙_}
+use mathlib.Core.Path.{_≡_, sym, ap, ap₂, _∙_}
 use lib.ListN.{take, drop}
 use Rattle.model.specs.Lists.{span}
 use Rattle.checks.specs.Search.{firstRow, repeatsAt}

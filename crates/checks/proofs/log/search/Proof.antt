@@ -1,14 +1,11 @@
 -- `checks::log::search` meets its contract. The outer invariant: the rows passed don't hold the atom, so the search comes to
 -- that through the rows left. The inner one: the row has the predicate, and holds the atom if its arguments from i on are
 -- the atom's. The measures are the rows left and the arguments left.
-use Prim.Native.Nat.{ℕ, suc, _+_, _*_, _-_, _≤_, _<_}
+use Prim.Native.Nat.{ℕ, _+_, _*_, _-_, _≤_}
 use native.Mathlib.Nat.{sub-zero}
 use native.Mathlib.Omega.{arith}
-use mathlib.Core.Path.{_≡_, refl, sym, ap, _∙_}
-use mathlib.Core.Bool.{true, false}
-use borrow.Author.Needs.{needs}
+use mathlib.Core.Path.{_≡_, sym, ap, _∙_}
 use borrow.Author.Tests.{not-true, not-false}
-use lib.ListN.{length}
 use Rattle.model.specs.Lists.{span}
 use Rattle.model.specs.Log.{rowAt, holds}
 use Rattle.checks.specs.Search.{firstRow}

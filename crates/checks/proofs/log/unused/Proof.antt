@@ -1,5 +1,5 @@
 -- `checks::log::unused` meets its contract. The invariant: the arguments passed are 0, so the test comes to that from i on.
-use Prim.Native.Nat.{ℕ, _-_, _≤_}
+use Prim.Native.Nat.{_-_, _≤_}
 use native.Mathlib.Omega.{arith}
 use mathlib.Core.Path.{_≡_, refl, sym, _∙_}
 use borrow.Author.Tests.{not-true, not-false}

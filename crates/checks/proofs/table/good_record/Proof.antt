@@ -1,6 +1,6 @@
 -- `checks::table::good_record` meets its contract: three tests, one after another.
 use Prim.Native.Nat.{ℕ, _^_, _-_}
-use mathlib.Core.Path.{_≡_, _∙_, sym, ap}
+use mathlib.Core.Path.{_∙_, sym, ap}
 use Rattle.laws.specs.ReadingWords.{within-value}
 use borrow.Author.Tests.{not-true, not-false}
 use Rattle.model.specs.Words.{value}

@@ -1,5 +1,5 @@
 -- `checks::table::masks` meets its contract: the shift does not wrap, since the arity is small.
-use Prim.Native.Nat.{ℕ, _*_, _%_, _^_, _-_, _≤_, _<_}
+use Prim.Native.Nat.{ℕ, _*_, _%_, _^_, _-_, _≤_}
 use native.Mathlib.Nat.{one-mul, mod-eq-of-lt}
 use native.Mathlib.Omega.{arith}
 use mathlib.Core.Path.{_≡_, ap, _∙_, sym, subst}

@@ -1,6 +1,6 @@
 -- `checks::words::magnitude` meets its contract: a negative word is taken from 0 in 64 bits, where that fits.
 use mathlib.Core.Path.{_≡_, _∙_, ap, sym, subst}
-use mathlib.Core.Bool.{Bool, true, false}
+use mathlib.Core.Bool.{true, false}
 use lib.Dec.{T}
 use lib.IntN.{ℤ, pos, natAbs, _-ℤ_}
 use lib.Signed.{ltZ, nonNeg}

@@ -1,6 +1,5 @@
 -- `checks::words::negative` meets its contract: past the end stands 0.
-use mathlib.Core.Path.{_≡_, _∙_, ap, sym}
-use Prim.Native.Nat.{ℕ}
+use mathlib.Core.Path.{_≡_, ap, sym}
 use borrow.Author.Needs.{needs}
 use lib.ListN.{getD, List·getD-eq-default}
 use lib.IntN.{ℤ, pos}

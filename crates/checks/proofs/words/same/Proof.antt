@@ -1,7 +1,7 @@
 -- `checks::words::same` meets its contract: the machine compares the words' bits.
 use borrow.Author.Needs.{needs}
 use lib.ListN.{getD}
-use lib.IntN.{ℤ, pos}
+use lib.IntN.{pos}
 use Rattle.model.specs.Words.{word}
 use Rattle.checks.proofs.Signed.{same-bits}
 use Rattle.checks.proofs.words.same.Statement.{statement}

@@ -1,5 +1,5 @@
 -- `checks::words::within` meets its contract: what is at least `low` is not negative, so its magnitude is compared.
-use mathlib.Core.Path.{_≡_, _∙_, ap, sym}
+use mathlib.Core.Path.{_∙_, ap, sym}
 use Prim.Native.Nat.{ℕ}
 use borrow.Author.Needs.{needs}
 use borrow.Author.Tests.{not-true, not-false}

@@ -1,0 +1,64 @@
+-- What the code's sets of variables and its walks say, as those of model.
+use Prim.Native.Nat.{ℕ, _+_, _*_, _^_, _≤_, _<_}
+use mathlib.Core.Path.{_≡_}
+use mathlib.Core.Bool.{Bool, true, false, _||_}
+use mathlib.Core.List.{List, map}
+use lib.ListN.{length, getD}
+use Rattle.model.specs.Words.{Words, value}
+use Rattle.model.specs.Answer.{Outcome, passed, refused}
+use Rattle.model.specs.Level.{Role}
+use Rattle.model.specs.Lists.{all, any}
+use Rattle.model.specs.Tree.{Term, Tree, Trees, count}
+use Rattle.model.specs.Reading.{places, termAt, inScope}
+use Rattle.model.specs.Mode.{Variables, isVariable, bindings, bindingsAll, bindingsAny}
+use Rattle.laws.specs.ReadingNodes.{Node, Nodes}
+use Rattle.checks.specs.declared.Checked.{Checked}
+use Rattle.checks.specs.declared.Checked.the-variants.{Passed, Refused}
+use Rattle.checks.specs.declared.mode.Bound.{Bound}
+
+-- the variables whose marks are set
+abbrev pub setOf : List Bool → Variables
+setOf marks = λ x. getD marks x false
+
+-- the n terms from an index on
+unfoldable pub termsAt : Words → Words → ℕ → ℕ → List Term
+termsAt table words first n = map (termAt table words) (places first n)
+
+-- a set with the variables among terms
+unfoldable pub withTerms : Variables → List Term → Variables
+withTerms bound ts = λ x. bound x || any (isVariable x) ts
+
+-- a node stands at a place; nodes stand there; an atom's own words stand there
+abbrev pub Here : Words → Words → Role → ℕ → ℕ → ℕ → Type 0
+Here table words role above scope at = (tree : Tree) × (next : ℕ) × Node table words role above scope at tree next
+
+abbrev pub HereAll : Words → Words → Role → ℕ → ℕ → ℕ → ℕ → Type 0
+HereAll table words role above scope n at =
+    (ts : Trees) × (next : ℕ) × (count ts ≡ n) × Nodes table words role above scope at ts next
+
+abbrev pub HereAtom : Words → Words → ℕ → Type 0
+HereAtom table words at =
+    (value words (at + 1) < 256)
+    × (value words (at + 2) ≤ 6)
+    × (at + 3 + 2 * value words (at + 2) < 2 ^ 64)
+    × ((t : Words) → all (inScope t words 16) (places (at + 3) (value words (at + 2))) ≡ true)
+
+-- what a walk of a restriction says: the outcome of the mode rule
+abbrev pub told : Checked → List Bool → Outcome Variables
+told Passed marks = passed (setOf marks)
+told (Refused q p) marks = refused q p
+
+-- a walk came to what the mode rule says; its marks are sixteen; and, if it passed, it came to the index behind
+pub record Came (o : Outcome Variables) (next : ℕ) (r : Bound) : Type 0 where
+  pub outcome : told (r .asked) (r .set) ≡ o
+  pub marks : length (r .set) ≡ 16
+  pub behind : r .asked ≡ Passed → r .next ≡ next
+
+abbrev pub Binds : Tree → Words → Variables → ℕ → ℕ → ℕ → Bound → Type 0
+Binds c table b scope at next r = Came (bindings c table b scope at) next r
+
+abbrev pub BindsAll : Trees → Words → Variables → ℕ → ℕ → ℕ → Bound → Type 0
+BindsAll ts table b scope at next r = Came (bindingsAll ts table b scope at) next r
+
+abbrev pub BindsAny : Trees → Words → Variables → ℕ → ℕ → ℕ → Bound → Type 0
+BindsAny ts table b scope at next r = Came (bindingsAny ts table b scope at) next r
