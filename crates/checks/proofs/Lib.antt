@@ -14,3 +14,6 @@ pub mod ModeAtoms
 pub mod ModeWalk
 pub mod ModeLoops
 pub mod ModeSome
+pub mod ModeFormulaSets
+pub mod ModeFormulaLoops
+pub mod ModeFormula

@@ -7,18 +7,20 @@ use crate::words;
 use model::Refusal;
 ghost use mathlib.Core.Path.{_≡_};
 ghost use mathlib.Core.Bool.{Bool, true, _&&_};
+ghost use lib.Dec.{ltb};
 ghost use mathlib.Core.List.{List};
 ghost use Prim.Native.Nat.{ℕ, _+_, _*_, _^_, _≤_, _<_};
 ghost use lib.ListN.{length};
 ghost use Rattle.model.specs.Words as W;
-ghost use Rattle.model.specs.Lists.{all};
+ghost use Rattle.model.specs.Lists.{all, span};
 ghost use Rattle.model.specs.Table.{input, predicates};
-ghost use Rattle.model.specs.Mode.{isBound, inputsBound};
-ghost use Rattle.model.specs.Reading.{places, termAt, inScope};
+ghost use Rattle.model.specs.Mode.{isBound, inputsBound, askModes};
+ghost use Rattle.model.specs.Reading.{places, termAt, inScope, isFormula};
 ghost use Rattle.model.specs.Level as L;
 ghost use Rattle.checks.specs.Checked.{outcome};
 ghost use Rattle.checks.specs.Node.{asRole};
 ghost use Rattle.checks.specs.Mode.{setOf, termsAt, withTerms, HereAtom, Here, HereAll, Binds, BindsAll, BindsAny};
+ghost use Rattle.checks.specs.Mode.{HereBoth, Asks, AsksAll, AsksBoth};
 ghost use Rattle.model.specs.Tree.{Term, Tree, Trees, atom, compare, some, count};
 ghost use Rattle.laws.specs.ReadingParts.{AtomParts, CompareParts};
 ghost use Rattle.laws.specs.ReadingNodes.{Node, Nodes};
@@ -29,6 +31,12 @@ pub struct Bound {
     pub asked: Checked,
     pub set: [bool; 16],
     pub next: usize,
+}
+
+// Whether the mode rule passed at a formula, and the index behind it.
+pub enum Moded {
+    Passed(usize),
+    Refused(Refusal, usize),
 }
 
 // The term at an index is a constant, or a variable of the set.
@@ -317,4 +325,124 @@ fn bind(
             next: at + 1,
         },
     }
+}
+
+// The variables below the next free one.
+fn outer(scope: usize) -> [bool; 16]
+    requires { ⌜ scope ≤ 16 ⌝ }
+    ensures { λ r. ⌜ (length r ≡ 16) × ((x : ℕ) → setOf r x ≡ ltb x scope) ⌝ }
+{
+    let mut set = [false; 16];
+    let mut i = 0;
+    while i < scope {
+        set[i] = true;
+        i += 1;
+    }
+    set
+}
+
+// The v variables from the next free one on are in the set.
+fn introduced(set: [bool; 16], scope: usize, v: usize) -> bool
+    requires { ⌜ scope + v ≤ 16 ⌝ }
+    ensures { λ r. ⌜ r ≡ all (setOf set) (span scope v) ⌝ }
+{
+    let mut i = 0;
+    while i < v {
+        if !set[scope + i] {
+            return false;
+        }
+        i += 1;
+    }
+    true
+}
+
+// n formulas one behind another, in one role under a node at the level above.
+fn formulas(
+    table: &[i32],
+    words: &[i32],
+    role: Role,
+    above: usize,
+    scope: usize,
+    n: usize,
+    at: usize,
+) -> Moded
+    requires { ⌜ (predicates (now table) ≤ 256) × (above ≤ 64) × (scope ≤ 16) × (isFormula (asRole role) ≡ true) × HereAll (now table) (now words) (asRole role) above scope n at ⌝ }
+    ensures { λ r. ⌜ AsksAll (now (table .entry)) (now (words .entry)) (asRole role) above scope n at r ⌝ }
+{
+    let mut next = at;
+    let mut i = 0;
+    while i < n {
+        let child = formula(table, words, role, above, scope, next);
+        let Moded::Passed(behind) = child else {
+            return child;
+        };
+        next = behind;
+        i += 1;
+    }
+    Moded::Passed(next)
+}
+
+// The restriction and the body of a quantifier at an index and a level, of v variables: the restriction stands at first.
+fn quantified(
+    table: &[i32],
+    words: &[i32],
+    level: usize,
+    scope: usize,
+    v: usize,
+    at: usize,
+    first: usize,
+) -> Moded
+    requires { ⌜ (predicates (now table) ≤ 256) × (level ≤ 64) × (scope + v ≤ 16) × HereBoth (now table) (now words) level (scope + v) first ⌝ }
+    ensures { λ r. ⌜ AsksBoth (now (table .entry)) (now (words .entry)) level scope v at first r ⌝ }
+{
+    let restriction = bind(table, words, outer(scope), level, scope + v, first);
+    let asked = restriction.asked;
+    if let Checked::Refused(q, p) = asked {
+        return Moded::Refused(q, p);
+    }
+    let set = restriction.set;
+    if !introduced(set, scope, v) {
+        return Moded::Refused(Refusal::Mode, at);
+    }
+    formula(
+        table,
+        words,
+        Role::Formula,
+        level,
+        scope + v,
+        restriction.next,
+    )
+}
+
+// The formula at an index, under a node at the level above, and the nodes below it.
+fn formula(table: &[i32], words: &[i32], role: Role, above: usize, scope: usize, at: usize) -> Moded
+    requires { ⌜ (predicates (now table) ≤ 256) × (above ≤ 64) × (scope ≤ 16) × (isFormula (asRole role) ≡ true) × Here (now table) (now words) (asRole role) above scope at ⌝ }
+    ensures { λ r. ⌜ Asks (now (table .entry)) (now (words .entry)) (asRole role) above scope at r ⌝ }
+{
+    let tag = node::tag_at(words, at);
+    let level = above + node::cost(role, tag);
+    let next = at + node::size(words, tag, at);
+    match tag {
+        Tag::Join(b) => {
+            let n = words::value(words, at + 1);
+            formulas(table, words, node::under(role, b), level, scope, n, next)
+        }
+        Tag::Quantifier(_) => {
+            let v = words::value(words, at + 1);
+            quantified(table, words, level, scope, v, at, next)
+        }
+        _ => Moded::Passed(next),
+    }
+}
+
+// Question 7 of a policy that was read.
+pub fn check_modes(table: &[i32], words: &[i32]) -> Checked
+    requires { ⌜ (predicates (now table) ≤ 256) × Here (now table) (now words) L.Role.formula 0 0 0 ⌝ }
+    ensures { λ r. ⌜ ((tree : Tree) (next : ℕ) → Node (now (table .entry)) (now (words .entry)) L.Role.formula 0 0 0 tree next → outcome r ≡ askModes tree (now (table .entry)) 0 0) ⌝ }
+{
+    let root = formula(table, words, Role::Formula, 0, 0, 0);
+    if let Moded::Refused(q, p) = root {
+        return Checked::Refused(q, p);
+    }
+    Checked::Passed
 }
