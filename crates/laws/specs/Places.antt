@@ -190,7 +190,7 @@ mutual
       modes-all-within ts table scope (at + size t) n (k .1) (omega arith)
 
 -- less room is room
-within-more : {A : Type 0} (n m : ℕ) (o : Outcome A) → n ≤ m → Within n o → Within m o
+pub within-more : {A : Type 0} (n m : ℕ) (o : Outcome A) → n ≤ m → Within n o → Within m o
 within-more n m (refused r p) h k = omega arith
 within-more n m (passed a) h k = tt
 
@@ -201,7 +201,7 @@ within-turn n questions (x ∷ l) h =
     within-then _ (questions x) _ (h x (List·Memᴰ·head refl)) λ _ _. within-turn n questions l (λ y m. h y (List·Memᴰ·tail m))
 
 -- question 1
-table-within : (table : Words) → Within 256 (askTable table)
+pub table-within : (table : Words) → Within 256 (askTable table)
 unfolding askTable
 table-within table =
     within-then _ (ask _ Table 0) _ (within-ask _ Table 0 256 (omega arith)) λ _ e.
