@@ -1,2 +1,9 @@
 -- Laws that several proofs of this crate cite.
 pub mod Calls
+pub mod DualBuffer
+pub mod DualTrees
+pub mod DualBehind
+pub mod DualAfter
+pub mod DualSwap
+pub mod DualFormed
+pub mod DualCall

@@ -2,19 +2,26 @@
 use Prim.Native.Nat.{ℕ, _+_, _*_, _^_, _≤_, _<_}
 use native.Mathlib.Omega.{arith}
 use mathlib.Core.Path.{_≡_, refl}
+use mathlib.Core.Bool.{_&&_}
+use lib.ListN.{length}
+use lib.Dec.{leb}
+use borrow.Author.Tests.{leb-true}
 use Rattle.model.specs.declared.Answer.the-variants.{Accepted, Refused}
 use Rattle.model.specs.declared.Refusal.{Refusal}
 use Rattle.model.specs.declared.Refusal.the-variants.{Table, PolicyLength, Shape, Level, Predicate, Variable, Mode, LogLength, Row, Repeat, Scratch, Room}
 use Rattle.model.specs.Words.{Words, policyLimit}
-use Rattle.model.specs.Answer.{Outcome, passed, refused, answer, question, number, place, count, _>>=_}
+use Rattle.model.specs.Answer.{Outcome, passed, refused, ask, answer, question, number, place, count, _>>=_}
 use Rattle.model.specs.Level.{formula, greatest}
 use Rattle.model.specs.Table.{askTable}
 use Rattle.model.specs.Log.{rowCount, askLog}
-use Rattle.model.specs.Calls.{askPolicy, checkPolicy, checkLog}
-use Rattle.laws.specs.Answer.{both-passed}
+use Rattle.model.specs.Tree.{Tree, encode}
+use Rattle.model.specs.Dual.{dual}
+use Rattle.model.specs.Calls.{askPolicy, write, result, checkPolicy, checkLog, dualCall}
+use Rattle.laws.specs.Words.{and-right}
+use Rattle.laws.specs.Answer.{ask-passed, passed-same, both-passed}
 use Rattle.laws.specs.Policy.{accepted-rules}
 use Rattle.laws.specs.Log.{accepted}
-use Rattle.laws.specs.Places.{Within, within-then, within-more, table-within, policy-within, log-within}
+use Rattle.laws.specs.Places.{Within, within-ask, within-then, within-more, table-within, policy-within, log-within}
 use Rattle.exports.specs.Packing.{packed, Packs}
 
 pub question-small : (r : Refusal) → question r ≤ 12
@@ -60,3 +67,20 @@ log-packs table log =
     (within-then _ (askTable table) _ (within-more 256 policyLimit (askTable table) (omega arith) (table-within table)) λ _ _.
     within-more 4096 policyLimit (askLog table log) (omega arith) (log-within table log))
     λ _ e. both-passed _ _ e λ _ t l. omega (arith, accepted table log l .short)
+
+-- what is written is not too long
+written-short : (room : ℕ) (tree : Tree) (ws : Words) → write room tree ≡ passed ws → length ws ≤ policyLimit
+unfolding write
+written-short room tree ws e =
+    both-passed (ask (leb (length (encode tree)) room && leb (length (encode tree)) policyLimit) Room 0) _ e λ _ asked same.
+    rw (← passed-same same)
+    (leb-true (length (encode tree)) policyLimit (and-right (leb (length (encode tree)) room) _ (ask-passed _ Room 0 asked)))
+
+pub dual-packs : (table policy : Words) (room : ℕ) → Packs (dualCall table policy room .answer)
+unfolding dualCall result write
+dual-packs table policy room =
+    packs length (askPolicy table policy >>= λ tree. write room (dual tree))
+    (within-then _ (askPolicy table policy) _ (policy-within table policy) λ tree _.
+    within-then _ (ask _ Room 0) _ (within-ask _ Room 0 policyLimit (omega arith)) λ _ _. tt)
+    λ ws e.
+    both-passed (askPolicy table policy) _ e λ tree _ w. omega (arith, written-short room (dual tree) ws w)

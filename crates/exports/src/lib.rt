@@ -1,30 +1,9 @@
 // The calls of the auditor for other languages, each answer packed into one number.
 ghost use mathlib.Core.Path.{_≡_};
-ghost use Rattle.model.specs.Answer.{question};
+ghost use lib.ListN.{length};
 ghost use Rattle.model.specs.Calls as C;
 ghost use Rattle.exports.specs.Packing.{packed, Packs};
 use model::Answer;
-use model::Refusal;
-
-// The number of the question that a refusal answers with no.
-fn number(refusal: Refusal) -> u64
-    ensures { λ r. ⌜ r ≡ question refusal ⌝ }
-{
-    match refusal {
-        Refusal::Table => 1,
-        Refusal::PolicyLength => 2,
-        Refusal::Shape => 3,
-        Refusal::Level => 4,
-        Refusal::Predicate => 5,
-        Refusal::Variable => 6,
-        Refusal::Mode => 7,
-        Refusal::LogLength => 8,
-        Refusal::Row => 9,
-        Refusal::Repeat => 10,
-        Refusal::Scratch => 11,
-        Refusal::Room => 12,
-    }
-}
 
 // Number, place and count of an answer, in one number.
 fn pack(answer: Answer) -> u64
@@ -34,7 +13,7 @@ fn pack(answer: Answer) -> u64
     match answer {
         Answer::Accepted(count) => count as u64,
         Answer::Refused(refusal, place) => {
-            let n = number(refusal);
+            let n = model::number(refusal);
             n * 281474976710656 + place as u64 * 16777216
         }
     }
@@ -55,5 +34,20 @@ pub extern "C" fn vh_check_log(table: &[i32], log: &[i32]) -> u64
     ensures { λ r. ⌜ r ≡ packed (C.checkLog (now (table .entry)) (now (log .entry))) ⌝ }
 {
     let answer = auditor::check_log(table, log);
+    pack(answer)
+}
+
+// Writes the dual of a policy: questions 1 to 7 and 12. The count is its length. The rest of the buffer, or all of it if the
+// call is refused, becomes zero.
+#[no_mangle]
+pub extern "C" fn vh_dual(table: &[i32], policy: &[i32], buffer: &mut [i32]) -> u64
+    ensures { λ r. ⌜
+        r ≡ packed (C.dualCall (now (table .entry)) (now (policy .entry)) (length (now (buffer .entry))) .answer)
+        ⌝ }
+    ensures { λ _. ⌜
+        now (buffer .exit) ≡ C.dualCall (now (table .entry)) (now (policy .entry)) (length (now (buffer .entry))) .buffer
+        ⌝ }
+{
+    let answer = auditor::dual(table, policy, buffer);
     pack(answer)
 }

@@ -1,8 +1,8 @@
--- `exports::number` meets its contract, case by case.
+-- `model::number` meets its contract, case by case.
 use Rattle.model.specs.Answer.{question}
 use borrow.Author.Needs.{needs}
-use Rattle.exports.proofs.number.Statement.{statement}
-use Rattle.exports.proofs.number.Tie as tie
+use Rattle.model.proofs.number.Statement.{statement}
+use Rattle.model.proofs.number.Tie as tie
 
 enum-told : tie.Need-enum-told
 enum-told c = search needs

@@ -1,0 +1,38 @@
+// Lines on standard output.
+
+// A number, in decimal digits.
+pub fn number(n: usize) {
+    let mut digits = [b'0'; 20];
+    let mut rest = n;
+    let mut first = 19;
+    let mut i = 20;
+    while 0 < i {
+        i -= 1;
+        let digit = rest % 10;
+        digits[i] = 48 + digit as u8;
+        if 0 < digit {
+            first = i;
+        }
+        rest = rest / 10;
+    }
+    io::write_all(1, &digits[first..]);
+}
+
+// A word.
+fn word(words: &[i32], i: usize) {
+    if checks::words::negative(words, i) {
+        io::write_all(1, b"-");
+    }
+    number(checks::words::value(words, i));
+}
+
+// Words, each behind a space, to the end of the line.
+pub fn words(words: &[i32]) {
+    let mut i = 0;
+    while i < words.len() {
+        io::write_all(1, b" ");
+        word(words, i);
+        i += 1;
+    }
+    io::write_all(1, b"\n");
+}

@@ -1,0 +1,20 @@
+//! Random tables, logs and policies for the tests and the benchmark.
+//!
+//! Everything is made from a seed, so that a failure can be had again. Good inputs are good by construction; damaged
+//! ones are close to good ones, or not.
+
+mod damage;
+mod logs;
+mod policies;
+mod random;
+mod recipe;
+mod shrink;
+mod tables;
+
+pub use damage::{boundary_word, damage, noise};
+pub use logs::{damaged_log, full_log, good_log, FULL_LOG_TABLE};
+pub use policies::{long_policy, policy};
+pub use random::Random;
+pub use recipe::Recipe;
+pub use shrink::shrink;
+pub use tables::{damaged_table, good_table, small_table};

@@ -1,0 +1,74 @@
+//! Random logs.
+
+use std::collections::BTreeSet;
+
+use crate::damage::{boundary_word, damage};
+use crate::Random;
+
+const ROW: usize = 8;
+
+/// A good log with at most so many rows. Its arguments are 0 to `values` - 1.
+pub fn good_log(random: &mut Random, table: &[i32], most_rows: usize, values: usize) -> Vec<i32> {
+    let rows = random.below(most_rows + 1);
+    let mut seen = BTreeSet::new();
+    let mut words = Vec::new();
+    for _ in 0..rows {
+        let predicate = random.below(table.len() / 3);
+        let mut atom = [0; 7];
+        atom[0] = predicate as i32;
+        for argument in &mut atom[1..=table[3 * predicate] as usize] {
+            *argument = random.below(values) as i32;
+        }
+        if seen.insert(atom) {
+            words.extend([atom[0], i32::from(!random.once_in(4))]);
+            words.extend(&atom[1..]);
+        }
+    }
+    words
+}
+
+/// A log that is likely to be bad: a row repeated, a bad word in a row, or words changed anywhere.
+pub fn damaged_log(random: &mut Random, table: &[i32], most_rows: usize) -> Vec<i32> {
+    let mut words = good_log(random, table, most_rows, 5);
+    let rows = words.len() / ROW;
+    for _ in 0..random.between(1, 2) {
+        if rows == 0 || random.once_in(4) {
+            damage(random, &mut words);
+            continue;
+        }
+        let row = ROW * random.below(rows);
+        let Some(copy) = words.get(row..row + ROW).map(<[i32]>::to_vec) else {
+            continue;
+        };
+        match random.below(4) {
+            0 => {
+                // The same atom again, somewhere behind, with either truth.
+                let mut copy = copy;
+                copy[1] = random.below(2) as i32;
+                let behind = words.len() / ROW - row / ROW;
+                let place = row + ROW * random.between(1, behind);
+                words.splice(place..place, copy);
+            }
+            1 => {
+                let predicates = (table.len() / 3) as i32;
+                words[row] = random.pick(&[-1, predicates, i32::MIN, i32::MAX]);
+            }
+            2 => words[row + 1] = boundary_word(random),
+            _ => words[row + random.between(3, 7)] = boundary_word(random),
+        }
+    }
+    words
+}
+
+/// The table that [`full_log`] belongs to.
+pub const FULL_LOG_TABLE: [i32; 6] = [3, 0, 0, 6, 0, 1];
+
+/// So many rows with different atoms that differ late or early in their arguments.
+pub fn full_log(rows: usize) -> Vec<i32> {
+    let row = |number: i32| match number % 3 {
+        0 => [0, 1, number, 7, 7, 0, 0, 0],
+        1 => [1, 0, 7, 7, 7, 7, 7, number],
+        _ => [0, number / 3 % 2, 7, 7, number, 0, 0, 0],
+    };
+    (0..rows as i32).flat_map(row).collect()
+}

@@ -1,0 +1,98 @@
+//! Why and where a call is refused.
+
+use std::error::Error;
+use std::fmt;
+
+/// The question that was answered with "no". The calls put them in this order.
+#[derive(Clone, Copy, Debug, PartialEq, Eq, PartialOrd, Ord, Hash)]
+pub enum Refusal {
+    /// 1: the table has a bad length (place 0) or a bad record (place: the predicate).
+    Table = 1,
+    /// 2: the policy has no word or too many (place 0).
+    PolicyLength = 2,
+    /// 3: a node is malformed or not allowed there, a node is missing, or words follow the tree (place: a word).
+    Shape = 3,
+    /// 4: a node lies deeper than 64 levels (place: its first word).
+    Level = 4,
+    /// 5: an atom's predicate does not exist or has another arity (place: the atom's first word).
+    Predicate = 5,
+    /// 6: a variable is out of scope, or more than 16 would be in scope (place: the node's first word).
+    Variable = 6,
+    /// 7: the mode rule is broken (place: the first word of the atom, "some" or quantifier).
+    Mode = 7,
+    /// 8: the log has a bad length (place 0).
+    LogLength = 8,
+    /// 9: a row is bad by itself (place: the row).
+    Row = 9,
+    /// 10: an earlier row holds the same atom (place: the row).
+    Repeat = 10,
+    /// 11: scratch has too few places (place 0).
+    Scratch = 11,
+    /// 12: the result has more words than the buffer, or too many (place 0).
+    Room = 12,
+}
+
+impl Refusal {
+    /// All refusals, by their numbers.
+    pub const ALL: [Refusal; 12] = [
+        Refusal::Table,
+        Refusal::PolicyLength,
+        Refusal::Shape,
+        Refusal::Level,
+        Refusal::Predicate,
+        Refusal::Variable,
+        Refusal::Mode,
+        Refusal::LogLength,
+        Refusal::Row,
+        Refusal::Repeat,
+        Refusal::Scratch,
+        Refusal::Room,
+    ];
+
+    /// The number of the question, 1 to 12.
+    pub const fn number(self) -> u32 {
+        self as u32
+    }
+
+    /// The refusal with a number, if it is 1 to 12.
+    pub fn from_number(number: u32) -> Option<Refusal> {
+        Refusal::ALL.into_iter().find(|refusal| refusal.number() == number)
+    }
+}
+
+impl fmt::Display for Refusal {
+    fn fmt(&self, f: &mut fmt::Formatter<'_>) -> fmt::Result {
+        f.write_str(match self {
+            Refusal::Table => "the predicate table is not good",
+            Refusal::PolicyLength => "the policy has no word or too many",
+            Refusal::Shape => "the policy's words do not make up one tree",
+            Refusal::Level => "a node lies too deep",
+            Refusal::Predicate => "an atom does not fit a predicate",
+            Refusal::Variable => "a variable is out of scope, or too many are in scope",
+            Refusal::Mode => "the mode rule is broken",
+            Refusal::LogLength => "the log's length is not good",
+            Refusal::Row => "a row of the log is not good",
+            Refusal::Repeat => "a row repeats the atom of an earlier one",
+            Refusal::Scratch => "scratch has too few places",
+            Refusal::Room => "the result does not fit the buffer",
+        })
+    }
+}
+
+/// A refusal and its place: a word of the policy, a predicate of the table or a row of the log, as [`Refusal`] tells.
+#[derive(Clone, Copy, Debug, PartialEq, Eq, Hash)]
+pub struct Refused {
+    /// The question that was answered with "no".
+    pub refusal: Refusal,
+    /// Where, counted from 0.
+    pub place: usize,
+}
+
+impl fmt::Display for Refused {
+    fn fmt(&self, f: &mut fmt::Formatter<'_>) -> fmt::Result {
+        let Refused { refusal, place } = self;
+        write!(f, "refused by question {} at {place}: {refusal}", refusal.number())
+    }
+}
+
+impl Error for Refused {}

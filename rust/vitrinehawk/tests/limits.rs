@@ -1,0 +1,163 @@
+//! Fixed inputs: the sixteen examples as far as the calls go, the greatest policies and logs, and absurd counts.
+
+use inputs::{full_log, long_policy, Random, FULL_LOG_TABLE};
+use vitrinehawk::{check_log, check_policy, dual, Refusal, Refused};
+
+/// send (open), consent (complete), believes (its argument is an input, open).
+const T: [i32; 9] = [3, 0, 0, 2, 0, 1, 1, 1, 0];
+
+const MOST_WORDS: usize = 1_048_576;
+
+fn refused(refusal: Refusal, place: usize) -> Result<usize, Refused> {
+    Err(Refused { refusal, place })
+}
+
+/// Checks that the dual has the policy's length, that it is accepted too, and that its dual is the policy.
+fn check_duals(table: &[i32], policy: &[i32]) {
+    let mut opposite = vec![-1; policy.len() + 5];
+    assert_eq!(dual(table, policy, &mut opposite), Ok(policy.len()));
+    let (opposite, rest) = opposite.split_at(policy.len());
+    assert_eq!(rest, [0; 5]);
+    assert_ne!(opposite, policy);
+    assert_eq!(check_policy(table, opposite), check_policy(table, policy));
+    let mut back = vec![-1; policy.len()];
+    assert_eq!(dual(table, opposite, &mut back), Ok(policy.len()));
+    assert!(back == policy);
+    let mut short = vec![-1; policy.len() - 1];
+    assert_eq!(dual(table, policy, &mut short), refused(Refusal::Room, 0));
+    assert!(short.iter().all(|word| *word == 0));
+}
+
+#[test]
+fn the_examples() {
+    let nested = |all_ofs: usize| [[6, 2, 1].repeat(all_ofs), vec![1]].concat();
+    let examples: [(&[i32], usize); 12] = [
+        (&[2, 0, 3, 0, 7, 0, 9, 0, 100], 1),
+        (&[2, 1, 2, 0, 9, 0, 51], 1),
+        (&[2, 2, 1, 0, 9], 1),
+        (&[3, 1, 2, 0, 9, 0, 51], 1),
+        (&[6, 2, 1, 2, 2, 1, 0, 9], 2),
+        (&[6, 2, 2, 2, 1, 0, 9, 0], 2),
+        (&[4, 50, 0, 50, 0, 100], 1),
+        (&[4, 51, 0, 50, 0, 100], 1),
+        (&[8, 3, 0, 2, 0, 3, 1, 0, 1, 1, 1, 2, 2, 2, 1, 1, 1], 3),
+        (&[9, 1, 0, 2, 1, 2, 0, 9, 1, 0, 4, 0, 1, 0, 0, 100], 3),
+        (&nested(63), 64),
+        (&[1], 1),
+    ];
+    for (policy, level) in examples {
+        assert_eq!(check_policy(&T, policy), Ok(level), "{policy:?}");
+        check_duals(&T, policy);
+    }
+    assert_eq!(
+        check_policy(&T, &[8, 1, 0, 2, 2, 1, 1, 0, 1]),
+        refused(Refusal::Mode, 3)
+    );
+    assert_eq!(check_policy(&T, &[8, 1, 0, 1, 1]), refused(Refusal::Mode, 0));
+    assert_eq!(check_policy(&T, &nested(64)), refused(Refusal::Level, 191));
+    let log_a = [0, 1, 7, 9, 100, 0, 0, 0, 1, 1, 9, 50, 0, 0, 0, 0];
+    assert_eq!(check_log(&T, &log_a), Ok(2));
+    assert_eq!(check_log(&T, &[]), Ok(0));
+}
+
+#[test]
+fn the_longest_policies() {
+    // Wide: one all-of with a million children.
+    let mut wide = vec![1; MOST_WORDS];
+    wide[..2].copy_from_slice(&[6, MOST_WORDS as i32 - 2]);
+    assert_eq!(check_policy(&T, &wide), Ok(2));
+    check_duals(&T, &wide);
+
+    // Mixed: children of all kinds.
+    let mut random = Random::new(0x5EED_0003);
+    let mixed = long_policy(&mut random, &T, MOST_WORDS);
+    assert_eq!(mixed.len(), MOST_WORDS);
+    assert_eq!(check_policy(&T, &mixed), Ok(64));
+    check_duals(&T, &mixed);
+
+    // One quantifier with many excluded tuples.
+    let front = [8, 4, 262_141];
+    let back = [6, 2, 2, 1, 2, 1, 0, 1, 1];
+    let mut excluded = [&front[..], &vec![-7; 4 * 262_141], &back, &[2, 1, 2, 1, 2, 1, 3, 1]].concat();
+    assert_eq!(excluded.len(), 1_048_584);
+    assert_eq!(check_policy(&T, &excluded), refused(Refusal::PolicyLength, 0));
+    excluded.drain(3..11);
+    excluded[2] -= 2;
+    assert_eq!(excluded.len(), MOST_WORDS);
+    assert_eq!(check_policy(&T, &excluded), Ok(4));
+    check_duals(&T, &excluded);
+}
+
+#[test]
+fn one_word_too_many() {
+    let mut words = vec![1; MOST_WORDS + 1];
+    words[..2].copy_from_slice(&[6, MOST_WORDS as i32 - 1]);
+    assert_eq!(check_policy(&T, &words), refused(Refusal::PolicyLength, 0));
+    let mut buffer = vec![3; MOST_WORDS + 1];
+    assert_eq!(dual(&T, &words, &mut buffer), refused(Refusal::PolicyLength, 0));
+    assert!(buffer.iter().all(|word| *word == 0));
+    // Nothing but its length counts.
+    assert_eq!(
+        check_policy(&T, &vec![-9; MOST_WORDS + 1]),
+        refused(Refusal::PolicyLength, 0)
+    );
+    assert_eq!(check_policy(&T, &[]), refused(Refusal::PolicyLength, 0));
+}
+
+#[test]
+fn places_at_the_end() {
+    // The last place of all: a missing node behind the greatest number of words.
+    let mut words = vec![0; MOST_WORDS];
+    words[..2].copy_from_slice(&[7, i32::MAX]);
+    assert_eq!(check_policy(&T, &words), refused(Refusal::Shape, MOST_WORDS));
+    // The last word, behind the tree.
+    words[1] = MOST_WORDS as i32 - 3;
+    assert_eq!(check_policy(&T, &words), refused(Refusal::Shape, MOST_WORDS - 1));
+    // A node at the last word.
+    words[1] = MOST_WORDS as i32 - 2;
+    words[MOST_WORDS - 1] = 6;
+    assert_eq!(check_policy(&T, &words), refused(Refusal::Shape, MOST_WORDS - 1));
+}
+
+#[test]
+fn absurd_counts() {
+    let most = i32::MAX;
+    for tag in [6, 7] {
+        assert_eq!(check_policy(&T, &[tag, most]), refused(Refusal::Shape, 2));
+        assert_eq!(check_policy(&T, &[tag, most, 1, 1, 1]), refused(Refusal::Shape, 5));
+        assert_eq!(
+            check_policy(&T, &[8, 1, 0, tag, most, 1, 1]),
+            refused(Refusal::Shape, 7)
+        );
+    }
+    // Nested ones.
+    assert_eq!(check_policy(&T, &[6, most].repeat(64)), refused(Refusal::Shape, 128));
+    assert_eq!(check_policy(&T, &[6, most].repeat(65)), refused(Refusal::Level, 128));
+    for tag in [8, 9] {
+        for variables in 1..=4 {
+            for tuples in [most, 1 << 30, (1 << 30) + 1, 1 << 29] {
+                let policy = [tag, variables, tuples, 1, 1, 1, 1];
+                assert_eq!(check_policy(&T, &policy), refused(Refusal::Shape, 0));
+                assert_eq!(dual(&T, &policy, &mut [1; 7]), refused(Refusal::Shape, 0));
+            }
+        }
+    }
+}
+
+#[test]
+fn the_longest_logs() {
+    let log = full_log(4097);
+    let rows = |count: usize| &log[..8 * count];
+    assert_eq!(check_log(&FULL_LOG_TABLE, rows(4096)), Ok(4096));
+    assert_eq!(check_log(&FULL_LOG_TABLE, rows(4097)), refused(Refusal::LogLength, 0));
+    assert_eq!(
+        check_log(&FULL_LOG_TABLE, &log[..8 * 4096 + 1]),
+        refused(Refusal::LogLength, 0)
+    );
+    // The last row repeats the first, or is bad.
+    let mut repeated = rows(4096).to_vec();
+    repeated.copy_within(0..8, 8 * 4095);
+    assert_eq!(check_log(&FULL_LOG_TABLE, &repeated), refused(Refusal::Repeat, 4095));
+    repeated[8 * 4095 + 7] = 1;
+    assert_eq!(check_log(&FULL_LOG_TABLE, &repeated), refused(Refusal::Row, 4095));
+}
