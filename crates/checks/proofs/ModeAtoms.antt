@@ -1,6 +1,6 @@
 -- The mode rule at an atom and at a comparison, by the tests that the code makes.
 use Prim.Native.Nat.{ℕ, _+_, _*_}
-use mathlib.Core.Path.{_≡_, refl, sym, ap, ap₂, _∙_}
+use mathlib.Core.Path.{_≡_, sym, ap, ap₂, _∙_}
 use mathlib.Core.Bool.{Bool, true, false, _&&_}
 use mathlib.Core.List.{List, [], _∷_, map}
 use lib.ListN.{length}
@@ -17,6 +17,7 @@ use Rattle.laws.specs.ReadingItems.{two-places}
 use Rattle.checks.specs.Mode.{setOf, termsAt, withTerms, Binds}
 use Rattle.checks.specs.declared.Checked.{Checked}
 use Rattle.checks.specs.declared.Checked.the-variants.{Passed, Refused}
+use Rattle.checks.proofs.ModeTerms.{and-true}
 
 -- the own words of an atom
 pub record AtomWords (table words : Words) (at next p : ℕ) (ts : List Term) : Type 0 where
@@ -69,11 +70,7 @@ module _ (table : Words) (b : Variables) (scope at : ℕ) where
 
   both-of : (x y : Term) → all (isBound b) (x ∷ y ∷ []) ≡ (isBound b x && isBound b y)
   unfolding all
-  both-of x y = ap (λ (c : Bool). isBound b x && c) (and-true-right (isBound b y))
-    where
-      and-true-right : (c : Bool) → (c && true) ≡ c
-      and-true-right true = refl
-      and-true-right false = refl
+  both-of x y = ap (λ (c : Bool). isBound b x && c) (sym (and-true (isBound b y)))
 
   pub compare-no : (v : Bool) (d : ℤ) (x y : Term) → all (isBound b) (x ∷ y ∷ []) ≡ false → bindings (compare v d x y) table b scope at ≡ refused Mode at
   unfolding bindings ask _>>=_

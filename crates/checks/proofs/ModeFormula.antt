@@ -4,7 +4,7 @@ use Prim.Native.Nat.{ℕ, _+_, _*_, _≤_}
 use native.Mathlib.Omega.{arith}
 use native.Mathlib.Nat.{add-assoc}
 use mathlib.Core.Path.{_≡_, refl, sym, ap, _∙_, subst}
-use mathlib.Core.Bool.{Bool, true, false, true≢false}
+use mathlib.Core.Bool.{Bool, true, true≢false}
 use mathlib.Core.List.{List}
 use lib.ListN.{length}
 use lib.IntN.{ℤ, natAbs}
@@ -12,13 +12,14 @@ use Rattle.model.specs.Words.{Words, word, value, levelLimit, scopeLimit}
 use Rattle.model.specs.Answer.{Outcome}
 use Rattle.model.specs.Tag.{Tag, tagOf}
 use Rattle.model.specs.Tree.{Tree, Trees, plain, atom, compare, join, quantifier, some, count}
-use Rattle.model.specs.Level.{Role, restriction, formula, operand, under, quantifierCost, cost, greatest}
+use Rattle.model.specs.Level.{Role, restriction, formula, under, quantifierCost, cost, greatest}
 use Rattle.model.specs.Reading.{isFormula, own}
 use Rattle.model.specs.Mode.{size, askModes, askModesAll}
 use Rattle.laws.specs.Formed.{Formed}
 use Rattle.laws.specs.Level.{greatest-least}
 use Rattle.laws.specs.ReadingNodes.{Node, Nodes, under-kind}
 use Rattle.laws.specs.ReadingParts.{root, root-tag, plain-parts, atom-parts, compare-parts, join-parts, quantifier-parts, some-parts}
+use Rattle.laws.specs.ReadingBack.{cost-one}
 use Rattle.checks.specs.declared.mode.Moded.{Moded}
 use Rattle.checks.specs.declared.mode.Moded.the-variants as M
 use Rattle.checks.specs.Mode.{Here, HereAll, HereBoth, Both, toldModes, Asks, AsksAll, AsksBoth, askBoth}
@@ -28,22 +29,6 @@ use Rattle.checks.proofs.ModeWalk.{has}
 pub formula-kind : isFormula formula ≡ true
 unfolding isFormula
 formula-kind = refl
-
--- a node costs at least 1
-cost-least : (role : Role) (tag : Tag) → 1 ≤ cost role tag
-unfolding cost quantifierCost
-cost-least role (Tag.plain b) = omega arith
-cost-least role (Tag.atom b) = omega arith
-cost-least role (Tag.compare b) = omega arith
-cost-least role (Tag.join b) = omega arith
-cost-least restriction (Tag.quantifier b) = omega arith
-cost-least formula (Tag.quantifier b) = omega arith
-cost-least (operand true) (Tag.quantifier true) = omega arith
-cost-least (operand true) (Tag.quantifier false) = omega arith
-cost-least (operand false) (Tag.quantifier true) = omega arith
-cost-least (operand false) (Tag.quantifier false) = omega arith
-cost-least role Tag.some = omega arith
-cost-least role Tag.unused = omega arith
 
 -- the tags of formulas with no node below them, and those that no formula has
 abbrev pub Leaf : Tag → Type 0
@@ -120,7 +105,7 @@ module _ {table words : Words} {role : Role} {above scope at : ℕ} {tag : Tag} 
   level-in = omega (arith, node .deep, level-fits table words role above scope at (node .here) tag (node .known))
 
   pub level-down : above + 1 ≤ level
-  level-down = omega (arith, node .deep, cost-least role tag)
+  level-down = omega (arith, node .deep, cost-one role tag)
 
   abbrev Tree-at : Tree → ℕ → Type 0
   Tree-at tree end = Node table words role above scope at tree end

@@ -18,14 +18,11 @@ use Rattle.checks.specs.declared.Checked.{Checked}
 use Rattle.checks.specs.declared.Checked.the-variants.{Passed, Refused}
 use Rattle.checks.specs.declared.mode.Bound.{Bound}
 use Rattle.checks.specs.Mode.{setOf, told, Here, HereAll, Binds, BindsAll, BindsAny}
+use Rattle.checks.proofs.ModeTerms.{and-true}
 
 -- an answer is not both
 pub not-both : {a : Checked} {q : Refusal} {p : ℕ} → a ≡ Refused q p → a ≡ Passed → ⊥
 not-both e w = let z : _≡_ {A = ℕ} 0 1 = cc in omega arith
-
-and-true : (c : Bool) → (c && true) ≡ c
-and-true true = refl
-and-true false = refl
 
 -- the variables of a set that also those bind who come next
 unfoldable pub meets : Variables → Outcome Variables → Outcome Variables
@@ -248,7 +245,7 @@ module _ (table words : Words) (above scope : ℕ) where
                 sym
                 (is
                 ∙ ap (λ (k : Trees). meets (setOf set) (bindingsAny k table (setOf bound) scope next)) (none .0)
-                ∙ ap passed (fun-ext (λ x. and-true (setOf set x))));
+                ∙ ap passed (fun-ext (λ x. sym (and-true (setOf set x)))));
             marks = l;
             behind = λ w. sym (none .1);
           }

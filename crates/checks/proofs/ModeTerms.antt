@@ -150,7 +150,7 @@ and-false : (c : Bool) → false ≡ (c && false)
 and-false true = refl
 and-false false = refl
 
-and-true : (c : Bool) → c ≡ (c && true)
+pub and-true : (c : Bool) → c ≡ (c && true)
 and-true true = refl
 and-true false = refl
 

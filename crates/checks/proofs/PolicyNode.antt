@@ -3,7 +3,7 @@ use Prim.Native.Nat.{ℕ, zero, suc, _+_, _*_, _≤_, _<_}
 use native.Mathlib.Omega.{arith}
 use native.Mathlib.Nat.{add-assoc}
 use mathlib.Core.Path.{_≡_, refl, sym, ap, _∙_}
-use mathlib.Core.Bool.{Bool, true, false, false≢true}
+use mathlib.Core.Bool.{Bool, true, false≢true}
 use mathlib.Core.List.{List}
 use lib.IntN.{ℤ}
 use lib.ListN.{length}
@@ -13,32 +13,17 @@ use Rattle.model.specs.Words.{Words, word, value, levelLimit, scopeLimit}
 use Rattle.model.specs.Answer.{Outcome, passed, refused, _>>=_}
 use Rattle.model.specs.Tag.{Tag, tagOf}
 use Rattle.model.specs.Tree.{Tree, Trees, join, quantifier, some}
-use Rattle.model.specs.Level.{Role, restriction, formula, operand, under, quantifierCost, cost, greatest}
+use Rattle.model.specs.Level.{Role, restriction, under, quantifierCost, cost, greatest}
 use Rattle.model.specs.Reading as R
 use Rattle.model.specs.Reading.{own, questions, build, readNode}
 use Rattle.laws.specs.ReadingNodes.{Reader, Asked, asked}
+use Rattle.laws.specs.ReadingBack.{cost-one}
 use Rattle.checks.specs.Checked.{outcome}
 use Rattle.checks.specs.declared.Checked.{Checked}
 use Rattle.checks.specs.Policy.{told, toldAll, toldBody, toldBoth, NodeTold, NodesTold, BothTold}
 use Rattle.checks.specs.declared.policy.Walked.{Walked}
 use Rattle.checks.specs.declared.policy.Walked.the-variants.{Read, Refused}
 use Rattle.checks.proofs.PolicyRead.{greatestAll-least}
-
--- a node costs at least 1
-pub cost-least : (role : Role) (tag : Tag) → 1 ≤ cost role tag
-unfolding cost quantifierCost
-cost-least role (Tag.plain b) = omega arith
-cost-least role (Tag.atom b) = omega arith
-cost-least role (Tag.compare b) = omega arith
-cost-least role (Tag.join b) = omega arith
-cost-least restriction (Tag.quantifier b) = omega arith
-cost-least formula (Tag.quantifier b) = omega arith
-cost-least (operand true) (Tag.quantifier true) = omega arith
-cost-least (operand true) (Tag.quantifier false) = omega arith
-cost-least (operand false) (Tag.quantifier true) = omega arith
-cost-least (operand false) (Tag.quantifier false) = omega arith
-cost-least role Tag.some = omega arith
-cost-least role Tag.unused = omega arith
 
 -- the node itself, with what was read of the nodes below it
 module _ (role : Role) (above : ℕ) where
@@ -148,7 +133,7 @@ module _ {table words : Words} {role : Role} {above scope at : ℕ} {tag : Tag} 
   level-fits = omega (arith, node .deep, answers .level)
 
   pub level-down : above + 1 ≤ level
-  level-down = omega (arith, node .deep, cost-least role tag)
+  level-down = omega (arith, node .deep, cost-one role tag)
 
   pub quantifier-range : {b : Bool} → tag ≡ Tag.quantifier b → scope + value words (at + 1) ≤ scopeLimit
   unfolding own
