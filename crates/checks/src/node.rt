@@ -295,10 +295,13 @@ pub fn questions(
     if !shape(words, tag, role, at) {
         return Checked::Refused(Refusal::Shape, at);
     }
-    if LEVEL_LIMIT - above < cost(role, tag) {
+    let left = LEVEL_LIMIT - above;
+    let spent = cost(role, tag);
+    let named = known(table, words, tag, at);
+    if left < spent {
         return Checked::Refused(Refusal::Level, at);
     }
-    if !known(table, words, tag, at) {
+    if !named {
         return Checked::Refused(Refusal::Predicate, at);
     }
     if !scoped(words, tag, scope, at) {

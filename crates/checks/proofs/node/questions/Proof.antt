@@ -19,42 +19,44 @@ returns c =
     (c .before .shape .ensures)
     (c .if1 .taken)
 
-sub-if2 : tie.Need-sub-if2
-sub-if2 c = search needs
+sub-left : tie.Need-sub-left
+sub-left c = search needs
 
 cost-requires : tie.Need-cost-requires
 cost-requires c κs = search needs
 
+known-requires : tie.Need-known-requires
+known-requires c κs = search needs
+
 returns-2 : tie.Need-returns-2
 returns-2 c =
-    let e = c .before .before in
+    let q = c .before .before in
+    let e = q .before in
     let s = e .before .before in
     let a = s .args in
     level-no (a .table .now) (a .words .now) (asTag (a .tag)) (asRole (a .role)) (a .above) (a .scope) (a .at)
     (e .before .shape .ensures)
     (e .if1 .left)
-    (omega (arith, c .before .cost .ensures, c .if2 .taken, s .pre))
+    (omega (arith, q .cost .ensures, c .if2 .taken, s .pre))
 
 -- the level is within the limit
 shallow :
     (c : tie.Else2) →
-    let s = c .before .before .before .before in
+    let s = c .before .before .before .before .before in
     s .args .above + cost (asRole (s .args .role)) (asTag (s .args .tag)) ≤ levelLimit
-shallow c = omega (arith, c .before .cost .ensures, c .if2 .left, c .before .before .before .before .pre)
-
-known-requires : tie.Need-known-requires
-known-requires c κs = search needs
+shallow c = omega (arith, c .before .before .cost .ensures, c .if2 .left, c .before .before .before .before .before .pre)
 
 returns-3 : tie.Need-returns-3
 returns-3 c =
-    let l = c .before .before in
-    let e = l .before .before in
+    let l = c .before in
+    let k = l .before in
+    let e = k .before .before in
     let a = e .before .before .args in
     predicate-no (a .table .now) (a .words .now) (asTag (a .tag)) (asRole (a .role)) (a .above) (a .scope) (a .at)
     (e .before .shape .ensures)
     (e .if1 .left)
     (shallow l)
-    (c .before .known .ensures)
+    (k .known .ensures)
     (c .if3 .taken)
 
 scoped-requires : tie.Need-scoped-requires
@@ -66,31 +68,33 @@ scoped-requires c κs =
 
 returns-4 : tie.Need-returns-4
 returns-4 c =
-    let k = c .before .before in
-    let l = k .before .before in
-    let e = l .before .before in
+    let t = c .before .before in
+    let l = t .before in
+    let k = l .before in
+    let e = k .before .before in
     let a = e .before .before .args in
     variable-no (a .table .now) (a .words .now) (asTag (a .tag)) (asRole (a .role)) (a .above) (a .scope) (a .at)
     (e .before .shape .ensures)
     (e .if1 .left)
     (shallow l)
-    (k .before .known .ensures)
-    (k .if3 .left)
+    (k .known .ensures)
+    (t .if3 .left)
     (c .before .scoped .ensures)
     (c .if4 .taken)
 
 returns-5 : tie.Need-returns-5
 returns-5 c =
-    let k = c .before .before in
-    let l = k .before .before in
-    let e = l .before .before in
+    let t = c .before .before in
+    let l = t .before in
+    let k = l .before in
+    let e = k .before .before in
     let a = e .before .before .args in
     all-yes (a .table .now) (a .words .now) (asTag (a .tag)) (asRole (a .role)) (a .above) (a .scope) (a .at)
     (e .before .shape .ensures)
     (e .if1 .left)
     (shallow l)
-    (k .before .known .ensures)
-    (k .if3 .left)
+    (k .known .ensures)
+    (t .if3 .left)
     (c .before .scoped .ensures)
     (c .if4 .left)
 
@@ -100,10 +104,10 @@ questions-spec =
     (tie.spec
     shape-requires
     returns
-    sub-if2
+    sub-left
     cost-requires
-    returns-2
     known-requires
+    returns-2
     returns-3
     scoped-requires
     returns-4
