@@ -126,11 +126,6 @@ module _ (table : Words) (rows : List Words) where
     unfolding instances
     instances-once = fresh-once excluded _
 
-    -- none of them is excluded
-    pub instances-new : {τ : List ℤ} → List·Memᴰ τ (instances table rows v excluded c ρ) → member τ excluded ≡ false
-    unfolding instances
-    instances-new m = fresh-mem excluded _ m .0
-
     module _
         (sound : Sound table rows)
         (formed : Formed c table false (length ρ + v))

@@ -3,7 +3,7 @@
 use Prim.Native.Nat.{ℕ, zero, suc, _+_, _*_, _-_, _%_, _≤_, _<_, min}
 use native.Mathlib.Omega.{arith}
 use mathlib.Core.Path.{_≡_, refl, sym, ap, ap₂, _∙_, subst}
-use mathlib.Core.Logic.{_↔_, _⊎_, inl, inr, ⊎-elim}
+use mathlib.Core.Logic.{_⊎_, inl, inr, ⊎-elim}
 use mathlib.Core.Bool.{Bool, true, false, not, cond, _&&_}
 use mathlib.Core.List.{List, [], _∷_, _++_, map, List·Memᴰ, List·Memᴰ·head, List·Memᴰ·tail, List·Memᴰ·not-nil, List·Memᴰ·cases-cons}
 use lib.ListN.{length, take, drop, length-take, length-drop, take-append-drop}
@@ -276,14 +276,6 @@ take-mem zero l m = absurd (List·Memᴰ·not-nil m)
 take-mem (suc k) [] m = m
 take-mem (suc k) (y ∷ l) m = ⊎-elim (λ p. List·Memᴰ·head p) (λ n. List·Memᴰ·tail (take-mem k l n)) (List·Memᴰ·cases-cons m)
 
--- so rules about all rows hold of them
-pub sound-front : (table : Words) (rows : List Words) (k : ℕ) → Sound table rows → Sound table (take k rows)
-sound-front table rows k s =
-    record {
-      agree = λ r₁ r₂ m₁ m₂. s .agree r₁ r₂ (take-mem k rows m₁) (take-mem k rows m₂);
-      six = λ r m. s .six r (take-mem k rows m);
-    }
-
 -- a row of the front part is a row of the log
 front-inside : (log : Words) (k i : ℕ) → i < rowCount (front k log) → (i < k) × (i < rowCount log)
 front-inside log k i h = let b = rowCount-front log k in omega arith
@@ -361,15 +353,6 @@ row-of-value table (row ∷ rest) p ns e =
     (λ k. (row, List·Memᴰ·head refl, k, known-same (rw k at e)))
     (λ k. let (r, m, h, t) = row-of-value table rest p ns (rw k at e) in (r, List·Memᴰ·tail m, h, t))
     (decide (holds p ns row))
-
--- an atom is known to be true exactly if a row that holds it says true
-pub known-true :
-    (table : Words) (rows : List Words) (p : ℕ) (ns : List ℤ) →
-    Sound table rows →
-    length ns ≡ arity table p →
-    (valueIn table rows p ns ≡ known true) ↔ ((r : Words) × List·Memᴰ r rows × (holds p ns r ≡ true) × (saysTrue r ≡ true))
-known-true table rows p ns s a =
-    (row-of-value table rows p ns, λ w. value-of-row table rows p ns s a (w .1) (w .2) ∙ ap known (w .3))
 
 -- rows that say true of no complete predicate leave a complete predicate's atoms false
 rest-false :

@@ -12,15 +12,14 @@ use lib.IntN.{ℤ}
 use borrow.Author.Tests.{eqb-true, eqb-false, eq-eqb, ne-eqb, ltb-true, ltb-false, lt-ltb, le-ltb}
 use Rattle.model.specs.Words.{Words}
 use Rattle.model.specs.Lists.{span, all, any, gather}
-use Rattle.model.specs.Answer.{passed}
 use Rattle.model.specs.Table.{input}
 use Rattle.model.specs.Tree.{Term, constant, variable, Tree, Trees, plain, atom, compare, join, quantifier, some, nil, cons, encodeTerm, encode, encodeAll}
-use Rattle.model.specs.Mode.{Variables, size, isBound, isVariable, inputsBound, bindings, askModes}
+use Rattle.model.specs.Mode.{Variables, isBound, isVariable, inputsBound}
 use Rattle.model.specs.Putting.{putTerm, put, putAll}
 use Rattle.laws.specs.Words.{decide, and-true, or-left}
 use Rattle.laws.specs.Span.{side}
 use Rattle.laws.specs.Putting.{put-outer, put-inner}
-use Rattle.laws.specs.Modes.{after, afterAll, afterAny, Passes, PassesAll, PassesAny, Moded, ModedAll, bindings-passes, passes-bindings, modes-moded, moded-modes}
+use Rattle.laws.specs.Modes.{after, afterAll, afterAny, Passes, PassesAll, PassesAny, Moded, ModedAll}
 
 -- tests on shifted numbers
 pub eqb-shift : (n x y : ℕ) → eqb (n + x) (n + y) ≡ eqb x y
@@ -193,27 +192,6 @@ module _ (ρ : List ℤ) where
       put-passes-any nil b next h p = tt
       put-passes-any (cons t ts) b next h p = (put-passes t b next h (p .0), put-passes-any ts b next h (p .1))
 
-    -- the mode rule of a restriction, at any place
-    pub put-bindings :
-        (c : Tree) (b : Variables) (next at at′ : ℕ) {b′ : Variables} →
-        bindings c table b (length ρ + next) at ≡ passed b′ →
-        HoldsOuter b →
-        bindings (put c ρ) table (inner b) next at′ ≡ passed (inner b′)
-    put-bindings c b next at at′ e h =
-        let (p, s) = bindings-passes table c b (length ρ + next) at e in
-        passes-bindings table (put c ρ) (inner b) next at′ (put-passes c b next h p)
-        ∙ ap passed (put-after c b next ∙ ap inner s)
-
-    -- the outer variables are still bound after a restriction
-    pub bindings-outer :
-        (c : Tree) (b : Variables) (next at : ℕ) {b′ : Variables} →
-        bindings c table b (length ρ + next) at ≡ passed b′ →
-        HoldsOuter b →
-        HoldsOuter b′
-    bindings-outer c b next at e h =
-        let (p, s) = bindings-passes table c b (length ρ + next) at e in
-        subst HoldsOuter s (after-outer c b next h)
-
     -- the outer variables and those below the scope, seen from inside
     below-put : (scope : ℕ) → _≡_ {A = Variables} (inner (λ x. ltb x (length ρ + scope))) (λ x. ltb x scope)
     below-put scope = fun-ext (λ x. ltb-shift (length ρ) x scope)
@@ -255,14 +233,6 @@ module _ (ρ : List ℤ) where
       put-moded-all : (ts : Trees) (scope : ℕ) → ModedAll table ts (length ρ + scope) → ModedAll table (putAll ts ρ) scope
       put-moded-all nil scope h = tt
       put-moded-all (cons t ts) scope h = (put-moded t scope (h .0), put-moded-all ts scope (h .1))
-
-    -- the questions of the mode rule pass afterwards, at any place
-    pub put-modes :
-        (f : Tree) (scope at at′ : ℕ) →
-        askModes f table (length ρ + scope) at ≡ passed tt →
-        askModes (put f ρ) table scope at′ ≡ passed tt
-    put-modes f scope at at′ e =
-        moded-modes table (put f ρ) scope at′ (put-moded f scope (modes-moded table f (length ρ + scope) at e))
 
 -- lists joined of lists of the same lengths
 append-length :
@@ -316,8 +286,3 @@ mutual
       append-length (encode (put t ρ)) (encode t) (encodeAll (putAll ts ρ)) (encodeAll ts)
       (put-length t ρ)
       (put-length-all ts ρ)
-
--- so it has the same size
-pub put-size : (t : Tree) (ρ : List ℤ) → size (put t ρ) ≡ size t
-unfolding size
-put-size t ρ = put-length t ρ

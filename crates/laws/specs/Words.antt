@@ -1,7 +1,7 @@
 -- What the tests of model on Bools, numbers, lists of numbers and tuples say.
 use mathlib.Core.Path.{_≡_, refl, sym, ap, ap₂, _∙_}
 use mathlib.Core.Logic.{_⊎_, inl, inr, ⊎-elim}
-use mathlib.Core.Bool.{Bool, true, false, not, _&&_, _||_, true≢false, false≢true}
+use mathlib.Core.Bool.{Bool, true, false, _&&_, _||_, true≢false, false≢true}
 use mathlib.Core.List.{List, [], _∷_, _++_, List·Memᴰ, List·Memᴰ·head, List·Memᴰ·tail}
 use lib.IntN.{ℤ, pos, negsuc}
 use borrow.Author.Tests.{eqb-true, eq-eqb}
@@ -52,12 +52,6 @@ same-true true true e = refl
 same-true true false e = absurd (false≢true e)
 same-true false true e = absurd (false≢true e)
 same-true false false e = refl
-
-pub same-false : (a b : Bool) → same a b ≡ false → a ≡ not b
-same-false true true e = absurd (true≢false e)
-same-false true false e = refl
-same-false false true e = refl
-same-false false false e = absurd (true≢false e)
 
 pub same-refl : (a : Bool) → same a a ≡ true
 same-refl true = refl
