@@ -13,8 +13,8 @@ use Rattle.model.specs.Reading.{readPolicy}
 use Rattle.model.specs.Mode.{askModes}
 use Rattle.model.specs.Log.{rowCount, askLog}
 use Rattle.model.specs.Calls.{askPolicy, checkPolicy, checkLog}
-use Rattle.checks.specs.Policy.{toldPolicy}
-use Rattle.checks.specs.declared.policy.Walked.the-variants as walked
+use Rattle.policies.specs.Policy.{toldPolicy}
+use Rattle.policies.specs.declared.policy.Walked.the-variants as walked
 
 -- what is told of a reading is what came of it
 told-refused :

@@ -13,11 +13,11 @@ use Rattle.model.specs.Lists.{gather}
 use Rattle.model.specs.Tag as T
 use Rattle.model.specs.Tree.{Tree, plain, atom, compare, join, quantifier, some, nil, cons, count, encode}
 use Rattle.model.specs.Level as L
-use Rattle.laws.specs.ReadingParts.{root}
-use Rattle.checks.specs.Node.{asTag, There, Sized}
-use Rattle.checks.specs.declared.node.Tag.{Tag}
-use Rattle.checks.specs.declared.node.Tag.the-variants.{Plain, Atom, Compare, Join, Quantifier, Some, Unused}
-use Rattle.checks.proofs.node.Tag.{the-type}
+use Rattle.laws.specs.Reading.Parts.{root}
+use Rattle.policies.specs.Node.{asTag, There, Sized}
+use Rattle.policies.specs.declared.node.Tag.{Tag}
+use Rattle.policies.specs.declared.node.Tag.the-variants.{Plain, Atom, Compare, Join, Quantifier, Some, Unused}
+use Rattle.policies.proofs.node.Tag.{the-type}
 use Rattle.auditor.specs.Dual.{Grown, Tree-at, kept}
 use Rattle.auditor.proofs.DualTrees.{Row, row-first, row-one, row-children, glue, mine, children, tree-tag, tree-size}
 use Rattle.auditor.proofs.DualBehind.{Ahead, ahead, ahead-there}

@@ -8,8 +8,8 @@ use Rattle.model.specs.Words.{Words, word}
 use Rattle.model.specs.Tag.{Tag, tagOf}
 use Rattle.model.specs.Tree.{Tree, Trees, nil, cons, count, encode}
 use Rattle.model.specs.Level as L
-use Rattle.laws.specs.ReadingParts.{root}
-use Rattle.checks.specs.Node.{There, Sized}
+use Rattle.laws.specs.Reading.Parts.{root}
+use Rattle.policies.specs.Node.{There, Sized}
 use Rattle.auditor.specs.Dual.{Grown, Tree-at, below}
 use Rattle.auditor.proofs.DualTrees.{Row, row-first, row-one, row-none, row-some, row-few, row-children}
 use Rattle.auditor.proofs.DualTrees.{glue, glue-count, mine, children, tree-tag, tree-size, tree-below}

@@ -19,8 +19,8 @@ use Rattle.model.specs.Mode.{size}
 use Rattle.model.specs.Dual.{dual}
 use Rattle.model.specs.Calls.{zeros, filled, result, askPolicy, write, checkPolicy, dualCall}
 use Rattle.laws.specs.Dual.{dual-size}
-use Rattle.laws.specs.Policy.{accepted-asked}
-use Rattle.laws.specs.Reading.{read-length}
+use Rattle.laws.specs.Calls.Policy.{accepted-asked}
+use Rattle.laws.specs.Reading.Encoded.{read-length}
 use Rattle.auditor.specs.Dual.{Tupled}
 use Rattle.auditor.proofs.DualFormed.{accepted-written}
 

@@ -6,8 +6,8 @@ use Rattle.model.specs.Words.{Words}
 use Rattle.model.specs.Answer.{passed}
 use Rattle.model.specs.Calls.{askPolicy}
 use Rattle.model.specs.Tree.{Tree, Trees, plain, atom, compare, join, quantifier, some, nil, cons, encode}
-use Rattle.laws.specs.Formed.{Formed, FormedAll}
-use Rattle.laws.specs.Policy.{accepted-rules}
+use Rattle.laws.specs.Reading.Formed.{Formed, FormedAll}
+use Rattle.laws.specs.Calls.Policy.{accepted-rules}
 use Rattle.auditor.specs.Dual.{Tupled, TupledAll}
 
 mutual

@@ -14,8 +14,8 @@ use Rattle.model.specs.Mode.{size}
 use Rattle.model.specs.Dual.{dual, dualAll}
 use Rattle.model.specs.Calls.{zeros}
 use Rattle.laws.specs.Dual.{dual-size}
-use Rattle.laws.specs.ReadingWords.{Stands, stands-whole, code}
-use Rattle.laws.specs.ReadingParts.{root}
+use Rattle.laws.specs.Words.Standing.{Stands, stands-whole, code}
+use Rattle.laws.specs.Reading.Parts.{root}
 use Rattle.auditor.specs.Dual.{Tupled, Grown, Tree-at, kept, formulas, paired}
 use Rattle.auditor.proofs.DualTrees.{Row, row-one, row-none, row-few, row-inner, row-kept, glue, glue-words, glue-count, glue-dual, inner, dual-words, tree-formulas}
 use Rattle.auditor.proofs.DualBehind.{Ahead, ahead, ahead-is, ahead-tree, ahead-tag, ahead-word}

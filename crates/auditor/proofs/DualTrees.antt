@@ -14,10 +14,10 @@ use Rattle.model.specs.Tree.{Term, constant, variable, Tree, Trees, plain, atom
 use Rattle.model.specs.Level as L
 use Rattle.model.specs.Reading.{own}
 use Rattle.model.specs.Dual.{dual, dualAll}
-use Rattle.laws.specs.Formed.{AllOfLength}
-use Rattle.laws.specs.ReadingWords.{Stands, stands-left, stands-right, stands-first, two-stand, three-stand, code, tag-code}
-use Rattle.laws.specs.ReadingParts.{root}
-use Rattle.laws.specs.ReadingBack.{encode-nonempty}
+use Rattle.laws.specs.Reading.Formed.{AllOfLength}
+use Rattle.laws.specs.Words.Standing.{Stands, stands-left, stands-right, stands-first, two-stand, three-stand, code, tag-code}
+use Rattle.laws.specs.Reading.Parts.{root}
+use Rattle.laws.specs.Reading.Back.{encode-nonempty}
 use Rattle.auditor.specs.Dual.{Tupled, TupledAll, Grown, kept, below, formulas, paired}
 
 -- trees, then trees

@@ -8,8 +8,8 @@ use Rattle.model.specs.Words.{Words, value}
 use Rattle.model.specs.Lists.{gather}
 use Rattle.model.specs.Tag.{Tag}
 use Rattle.model.specs.Tree.{Tree, Trees, plain, atom, compare, join, quantifier, some, nil, cons, count, encodeTerm, encode}
-use Rattle.laws.specs.Formed.{AllOfLength}
-use Rattle.laws.specs.ReadingWords.{Stands}
+use Rattle.laws.specs.Reading.Formed.{AllOfLength}
+use Rattle.laws.specs.Words.Standing.{Stands}
 
 -- each excluded tuple has as many numbers as its quantifier has variables
 unfoldable mutual

@@ -1,8 +1,8 @@
 // The words of the dual of a policy. Words are in preorder, so that trees are walked with no stack: a count of the trees
 // that are still to be passed does.
-use checks::node;
-use checks::node::Tag;
-use checks::words;
+use policies::node;
+use policies::node::Tag;
+use tables::words;
 ghost use mathlib.Core.Path.{_≡_};
 ghost use mathlib.Core.List.{_++_};
 ghost use Prim.Native.Nat.{ℕ, suc, _+_, _-_, _≤_, _<_};
@@ -13,8 +13,8 @@ ghost use Rattle.model.specs.Tag as T;
 ghost use Rattle.model.specs.Tree.{Tree, encode};
 ghost use Rattle.model.specs.Calls.{zeros};
 ghost use Rattle.model.specs.Dual as M;
-ghost use Rattle.laws.specs.ReadingWords.{code};
-ghost use Rattle.checks.specs.Node.{asTag};
+ghost use Rattle.laws.specs.Words.Standing.{code};
+ghost use Rattle.policies.specs.Node.{asTag};
 ghost use Rattle.auditor.specs.Dual as D;
 
 // Words from an index on become zero.

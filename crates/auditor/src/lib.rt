@@ -4,8 +4,8 @@ pub mod dual_words;
 ghost use mathlib.Core.Path.{_≡_};
 ghost use lib.ListN.{length};
 ghost use Rattle.model.specs.Calls as C;
-use checks::Checked;
-use checks::policy::Walked;
+use tables::Checked;
+use policies::policy::Walked;
 use model::Answer;
 use model::Refusal;
 
@@ -13,15 +13,15 @@ use model::Refusal;
 pub fn check_policy(table: &[i32], policy: &[i32]) -> Answer
     ensures { λ r. ⌜ r ≡ C.checkPolicy (now (table .entry)) (now (policy .entry)) ⌝ }
 {
-    let first = checks::table::check_table(table);
+    let first = tables::table::check_table(table);
     match first {
         Checked::Refused(refusal, place) => Answer::Refused(refusal, place),
         Checked::Passed => {
-            let second = checks::policy::read_policy(table, policy);
+            let second = policies::policy::read_policy(table, policy);
             match second {
                 Walked::Refused(refusal, place) => Answer::Refused(refusal, place),
                 Walked::Read(_, level) => {
-                    let third = checks::mode::check_modes(table, policy);
+                    let third = policies::mode::check_modes(table, policy);
                     match third {
                         Checked::Refused(refusal, place) => Answer::Refused(refusal, place),
                         Checked::Passed => Answer::Accepted(level),
@@ -36,11 +36,11 @@ pub fn check_policy(table: &[i32], policy: &[i32]) -> Answer
 pub fn check_log(table: &[i32], log: &[i32]) -> Answer
     ensures { λ r. ⌜ r ≡ C.checkLog (now (table .entry)) (now (log .entry)) ⌝ }
 {
-    let first = checks::table::check_table(table);
+    let first = tables::table::check_table(table);
     match first {
         Checked::Refused(refusal, place) => Answer::Refused(refusal, place),
         Checked::Passed => {
-            let second = checks::log::check_log(table, log);
+            let second = logs::log::check_log(table, log);
             match second {
                 Checked::Refused(refusal, place) => Answer::Refused(refusal, place),
                 Checked::Passed => Answer::Accepted(log.len() / 8),

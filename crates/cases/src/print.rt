@@ -20,10 +20,10 @@ pub fn number(n: usize) {
 
 // A word.
 fn word(words: &[i32], i: usize) {
-    if checks::words::negative(words, i) {
+    if tables::words::negative(words, i) {
         io::write_all(1, b"-");
     }
-    number(checks::words::value(words, i));
+    number(tables::words::value(words, i));
 }
 
 // Words, each behind a space, to the end of the line.

@@ -17,11 +17,11 @@ use Rattle.model.specs.Log.{rowCount, askLog}
 use Rattle.model.specs.Tree.{Tree, encode}
 use Rattle.model.specs.Dual.{dual}
 use Rattle.model.specs.Calls.{askPolicy, write, result, checkPolicy, checkLog, dualCall}
-use Rattle.laws.specs.Words.{and-right}
+use Rattle.laws.specs.Words.Tests.{and-right}
 use Rattle.laws.specs.Answer.{ask-passed, passed-same, both-passed}
-use Rattle.laws.specs.Policy.{accepted-rules}
+use Rattle.laws.specs.Calls.Policy.{accepted-rules}
 use Rattle.laws.specs.Log.{accepted}
-use Rattle.laws.specs.Places.{Within, within-ask, within-then, within-more, table-within, policy-within, log-within}
+use Rattle.laws.specs.Calls.Places.{Within, within-ask, within-then, within-more, table-within, policy-within, log-within}
 use Rattle.exports.specs.Packing.{packed, Packs}
 
 pub question-small : (r : Refusal) → question r ≤ 12

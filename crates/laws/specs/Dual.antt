@@ -15,10 +15,10 @@ use Rattle.model.specs.Level.{Role, restriction, formula, operand, under, quant
 use Rattle.model.specs.Mode.{size, askModes, askModesAll}
 use Rattle.model.specs.Truth.{Structure, Is}
 use Rattle.model.specs.Dual.{dual, dualAll}
-use Rattle.laws.specs.Formed.{Formed, FormedAll}
+use Rattle.laws.specs.Reading.Formed.{Formed, FormedAll}
 use Rattle.model.specs.Calls.{askPolicy}
-use Rattle.laws.specs.Reading.{read-length}
-use Rattle.laws.specs.Policy.{accepted-asked, accepted-rules, rules-accepted}
+use Rattle.laws.specs.Reading.Encoded.{read-length}
+use Rattle.laws.specs.Calls.Policy.{accepted-asked, accepted-rules, rules-accepted}
 use Rattle.laws.specs.Truth.{both, Alike, alike-join, each-tuple, some-tuple}
 
 not-not : (b : Bool) → not (not b) ≡ b

@@ -9,7 +9,7 @@ use Rattle.model.specs.Tree.{Tree, Trees, plain, atom, compare, join, quantifie
 use Rattle.model.specs.Truth.{Structure, Is, Every, One}
 use Rattle.model.specs.Joining.{append, decides, decided, parts, partsAll, assemble, joined}
 use Rattle.model.specs.Reduction.{each}
-use Rattle.laws.specs.Words.{or-cases, or-false-left, or-false-right}
+use Rattle.laws.specs.Words.Tests.{or-cases, or-false-left, or-false-right}
 use Rattle.laws.specs.Truth.{consistent}
 
 -- a property of each of the trees

@@ -18,10 +18,10 @@ use Rattle.model.specs.Table.{predicates, arity, complete}
 use Rattle.model.specs.Log.{rowCount, rowAt, rows, front, arguments, saysTrue, goodRow, sameAtom, askLog, known, unknown, holds, valueIn}
 use Rattle.model.specs.Truth.{Extends}
 use Rattle.model.specs.declared.Refusal.the-variants.{LogLength, Row, Repeat}
-use Rattle.laws.specs.Words.{decide, clash, and-left, and-right, and-true, equal-true, equal-refl, equalAll-true, equalAll-refl}
-use Rattle.laws.specs.Lists.{map-mem}
+use Rattle.laws.specs.Words.Tests.{decide, clash, and-left, and-right, and-true, equal-true, equal-refl, equalAll-true, equalAll-refl}
+use Rattle.laws.specs.Lists.Membership.{map-mem}
 use Rattle.laws.specs.Answer.{ask-passed, ask-true, then-passed, pass-then, inTurn-mem, inTurn-intro}
-use Rattle.laws.specs.Span.{order, span-mem, mem-span, take-span, drop-take, any-none, none-any, map-same, take-map}
+use Rattle.laws.specs.Lists.Span.{order, span-mem, mem-span, take-span, drop-take, any-none, none-any, map-same, take-map}
 
 -- rows that hold the same atom say the same of it, and a row has six arguments
 pub record Sound (table : Words) (rows : List Words) : Type 0 where

@@ -11,10 +11,10 @@ use Rattle.model.specs.declared.Refusal.the-variants.{Table}
 use Rattle.model.specs.Words.{Words, value}
 use Rattle.model.specs.Answer.{passed, ask}
 use Rattle.model.specs.Table.{predicates, arity, goodRecord, askTable}
-use Rattle.laws.specs.Words.{and-left, and-right}
+use Rattle.laws.specs.Words.Tests.{and-left, and-right}
 use Rattle.laws.specs.Answer.{ask-passed, then-passed, inTurn-mem}
-use Rattle.laws.specs.Span.{mem-span}
-use Rattle.laws.specs.ReadingWords.{within-value}
+use Rattle.laws.specs.Lists.Span.{mem-span}
+use Rattle.laws.specs.Words.Standing.{within-value}
 
 -- an accepted table
 pub record Accepted (table : Words) : Type 0 where

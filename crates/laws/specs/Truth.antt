@@ -11,7 +11,7 @@ use Rattle.model.specs.Words.{same, member}
 use Rattle.model.specs.Log.{Value, known}
 use Rattle.model.specs.Tree.{Tree, Trees, plain, atom, compare, join, quantifier, some, nil, cons}
 use Rattle.model.specs.Truth.{Structure, Extends, numberOf, Is, Every, One}
-use Rattle.laws.specs.Words.{clash}
+use Rattle.laws.specs.Words.Tests.{clash}
 
 -- the two statements about a quantifier, of tuples of v numbers: each tuple is excluded, or has a false restriction or the
 -- body's truth; some tuple is not excluded and has a true restriction and the body's truth

@@ -2,7 +2,7 @@
 use mathlib.Core.Path.{sym, ap, _∙_}
 use Rattle.model.specs.Log.{rowCount}
 use Rattle.laws.specs.Table.{accepted, short}
-use Rattle.checks.specs.Checked.{outcome}
+use Rattle.tables.specs.Checked.{outcome}
 use Rattle.auditor.proofs.Calls.{log-table-refused, log-refused, log-accepted}
 use borrow.Author.Needs.{needs}
 use Rattle.auditor.proofs.check_log.Statement.{statement}

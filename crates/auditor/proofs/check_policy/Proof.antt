@@ -1,8 +1,8 @@
 -- `auditor::check_policy` meets its contract, from what the three checks ensure.
 use mathlib.Core.Path.{sym, ap, _∙_}
 use Rattle.laws.specs.Table.{accepted}
-use Rattle.laws.specs.Reading.{read-node}
-use Rattle.checks.specs.Checked.{outcome}
+use Rattle.laws.specs.Reading.Encoded.{read-node}
+use Rattle.tables.specs.Checked.{outcome}
 use Rattle.auditor.proofs.Calls.{policy-table-refused, policy-refused, tree-read, modes-refused, policy-accepted}
 use borrow.Author.Needs.{needs}
 use Rattle.auditor.proofs.check_policy.Statement.{statement}

@@ -5,10 +5,10 @@ use mathlib.Core.List.{[], _∷_}
 use types.Run.{OneOf, miss}
 use denote.Enum.Declared.{tagOf}
 use Rattle.model.specs.Words.{Words}
-use Rattle.checks.specs.Node.{asTag}
-use Rattle.checks.specs.declared.node.Tag.{Tag}
-use Rattle.checks.specs.declared.node.Tag.the-variants.{Plain, Atom, Compare, Join, Quantifier, Some, Unused}
-use Rattle.checks.proofs.node.Tag.{the-type}
+use Rattle.policies.specs.Node.{asTag}
+use Rattle.policies.specs.declared.node.Tag.{Tag}
+use Rattle.policies.specs.declared.node.Tag.the-variants.{Plain, Atom, Compare, Join, Quantifier, Some, Unused}
+use Rattle.policies.proofs.node.Tag.{the-type}
 use Rattle.auditor.specs.Dual.{below}
 use borrow.Author.Needs.{needs}
 use Rattle.auditor.proofs.dual_words.below.Statement.{statement}

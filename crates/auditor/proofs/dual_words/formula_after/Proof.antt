@@ -2,8 +2,8 @@
 use native.Mathlib.Omega.{arith}
 use mathlib.Core.Path.{_≡_, ap}
 use mathlib.Core.Bool.{true}
-use Rattle.checks.specs.Node.{asTag}
-use Rattle.checks.specs.declared.node.Tag.{Tag}
+use Rattle.policies.specs.Node.{asTag}
+use Rattle.policies.specs.declared.node.Tag.{Tag}
 use Rattle.auditor.proofs.DualAfter.{isQuantifier, isSome, node-there, node-fits, restriction-there, after-restriction, after-own, after-whole}
 use borrow.Author.Needs.{needs}
 use Rattle.auditor.proofs.dual_words.formula_after.Statement.{statement}

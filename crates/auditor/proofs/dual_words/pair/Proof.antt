@@ -1,5 +1,5 @@
 -- `auditor::dual_words::pair` meets its contract, tag by tag.
-use Rattle.laws.specs.ReadingWords.{code}
+use Rattle.laws.specs.Words.Standing.{code}
 use Rattle.auditor.specs.Dual.{paired}
 use borrow.Author.Needs.{needs}
 use Rattle.auditor.proofs.dual_words.pair.Statement.{statement}

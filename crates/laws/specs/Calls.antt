@@ -1,0 +1,3 @@
+-- Laws of model's Calls.antt.
+pub mod Policy
+pub mod Places

@@ -1,0 +1,223 @@
+-- Rows of a log by index: a row's atom compared argument by argument, and the search through a span of rows.
+use Prim.Native.Nat.{ℕ, suc, _+_, _*_, _-_, _≤_, _<_}
+use native.Mathlib.Nat.{zero-add, add-zero, sub-zero, add-assoc}
+use native.Mathlib.Numerals.{add-one}
+use native.Mathlib.Omega.{arith}
+use mathlib.Core.Path.{_≡_, refl, sym, ap, ap₂, _∙_}
+use mathlib.Core.Bool.{Bool, true, false, _&&_, _||_, cond}
+use mathlib.Core.List.{List, [], _∷_, List·Memᴰ, List·Memᴰ·head, List·Memᴰ·tail}
+use mathlib.Core.Logic.{⊎-elim}
+use lib.Dec.{eqb}
+use borrow.Author.Tests.{eqb-true, eqb-false, eq-eqb, ne-eqb}
+use Rattle.laws.specs.Words.Tests.{decide, and-left}
+use Rattle.laws.specs.Words.Standing.{atLeast-value}
+use lib.ListN.{length, getD, take, drop, drop-of-length-le, length-take, length-drop}
+use lib.Seq.{drop-cons, drop-drop, getD-drop, getD-take, take-take, take-all}
+use lib.IntN.{ℤ, pos, negsuc}
+use lib.Signed.{leZ}
+use Rattle.model.specs.Words.{Words, word, value, atLeast, within, below, equal, equalAll}
+use Rattle.model.specs.Table.{predicates, arity}
+use Rattle.model.specs.Lists.{span, all, any}
+use Rattle.model.specs.Log.{rowAt, arguments, holds, sameAtom, goodRow}
+use Rattle.laws.specs.Lists.Span.{span-mem, drop-take}
+use Rattle.logs.specs.declared.log.Found.{Found}
+use Rattle.logs.specs.declared.log.Found.the-variants.{At, Nothing}
+use Rattle.logs.specs.Search.{firstRow, unusedFrom, repeatsAt}
+use Rattle.tables.proofs.Loops.{span-step, span-end}
+
+-- the words of a row stand in the log
+pub row-word : (log : Words) (r i : ℕ) → i < 8 → word (rowAt log r) i ≡ word log (8 * r + i)
+unfolding word rowAt
+row-word log r i h = getD-take 8 (drop (8 * r) log) i (pos 0) h ∙ getD-drop (8 * r) log i (pos 0)
+
+pub row-arguments : (log : Words) (r n : ℕ) → n ≤ 6 → take n (arguments (rowAt log r)) ≡ take n (drop (8 * r + 2) log)
+unfolding arguments rowAt
+row-arguments log r n h =
+    ap (take n) (drop-take 2 6 (drop (8 * r) log) ∙ ap (take 6) (drop-drop 2 (8 * r) log))
+    ∙ take-take n 6 (drop (8 * r + 2) log) h
+
+-- a row with the atom's predicate holds the atom exactly if its first arguments are the atom's
+pub holds-here :
+    (log : Words) (p : ℕ) (ns : List ℤ) (r : ℕ) →
+    length ns ≤ 6 →
+    equal (word log (8 * r)) (pos p) ≡ true →
+    holds p ns (rowAt log r) ≡ equalAll (take (length ns) (drop (8 * r + 2) log)) ns
+unfolding holds
+holds-here log p ns r h e =
+    rw (row-word log r 0 (omega arith), add-zero (8 * r), e)
+    (ap (λ (l : List ℤ). equalAll l ns) (row-arguments log r (length ns) h))
+
+pub holds-not : (log : Words) (p : ℕ) (ns : List ℤ) (r : ℕ) → equal (word log (8 * r)) (pos p) ≡ false → holds p ns (rowAt log r) ≡ false
+unfolding holds
+holds-not log p ns r e = rw (row-word log r 0 (omega arith), add-zero (8 * r), e)
+
+-- two lists compared from an index on: b is where the first begins in the log
+abbrev pub Rest : Words → ℕ → List ℤ → ℕ → Bool
+Rest log b ns i = equalAll (take (length ns - i) (drop (b + i) log)) (drop i ns)
+
+module _ (log : Words) (b : ℕ) (ns : List ℤ) (i : ℕ) where
+  pub rest-start : Rest log b ns 0 ≡ equalAll (take (length ns) (drop b log)) ns
+  rest-start = rw (sub-zero (length ns), add-zero b)
+
+  rest-cons : i < length ns → b + i < length log → Rest log b ns i ≡ (equal (word log (b + i)) (word ns i) && Rest log b ns (i + 1))
+  unfolding equalAll word
+  rest-cons h k =
+      rw (drop-cons ns i (pos 0) h, drop-cons log (b + i) (pos 0) k)
+      (let e : length ns - i ≡ suc (length ns - (i + 1)) = omega arith in
+      rw e (rw (← add-one (b + i), ← add-one i, add-assoc b i 1) refl))
+
+  pub rest-step : i < length ns → b + i < length log → equal (word log (b + i)) (word ns i) ≡ true → Rest log b ns i ≡ Rest log b ns (i + 1)
+  rest-step h k e = rest-cons h k ∙ ap (λ (x : Bool). x && Rest log b ns (i + 1)) e
+
+  pub rest-stop : i < length ns → b + i < length log → equal (word log (b + i)) (word ns i) ≡ false → Rest log b ns i ≡ false
+  rest-stop h k e = rest-cons h k ∙ ap (λ (x : Bool). x && Rest log b ns (i + 1)) e
+
+  pub rest-end : length ns ≤ i → Rest log b ns i ≡ true
+  unfolding equalAll
+  rest-end h = let e : length ns - i ≡ 0 = omega arith in rw (e, drop-of-length-le ns h)
+
+-- the search, row by row
+module _ (log : Words) (p : ℕ) (ns : List ℤ) (r end : ℕ) where
+  pub search-step : r < end → holds p ns (rowAt log r) ≡ false → firstRow log p ns (span r (end - r)) ≡ firstRow log p ns (span (r + 1) (end - (r + 1)))
+  unfolding firstRow
+  search-step h e = ap (firstRow log p ns) (span-step r end h) ∙ rw e
+
+  pub search-found : r < end → holds p ns (rowAt log r) ≡ true → firstRow log p ns (span r (end - r)) ≡ At r
+  unfolding firstRow
+  search-found h e = ap (firstRow log p ns) (span-step r end h) ∙ rw e
+
+  pub search-end : end ≤ r → firstRow log p ns (span r (end - r)) ≡ Nothing
+  unfolding firstRow
+  search-end h = ap (firstRow log p ns) (span-end r end h)
+
+-- a row within the log has six arguments, and they stand behind its first two words
+pub row-six : (log : Words) (r : ℕ) → 8 * r + 8 ≤ length log → length (arguments (rowAt log r)) ≡ 6
+unfolding arguments rowAt
+row-six log r h = simp (length-drop, length-take) (omega arith)
+
+pub argument-word : (log : Words) (r i : ℕ) → i < 6 → getD (arguments (rowAt log r)) i (pos 0) ≡ word log (8 * r + 2 + i)
+unfolding arguments rowAt word
+argument-word log r i h =
+    getD-drop 2 (take 8 (drop (8 * r) log)) i (pos 0)
+    ∙ getD-take 8 (drop (8 * r) log) (2 + i) (pos 0) (omega arith)
+    ∙ getD-drop (8 * r) log (2 + i) (pos 0)
+    ∙ ap (λ (k : ℕ). getD log k (pos 0)) (sym (add-assoc (8 * r) 2 i))
+
+-- the arguments from one index on
+module _ (log : Words) (r : ℕ) (h : 8 * r + 8 ≤ length log) (i : ℕ) where
+  unused-cons : i < 6 → unusedFrom log r i ≡ (equal (word log (8 * r + 2 + i)) (pos 0) && unusedFrom log r (i + 1))
+  unfolding unusedFrom all
+  unused-cons k =
+      rw (drop-cons (arguments (rowAt log r)) i (pos 0) (rw (row-six log r h) k), argument-word log r i k, add-one i) refl
+
+  pub unused-step : i < 6 → equal (word log (8 * r + 2 + i)) (pos 0) ≡ true → unusedFrom log r i ≡ unusedFrom log r (i + 1)
+  unused-step k e = unused-cons k ∙ ap (λ (x : Bool). x && unusedFrom log r (i + 1)) e
+
+  pub unused-stop : i < 6 → equal (word log (8 * r + 2 + i)) (pos 0) ≡ false → unusedFrom log r i ≡ false
+  unused-stop k e = unused-cons k ∙ ap (λ (x : Bool). x && unusedFrom log r (i + 1)) e
+
+  pub unused-end : 6 ≤ i → unusedFrom log r i ≡ true
+  unfolding unusedFrom all
+  unused-end k = rw (drop-of-length-le (arguments (rowAt log r)) {i = i} (rw (row-six log r h) k))
+
+-- equality of numbers and of lists is symmetric
+eqb-sym : (a b : ℕ) → eqb a b ≡ eqb b a
+eqb-sym a b =
+    ⊎-elim
+    (λ e. e ∙ sym (eq-eqb b a (sym (eqb-true a b e))))
+    (λ e. e ∙ sym (ne-eqb b a (λ q. eqb-false a b e (sym q))))
+    (decide (eqb a b))
+
+equal-sym : (x y : ℤ) → equal x y ≡ equal y x
+unfolding equal
+equal-sym (pos a) (pos b) = eqb-sym a b
+equal-sym (pos a) (negsuc b) = refl
+equal-sym (negsuc a) (pos b) = refl
+equal-sym (negsuc a) (negsuc b) = eqb-sym a b
+
+equalAll-sym : (xs ys : List ℤ) → equalAll xs ys ≡ equalAll ys xs
+unfolding equalAll
+equalAll-sym [] [] = refl
+equalAll-sym [] (y ∷ ys) = refl
+equalAll-sym (x ∷ xs) [] = refl
+equalAll-sym (x ∷ xs) (y ∷ ys) = ap₂ (λ (a b : Bool). a && b) (equal-sym x y) (equalAll-sym xs ys)
+
+-- the six arguments of a row, as a part of the log
+pub row-part : (log : Words) (r : ℕ) → take 6 (drop (8 * r + 2) log) ≡ arguments (rowAt log r)
+unfolding arguments rowAt
+row-part log r = sym (drop-take 2 6 (drop (8 * r) log) ∙ ap (take 6) (drop-drop 2 (8 * r) log))
+
+-- a search found a row
+abbrev pub isAt : Found → Bool
+isAt (At i) = true
+isAt Nothing = false
+
+or-at : (b : Bool) (q : ℕ) (x : Bool) (f : Found) → x ≡ isAt f → (b || x) ≡ isAt (cond b (At q) f)
+or-at true q x f e = refl
+or-at false q x f e = e
+
+-- a row holds the atom of another row whose predicate is a number exactly if it has the same atom
+module _ (log : Words) (r : ℕ) (within : 8 * r + 8 ≤ length log) (number : atLeast 0 (word log (8 * r)) ≡ true) where
+  same-holds :
+      (q : ℕ) → q < r →
+      sameAtom (rowAt log r) (rowAt log q) ≡ holds (value log (8 * r)) (arguments (rowAt log r)) (rowAt log q)
+  unfolding sameAtom holds value
+  same-holds q h =
+      ap₂ (λ (a b : Bool). a && b)
+      (equal-sym (word (rowAt log r) 0) (word (rowAt log q) 0)
+      ∙ ap (equal (word (rowAt log q) 0))
+      (row-word log r 0 (omega arith) ∙ ap (word log) (add-zero (8 * r)) ∙ atLeast-value 0 (word log (8 * r)) number .0))
+      (equalAll-sym (arguments (rowAt log r)) (arguments (rowAt log q))
+      ∙ ap (λ (l : List ℤ). equalAll l (arguments (rowAt log r)))
+      (sym (take-all (length (arguments (rowAt log r))) (arguments (rowAt log q))
+      (omega (arith, row-six log r within, row-six log q (omega arith))))))
+
+  any-first :
+      (qs : List ℕ) →
+      ((q : ℕ) → List·Memᴰ q qs → q < r) →
+      any (λ earlier. sameAtom (rowAt log r) (rowAt log earlier)) qs
+      ≡ isAt (firstRow log (value log (8 * r)) (arguments (rowAt log r)) qs)
+  unfolding any firstRow
+  any-first [] h = refl
+  any-first (q ∷ qs) h =
+      rw (same-holds q (h q (List·Memᴰ·head refl)))
+      (or-at (holds (value log (8 * r)) (arguments (rowAt log r)) (rowAt log q)) q _
+      (firstRow log (value log (8 * r)) (arguments (rowAt log r)) qs)
+      (any-first qs (λ k m. h k (List·Memᴰ·tail m))))
+
+  pub repeats-search :
+      {f : Found} →
+      f ≡ firstRow log (value log (8 * r)) (take 6 (drop (8 * r + 2) log)) (span 0 r) →
+      repeatsAt log r ≡ isAt f
+  unfolding repeatsAt
+  repeats-search e =
+      any-first (span 0 r) (λ q m. let k = span-mem 0 r m .1 in omega (arith, zero-add r))
+      ∙ ap isAt (sym (e ∙ ap (λ (ns : List ℤ). firstRow log (value log (8 * r)) ns (span 0 r)) (row-part log r)))
+
+-- question 9, test by test
+row-first : (log : Words) (r : ℕ) → word (rowAt log r) 0 ≡ word log (8 * r)
+row-first log r = row-word log r 0 (omega arith) ∙ ap (word log) (add-zero (8 * r))
+
+module _ (table log : Words) (r : ℕ) where
+  pub good-first : below (predicates table) (word log (8 * r)) ≡ false → false ≡ goodRow table (rowAt log r)
+  unfolding goodRow
+  good-first e = rw (row-first log r, e)
+
+  pub good-second : below (predicates table) (word log (8 * r)) ≡ true → within 0 1 (word log (8 * r + 1)) ≡ false → false ≡ goodRow table (rowAt log r)
+  unfolding goodRow
+  good-second e f = rw (row-first log r, row-word log r 1 (omega arith), e, f)
+
+  pub good-third :
+      below (predicates table) (word log (8 * r)) ≡ true →
+      within 0 1 (word log (8 * r + 1)) ≡ true →
+      unusedFrom log r (arity table (value log (8 * r))) ≡ goodRow table (rowAt log r)
+  unfolding goodRow unusedFrom value
+  good-third e f = rw (row-first log r, row-word log r 1 (omega arith), e, f)
+
+  -- the predicate of a good row is a number
+  pub good-number : goodRow table (rowAt log r) ≡ true → atLeast 0 (word log (8 * r)) ≡ true
+  unfolding goodRow below atLeast
+  good-number e =
+      let first : below (predicates table) (word (rowAt log r) 0) ≡ true = and-left _ _ (and-left _ _ e) in
+      let word-first : leZ (pos 0) (word (rowAt log r) 0) ≡ true = and-left _ _ first in
+      rw (row-first log r) at word-first
