@@ -4,10 +4,10 @@ pub mod dual_words;
 ghost use mathlib.Core.Path.{_≡_};
 ghost use lib.ListN.{length};
 ghost use Rattle.model.specs.Calls as C;
-use tables::Checked;
-use policies::policy::Walked;
 use model::Answer;
 use model::Refusal;
+use policies::policy::Walked;
+use tables::Checked;
 
 // Check a policy over a table: questions 1 to 7. Accepted, the count is the greatest level.
 pub fn check_policy(table: &[i32], policy: &[i32]) -> Answer

@@ -8,10 +8,10 @@ ghost use Rattle.model.specs.Words as W;
 ghost use Rattle.model.specs.Log as L;
 ghost use Rattle.tables.specs.Checked.{outcome};
 ghost use Rattle.logs.specs.Search.{firstRow, repeatsAt, unusedFrom};
+use model::Refusal;
 use tables::Checked;
 use tables::table;
 use tables::words;
-use model::Refusal;
 
 // The row that a search finds.
 pub enum Found {

@@ -1,10 +1,10 @@
 // The mode rule: question 7, in a second pass over a policy that was read. Sets of variables go by value.
-use tables::Checked;
 use crate::node;
 use crate::node::Role;
 use crate::node::Tag;
-use tables::words;
 use model::Refusal;
+use tables::Checked;
+use tables::words;
 ghost use mathlib.Core.Path.{_≡_};
 ghost use mathlib.Core.Bool.{Bool, true, _&&_};
 ghost use lib.Dec.{ltb};

@@ -1,7 +1,7 @@
 // Nodes: the tag of a node, what it costs, and questions 3 to 6 at one node.
+use model::Refusal;
 use tables::Checked;
 use tables::words;
-use model::Refusal;
 ghost use mathlib.Core.Path.{_≡_};
 ghost use mathlib.Core.Bool.{Bool, true};
 ghost use Prim.Native.Nat.{_+_, _*_, _^_, _≤_, _<_};

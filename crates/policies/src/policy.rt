@@ -1,10 +1,10 @@
 // Policies: one walk over the words of a policy, front to back, asks questions 2 to 6 and finds the greatest level.
-use tables::Checked;
 use crate::node;
 use crate::node::Role;
 use crate::node::Tag;
-use tables::words;
 use model::Refusal;
+use tables::Checked;
+use tables::words;
 ghost use mathlib.Core.Path.{_≡_};
 ghost use Prim.Native.Nat.{_≤_, max};
 ghost use lib.ListN.{length};
