@@ -40,7 +40,8 @@ pub fn check_log(table: &[i32], log: &[i32]) -> Answer
     match first {
         Checked::Refused(refusal, place) => Answer::Refused(refusal, place),
         Checked::Passed => {
-            let second = logs::log::check_log(table, log);
+            let mut links = [0; 20480];
+            let second = logs::log::check_log(table, log, &mut links);
             match second {
                 Checked::Refused(refusal, place) => Answer::Refused(refusal, place),
                 Checked::Passed => Answer::Accepted(log.len() / 8),

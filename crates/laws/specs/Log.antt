@@ -6,8 +6,8 @@ use mathlib.Core.Path.{_≡_, refl, sym, ap, ap₂, _∙_, subst}
 use mathlib.Core.Logic.{_⊎_, inl, inr, ⊎-elim}
 use mathlib.Core.Bool.{Bool, true, false, not, cond, _&&_}
 use mathlib.Core.List.{List, [], _∷_, _++_, map, List·Memᴰ, List·Memᴰ·head, List·Memᴰ·tail, List·Memᴰ·not-nil, List·Memᴰ·cases-cons}
-use lib.ListN.{length, take, drop, length-take, length-drop, take-append-drop}
-use lib.Seq.{take-take, length-take-le}
+use lib.ListN.{length, take, drop, replicate, length-take, length-drop, length-append, length-replicate, take-append-drop}
+use lib.Seq.{take-take, take-all, take-at, length-take-le}
 use lib.Dec.{leb, eqb}
 use lib.IntN.{ℤ, pos, natAbs}
 use borrow.Author.Tests.{eqb-true, eq-eqb, leb-true, le-leb, not-true}
@@ -15,7 +15,7 @@ use Rattle.model.specs.Words.{Words, word, value, within, below, equal, rowLimi
 use Rattle.model.specs.Lists.{span, all, any}
 use Rattle.model.specs.Answer.{Outcome, passed, ask, _>>=_, inTurn}
 use Rattle.model.specs.Table.{predicates, arity, complete}
-use Rattle.model.specs.Log.{rowCount, rowAt, rows, front, arguments, saysTrue, goodRow, sameAtom, askLog, known, unknown, holds, valueIn}
+use Rattle.model.specs.Log.{rowCount, rowAt, rows, front, arguments, saysTrue, goodRow, sameAtom, askLog, Value, known, unknown, holds, valueIn}
 use Rattle.model.specs.Truth.{Extends}
 use Rattle.model.specs.declared.Refusal.the-variants.{LogLength, Row, Repeat}
 use Rattle.laws.specs.Words.Tests.{decide, clash, and-left, and-right, and-true, equal-true, equal-refl, equalAll-true, equalAll-refl}
@@ -353,6 +353,73 @@ row-of-value table (row ∷ rest) p ns e =
     (λ k. (row, List·Memᴰ·head refl, k, known-same (rw k at e)))
     (λ k. let (r, m, h, t) = row-of-value table rest p ns (rw k at e) in (r, List·Memᴰ·tail m, h, t))
     (decide (holds p ns row))
+
+-- an atom's numbers, filled up to six with 0 as the arguments of a good row are: a row holds the one exactly if it holds the other
+zeros-all : (k : ℕ) → all (λ a. equal a (pos 0)) (replicate k (pos 0)) ≡ true
+unfolding all
+zeros-all zero = refl
+zeros-all (suc k) = and-true (equal-refl (pos 0)) (zeros-all k)
+
+pub holds-filled :
+    (table row : Words) (p : ℕ) (ns : List ℤ) →
+    goodRow table row ≡ true →
+    length (arguments row) ≡ 6 →
+    length ns ≡ arity table p →
+    length ns ≤ 6 →
+    holds p ns row ≡ holds p (ns ++ replicate (6 - length ns) (pos 0)) row
+holds-filled table row p ns g six a few =
+    ⊎-elim
+    (λ h.
+    let zero-there = unused-zero table row p (length ns) (sym a) g (holds-value p ns row h) in
+    let unused : drop (length ns) (arguments row) ≡ zeros =
+    zeros-same _ _ zero-there (zeros-all (6 - length ns)) (rw (length-drop (length ns) (arguments row), length-replicate (6 - length ns) (pos 0), six)) in
+    let whole : arguments row ≡ ns ++ zeros =
+    sym (take-append-drop (length ns) (arguments row)) ∙ ap₂ (λ (x y : List ℤ). x ++ y) (holds-arguments p ns row h) unused in
+    h ∙ sym (holds-intro p (ns ++ zeros) row (holds-predicate p ns row h) (take-all (length (ns ++ zeros)) (arguments row) (omega (arith, six, long)) ∙ whole)))
+    (λ h.
+    ⊎-elim
+    (λ k.
+    let whole : arguments row ≡ ns ++ zeros =
+    sym (take-all (length (ns ++ zeros)) (arguments row) (omega (arith, six, long))) ∙ holds-arguments p (ns ++ zeros) row k in
+    let first : take (length ns) (arguments row) ≡ ns = ap (take (length ns)) whole ∙ take-at ns zeros (length ns) refl in
+    clash (holds-intro p ns row (holds-predicate p (ns ++ zeros) row k) first) h)
+    (λ k. h ∙ sym k)
+    (decide (holds p (ns ++ zeros) row)))
+    (decide (holds p ns row))
+  where
+    zeros : List ℤ
+    zeros = replicate (6 - length ns) (pos 0)
+
+    long : length (ns ++ zeros) ≡ 6
+    long = length-append ns zeros ∙ ap (λ (k : ℕ). length ns + k) (length-replicate (6 - length ns) (pos 0)) ∙ omega arith
+
+-- so the two have the same value
+rows-filled :
+    (table : Words) (rows : List Words) (p : ℕ) (ns : List ℤ) →
+    ((r : Words) → List·Memᴰ r rows → (goodRow table r ≡ true) × (length (arguments r) ≡ 6)) →
+    length ns ≡ arity table p →
+    length ns ≤ 6 →
+    valueIn table rows p ns ≡ valueIn table rows p (ns ++ replicate (6 - length ns) (pos 0))
+unfolding valueIn
+rows-filled table [] p ns g a few = refl
+rows-filled table (row ∷ rest) p ns g a few =
+    let here = g row (List·Memᴰ·head refl) in
+    ap₂ (λ (b : Bool) (v : Value). cond b (known (saysTrue row)) v)
+    (holds-filled table row p ns (here .0) (here .1) a few)
+    (rows-filled table rest p ns (λ r m. g r (List·Memᴰ·tail m)) a few)
+
+pub value-filled :
+    (table log : Words) (p : ℕ) (ns : List ℤ) →
+    askLog table log ≡ passed tt →
+    length ns ≡ arity table p →
+    length ns ≤ 6 →
+    valueIn table (rows log) p ns ≡ valueIn table (rows log) p (ns ++ replicate (6 - length ns) (pos 0))
+value-filled table log p ns e a few =
+    rows-filled table (rows log) p ns
+    (λ r m.
+    let (i, b, q) = rows-mem log m in
+    (ap (goodRow table) q ∙ accepted table log e .good i b, ap (λ (r : Words). length (arguments r)) q ∙ arguments-length log i b))
+    a few
 
 -- rows that say true of no complete predicate leave a complete predicate's atoms false
 rest-false :

@@ -1,2 +1,6 @@
 -- Laws that several proofs of this crate cite.
 pub mod Rows
+pub mod Chains
+pub mod Keys
+pub mod Searches
+pub mod Values

@@ -1,34 +1,37 @@
 -- Rows of a log by index: a row's atom compared argument by argument, and the search through a span of rows.
-use Prim.Native.Nat.{ℕ, suc, _+_, _*_, _-_, _≤_, _<_}
-use native.Mathlib.Nat.{zero-add, add-zero, sub-zero, add-assoc}
+use Prim.Native.Nat.{ℕ, zero, suc, _+_, _*_, _-_, _/_, _≤_, _<_}
+use native.Mathlib.Nat.{zero-add, add-zero, sub-zero, add-assoc, eq-or-lt-of-le}
 use native.Mathlib.Numerals.{add-one}
 use native.Mathlib.Omega.{arith}
 use mathlib.Core.Path.{_≡_, refl, sym, ap, ap₂, _∙_}
 use mathlib.Core.Bool.{Bool, true, false, _&&_, _||_, cond}
 use mathlib.Core.List.{List, [], _∷_, List·Memᴰ, List·Memᴰ·head, List·Memᴰ·tail}
 use mathlib.Core.Logic.{⊎-elim}
-use lib.Dec.{eqb}
-use borrow.Author.Tests.{eqb-true, eqb-false, eq-eqb, ne-eqb}
+use lib.Dec.{eqb, ltb}
+use borrow.Author.Tests.{eqb-true, eqb-false, eq-eqb, ne-eqb, lt-ltb, le-ltb}
 use Rattle.laws.specs.Words.Tests.{decide, and-left}
 use Rattle.laws.specs.Words.Standing.{atLeast-value}
 use lib.ListN.{length, getD, take, drop, drop-of-length-le, length-take, length-drop}
 use lib.Seq.{drop-cons, drop-drop, getD-drop, getD-take, take-take, take-all}
-use lib.IntN.{ℤ, pos, negsuc}
+use lib.IntN.{ℤ, pos, negsuc, natAbs}
 use lib.Signed.{leZ}
 use Rattle.model.specs.Words.{Words, word, value, atLeast, within, below, equal, equalAll}
 use Rattle.model.specs.Table.{predicates, arity}
 use Rattle.model.specs.Lists.{span, all, any}
-use Rattle.model.specs.Log.{rowAt, arguments, holds, sameAtom, goodRow}
+use Rattle.model.specs.Log.{rowCount, rowAt, arguments, holds, sameAtom, goodRow}
 use Rattle.laws.specs.Lists.Span.{span-mem, drop-take}
-use Rattle.logs.specs.declared.log.Found.{Found}
-use Rattle.logs.specs.declared.log.Found.the-variants.{At, Nothing}
+use Rattle.laws.specs.Log.{holds-intro}
+use Rattle.logs.specs.declared.search.Found.{Found}
+use Rattle.logs.specs.declared.search.Found.the-variants.{At, Nothing}
 use Rattle.logs.specs.Search.{firstRow, unusedFrom, repeatsAt}
-use Rattle.tables.proofs.Loops.{span-step, span-end}
 
 -- the words of a row stand in the log
 pub row-word : (log : Words) (r i : ℕ) → i < 8 → word (rowAt log r) i ≡ word log (8 * r + i)
 unfolding word rowAt
 row-word log r i h = getD-take 8 (drop (8 * r) log) i (pos 0) h ∙ getD-drop (8 * r) log i (pos 0)
+
+pub row-first : (log : Words) (r : ℕ) → word (rowAt log r) 0 ≡ word log (8 * r)
+row-first log r = row-word log r 0 (omega arith) ∙ ap (word log) (add-zero (8 * r))
 
 pub row-arguments : (log : Words) (r n : ℕ) → n ≤ 6 → take n (arguments (rowAt log r)) ≡ take n (drop (8 * r + 2) log)
 unfolding arguments rowAt
@@ -75,20 +78,6 @@ module _ (log : Words) (b : ℕ) (ns : List ℤ) (i : ℕ) where
   pub rest-end : length ns ≤ i → Rest log b ns i ≡ true
   unfolding equalAll
   rest-end h = let e : length ns - i ≡ 0 = omega arith in rw (e, drop-of-length-le ns h)
-
--- the search, row by row
-module _ (log : Words) (p : ℕ) (ns : List ℤ) (r end : ℕ) where
-  pub search-step : r < end → holds p ns (rowAt log r) ≡ false → firstRow log p ns (span r (end - r)) ≡ firstRow log p ns (span (r + 1) (end - (r + 1)))
-  unfolding firstRow
-  search-step h e = ap (firstRow log p ns) (span-step r end h) ∙ rw e
-
-  pub search-found : r < end → holds p ns (rowAt log r) ≡ true → firstRow log p ns (span r (end - r)) ≡ At r
-  unfolding firstRow
-  search-found h e = ap (firstRow log p ns) (span-step r end h) ∙ rw e
-
-  pub search-end : end ≤ r → firstRow log p ns (span r (end - r)) ≡ Nothing
-  unfolding firstRow
-  search-end h = ap (firstRow log p ns) (span-end r end h)
 
 -- a row within the log has six arguments, and they stand behind its first two words
 pub row-six : (log : Words) (r : ℕ) → 8 * r + 8 ≤ length log → length (arguments (rowAt log r)) ≡ 6
@@ -194,10 +183,74 @@ module _ (log : Words) (r : ℕ) (within : 8 * r + 8 ≤ length log) (number : a
       any-first (span 0 r) (λ q m. let k = span-mem 0 r m .1 in omega (arith, zero-add r))
       ∙ ap isAt (sym (e ∙ ap (λ (ns : List ℤ). firstRow log (value log (8 * r)) ns (span 0 r)) (row-part log r)))
 
--- question 9, test by test
-row-first : (log : Words) (r : ℕ) → word (rowAt log r) 0 ≡ word log (8 * r)
-row-first log r = row-word log r 0 (omega arith) ∙ ap (word log) (add-zero (8 * r))
+-- the row that a search found is earlier than a row
+abbrev pub earlier : ℕ → Found → Bool
+earlier r (At q) = ltb q r
+earlier r Nothing = false
 
+-- a search through rows up to one that holds the atom, and through those before that row
+first-before :
+    (log : Words) (p : ℕ) (ns : List ℤ) (r n i : ℕ) →
+    i ≤ r →
+    r < i + n →
+    holds p ns (rowAt log r) ≡ true →
+    isAt (firstRow log p ns (span i (r - i))) ≡ earlier r (firstRow log p ns (span i n))
+unfolding firstRow span
+first-before log p ns r zero i l h k = absurd (omega arith)
+first-before log p ns r (suc n) i l h k =
+    ⊎-elim
+    (λ e.
+    let none : r - i ≡ 0 = omega arith in
+    let here : holds p ns (rowAt log i) ≡ true = ap (λ (q : ℕ). holds p ns (rowAt log q)) e ∙ k in
+    rw (none, here) (sym (le-ltb i r (omega arith))))
+    (λ l.
+    let more : r - i ≡ suc (r - suc i) = omega arith in
+    let later : r < suc i + n = omega arith in
+    let ih = first-before log p ns r n (suc i) l later k in
+    rw more (go l (holds p ns (rowAt log i)) ih))
+    (eq-or-lt-of-le l)
+  where
+    go :
+        i < r → (b : Bool) →
+        isAt (firstRow log p ns (span (suc i) (r - suc i))) ≡ earlier r (firstRow log p ns (span (suc i) n)) →
+        isAt (cond b (At i) (firstRow log p ns (span (suc i) (r - suc i)))) ≡ earlier r (cond b (At i) (firstRow log p ns (span (suc i) n)))
+    go l true ih = sym (lt-ltb i r l)
+    go l false ih = ih
+
+-- an earlier row repeats a row's atom exactly if the first row of the log that holds it is earlier
+module _ (log : Words) (r : ℕ) (inside : r < rowCount log) (number : atLeast 0 (word log (8 * r)) ≡ true) where
+  own-row : holds (value log (8 * r)) (arguments (rowAt log r)) (rowAt log r) ≡ true
+  unfolding value
+  own-row =
+      holds-intro (natAbs (word log (8 * r))) (arguments (rowAt log r)) (rowAt log r)
+      (row-first log r ∙ atLeast-value 0 (word log (8 * r)) number .0)
+      (take-all (length (arguments (rowAt log r))) (arguments (rowAt log r)) (omega arith))
+
+  pub repeats-first :
+      {f : Found} →
+      f ≡ firstRow log (value log (8 * r)) (take 6 (drop (8 * r + 2) log)) (span 0 (rowCount log)) →
+      repeatsAt log r ≡ earlier r f
+  unfolding rowCount
+  repeats-first e =
+      let p = value log (8 * r) in
+      let ns = arguments (rowAt log r) in
+      repeats-search log r (omega arith) number refl
+      ∙ ap (λ (l : List ℤ). isAt (firstRow log p l (span 0 r))) (row-part log r)
+      ∙ ap (λ (k : ℕ). isAt (firstRow log p ns (span 0 k))) (sym (sub-zero r))
+      ∙ first-before log p ns r (length log / 8) 0 (omega arith) (omega arith) own-row
+      ∙ ap (earlier r) (sym (e ∙ ap (λ (l : List ℤ). firstRow log p l (span 0 (length log / 8))) (row-part log r)))
+
+-- a row found is a row of the log
+pub first-inside : (log : Words) (p : ℕ) (ns : List ℤ) (q n i : ℕ) → firstRow log p ns (span i n) ≡ At q → q < i + n
+unfolding firstRow span
+first-inside log p ns q zero i e = let z : _≡_ {A = ℕ} 0 1 = cc in absurd (omega arith)
+first-inside log p ns q (suc n) i e =
+    ⊎-elim
+    (λ h. let same : At i ≡ At q = rw h at e in let k : i ≡ q = cc in omega arith)
+    (λ h. let b = first-inside log p ns q n (suc i) (rw h at e) in omega arith)
+    (decide (holds p ns (rowAt log i)))
+
+-- question 9, test by test
 module _ (table log : Words) (r : ℕ) where
   pub good-first : below (predicates table) (word log (8 * r)) ≡ false → false ≡ goodRow table (rowAt log r)
   unfolding goodRow

@@ -1,104 +1,182 @@
-//! Measures the library against the reference: same run, same inputs, in turns.
+//! Measures the library against the reference and, for some calls, against hand-written code: same run, same inputs, in
+//! turns.
 //!
-//! The policy has 1,048,576 words, the greatest number allowed, and the log 4,096 rows. The reference reads a policy
-//! into a tree and keeps the rows in a hash table, so a ratio below 1 says little about the library alone.
+//! The policy has 1,048,576 words, the greatest number allowed. The logs have 256, 1,024 and 4,096 rows, to see whether
+//! the time grows with the rows; 4,096 is the greatest number allowed.
+//!
+//! The reference reads a policy into a tree and keeps the rows of a log in a hash table, so a ratio to it that is below
+//! 1 says little about the library alone. The hand-written log check allocates nothing, like the library.
+
+mod keys;
+mod logs;
+mod measure;
+mod peer;
 
 use std::hint::black_box;
-use std::time::{Duration, Instant};
 
-use inputs::{full_log, long_policy, Random, FULL_LOG_TABLE};
+use inputs::{long_policy, Random};
+use keys::{Chains, KEYS};
+use logs::{refused_logs, Kind, KINDS, TABLE};
+use measure::{agreed, measure, Call, Times, BATCH, GARBAGE, REPETITIONS};
+use reference::Answer;
+use vitrinehawk::Refused;
 
 const WORDS: usize = 1_048_576;
-const ROWS: usize = 4_096;
-const REPETITIONS: usize = 21;
+const ROWS: [usize; 3] = [256, 1_024, 4_096];
 
-/// send (open), consent (complete), believes (its argument is an input, open), and two wide ones.
-const TABLE: [i32; 15] = [3, 0, 0, 2, 0, 1, 1, 1, 0, 6, 3, 1, 4, 0, 0];
-
-/// What the buffer is full of before each call.
-const GARBAGE: i32 = -1;
-
-/// The times of one implementation, sorted.
-struct Times(Vec<Duration>);
-
-impl Times {
-    fn best(&self) -> f64 {
-        self.0[0].as_secs_f64() * 1e3
-    }
-
-    fn median(&self) -> f64 {
-        self.0[self.0.len() / 2].as_secs_f64() * 1e3
-    }
-}
-
-/// A call of either implementation on a buffer, that returns the count of an accepted call.
-type Call<'a> = &'a dyn Fn(&mut [i32]) -> usize;
-
-/// The time of one call on a buffer full of garbage.
-fn time(call: Call, buffer: &mut [i32]) -> Duration {
-    buffer.fill(GARBAGE);
-    let start = Instant::now();
-    black_box(call(black_box(buffer)));
-    start.elapsed()
-}
-
-/// Measures both implementations in turns and prints a row.
-fn measure(name: &str, buffer: usize, library: Call, reference: Call) {
-    let mut buffer = vec![GARBAGE; buffer];
-    let mut other = buffer.clone();
-    assert_eq!(library(&mut buffer), reference(&mut other), "{name}: the counts differ");
-    assert!(buffer == other, "{name}: the buffers differ");
-
-    let mut times = [library, reference].map(|_| Vec::new());
-    for _ in 0..REPETITIONS {
-        for (times, call) in times.iter_mut().zip([library, reference]) {
-            times.push(time(call, &mut buffer));
-        }
-    }
-    let [library, reference] = times.map(|mut times| {
-        times.sort();
-        Times(times)
-    });
-    println!(
-        "{name:<32} {:>9.3} {:>9.3} {:>11.3} {:>9.3} {:>8.3}",
-        library.best(),
-        library.median(),
-        reference.best(),
-        reference.median(),
-        library.median() / reference.median(),
-    );
-}
+/// The implementations in the order of the columns. The last is there for some calls only.
+const IMPLEMENTATIONS: [&str; 3] = ["library", "reference", "hand-written"];
 
 fn main() {
-    let policy = long_policy(&mut Random::new(0xBE7C), &TABLE, WORDS);
-    let log = full_log(ROWS);
-
-    println!("Milliseconds, {REPETITIONS} repetitions of each, library and reference in turns.");
+    println!("Microseconds for a call, {REPETITIONS} measurements of each implementation, in turns.");
+    println!("A call of less than {BATCH:?} is repeated in a batch that takes at least as long.");
     println!("Buffers were not cleared first: before each call they were filled with {GARBAGE}, outside the time.");
     println!();
-    println!("{:<32} {:^19} {:^21}", "", "library", "reference");
-    println!(
-        "{:<32} {:>9} {:>9} {:>11} {:>9} {:>8}",
-        "", "best", "median", "best", "median", "ratio"
-    );
-    measure(
-        &format!("check policy, {WORDS} words"),
-        0,
-        &|_| vitrinehawk::check_policy(&TABLE, &policy).expect("accepted"),
-        &|_| reference::check_policy(&TABLE, &policy).count,
-    );
-    measure(
-        &format!("check log, {ROWS} rows"),
-        0,
-        &|_| vitrinehawk::check_log(&FULL_LOG_TABLE, &log).expect("accepted"),
-        &|_| reference::check_log(&FULL_LOG_TABLE, &log).count,
-    );
-    measure(
-        &format!("dual, {WORDS} words"),
-        WORDS,
-        &|buffer| vitrinehawk::dual(&TABLE, &policy, buffer).expect("accepted"),
-        &|buffer| reference::dual(&TABLE, &policy, buffer).count,
-    );
+    print_heads();
+    policies();
+    let measured = logs();
     println!();
-    println!("The ratio is the library's median divided by the reference's.");
+    println!("The ratios are those of the medians.");
+    println!();
+    print_rows(&measured);
+}
+
+/// Measures the calls that are given a policy.
+fn policies() {
+    let policy = &long_policy(&mut Random::new(0xBE7C), &TABLE, WORDS);
+    row(
+        &format!("check policy, {WORDS} words"),
+        1,
+        0,
+        &[
+            &|_, _| library(vitrinehawk::check_policy(&TABLE, black_box(policy))),
+            &|_, _| reference::check_policy(&TABLE, black_box(policy)),
+        ],
+    );
+    row(
+        &format!("dual, {WORDS} words"),
+        1,
+        WORDS,
+        &[
+            &|_, buffer| library(vitrinehawk::dual(&TABLE, black_box(policy), buffer)),
+            &|_, buffer| reference::dual(&TABLE, black_box(policy), buffer),
+        ],
+    );
+}
+
+/// The log check on logs of one kind and with so many rows.
+struct LogCheck {
+    name: String,
+    rows: usize,
+    times: Vec<Times>,
+    chains: Chains,
+}
+
+/// Compares and measures the log check.
+fn logs() -> Vec<LogCheck> {
+    let mut measured = Vec::new();
+    for Kind { name, table, make, .. } in KINDS {
+        let words = make();
+        for rows in ROWS {
+            let name = format!("check log, {name}, {rows} rows");
+            let logs: Vec<_> = words.chunks(8 * rows).collect();
+            for (log, expected) in refused_logs(table, logs[0]) {
+                let answer = with_log_checks(table, &[&log], |calls| agreed(&name, 0, 0, calls));
+                assert_eq!(answer, expected, "{name}: the answer to a bad log");
+            }
+            measured.push(LogCheck {
+                times: with_log_checks(table, &logs, |calls| row(&name, logs.len(), 0, calls)),
+                name,
+                rows,
+                chains: Chains::of(&logs),
+            });
+        }
+    }
+    measured
+}
+
+/// Does something with the calls that check the logs.
+fn with_log_checks<T>(table: &[i32], logs: &[&[i32]], work: impl FnOnce(&[Call]) -> T) -> T {
+    let log = |input: usize| black_box(logs[input % logs.len()]);
+    work(&[
+        &|input, _| library(vitrinehawk::check_log(table, log(input))),
+        &|input, _| reference::check_log(table, log(input)),
+        &|input, _| answer(peer::check_log(table, log(input))),
+    ])
+}
+
+/// The answer that a result stands for.
+fn answer(result: Result<usize, (u32, usize)>) -> Answer {
+    match result {
+        Ok(count) => Answer::accepted(count),
+        Err((number, place)) => Answer::refused(number, place),
+    }
+}
+
+/// The answer of the library.
+fn library(result: Result<usize, Refused>) -> Answer {
+    answer(result.map_err(|refused| (refused.refusal.number(), refused.place)))
+}
+
+/// Compares the calls on all their inputs, measures them and prints a row.
+fn row(name: &str, inputs: usize, words: usize, calls: &[Call]) -> Vec<Times> {
+    for input in 0..inputs {
+        let answer = agreed(name, input, words, calls);
+        assert_eq!(answer.number, 0, "{name}: the input is refused");
+    }
+    let times = measure(words, calls);
+    print_times(name, &times);
+    times
+}
+
+/// Prints the heads of the columns.
+fn print_heads() {
+    print!("{:<32}", "");
+    for implementation in IMPLEMENTATIONS {
+        print!(" {implementation:^21}");
+    }
+    println!("   library divided by");
+    print!("{:<32}", "");
+    for _ in IMPLEMENTATIONS {
+        print!(" {:>10} {:>10}", "best", "median");
+    }
+    println!(" {:>9} {:>12}", IMPLEMENTATIONS[1], IMPLEMENTATIONS[2]);
+}
+
+/// Prints the times of the implementations that a call has, and the library's ratios to the others.
+fn print_times(name: &str, times: &[Times]) {
+    print!("{name:<32}");
+    for times in times {
+        print!(" {:>10.2} {:>10.2}", times.best() * 1e6, times.median() * 1e6);
+    }
+    for _ in times.len()..IMPLEMENTATIONS.len() {
+        print!(" {:>10} {:>10}", "-", "-");
+    }
+    let ratio = |peer: &Times| format!("{:.2}", times[0].median() / peer.median());
+    let by_hand = times.get(2).map_or("-".into(), ratio);
+    println!(" {:>9} {by_hand:>12}", ratio(&times[1]));
+}
+
+/// Prints the time for a row of a log, and how the rows fall on the keys.
+fn print_rows(measured: &[LogCheck]) {
+    println!("Nanoseconds for a row of a log, medians.");
+    println!("Longest: the most rows of a log that share one of the library's {KEYS} keys.");
+    println!("Earlier: how many earlier rows share a row's key, on average.");
+    println!();
+    print!("{:<32}", "");
+    for implementation in IMPLEMENTATIONS {
+        print!(" {implementation:>12}");
+    }
+    println!(" {:>8} {:>8}", "longest", "earlier");
+    for check in measured {
+        print!("{:<32}", check.name);
+        for times in &check.times {
+            print!(" {:>12.2}", times.median() * 1e9 / check.rows as f64);
+        }
+        println!(" {:>8} {:>8.2}", check.chains.longest, check.chains.earlier);
+    }
+    println!();
+    for Kind { name, meaning, .. } in KINDS {
+        println!("{name}: {meaning}.");
+    }
 }

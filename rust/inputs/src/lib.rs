@@ -12,7 +12,7 @@ mod shrink;
 mod tables;
 
 pub use damage::{boundary_word, damage, noise};
-pub use logs::{damaged_log, full_log, good_log, FULL_LOG_TABLE};
+pub use logs::{counting_log, damaged_log, full_log, good_log, random_log, FULL_LOG_TABLE};
 pub use policies::{long_policy, policy};
 pub use random::Random;
 pub use recipe::Recipe;

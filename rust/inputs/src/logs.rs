@@ -13,18 +13,28 @@ pub fn good_log(random: &mut Random, table: &[i32], most_rows: usize, values: us
     let mut seen = BTreeSet::new();
     let mut words = Vec::new();
     for _ in 0..rows {
-        let predicate = random.below(table.len() / 3);
-        let mut atom = [0; 7];
-        atom[0] = predicate as i32;
-        for argument in &mut atom[1..=table[3 * predicate] as usize] {
-            *argument = random.below(values) as i32;
-        }
+        let atom = atom(random, table, |random| random.below(values) as i32);
         if seen.insert(atom) {
-            words.extend([atom[0], i32::from(!random.once_in(4))]);
-            words.extend(&atom[1..]);
+            words.extend(row(random, atom));
         }
     }
     words
+}
+
+/// An atom of any predicate, as its predicate and six words for its arguments.
+fn atom(random: &mut Random, table: &[i32], argument: impl Fn(&mut Random) -> i32) -> [i32; 7] {
+    let predicate = random.below(table.len() / 3);
+    let mut atom = [0; 7];
+    atom[0] = predicate as i32;
+    for word in &mut atom[1..=table[3 * predicate] as usize] {
+        *word = argument(random);
+    }
+    atom
+}
+
+/// The row of an atom, true more often than not.
+fn row(random: &mut Random, [predicate, a, b, c, d, e, f]: [i32; 7]) -> [i32; ROW] {
+    [predicate, i32::from(!random.once_in(4)), a, b, c, d, e, f]
 }
 
 /// A log that is likely to be bad: a row repeated, a bad word in a row, or words changed anywhere.
@@ -71,4 +81,34 @@ pub fn full_log(rows: usize) -> Vec<i32> {
         _ => [0, number / 3 % 2, 7, 7, number, 0, 0, 0],
     };
     (0..rows as i32).flat_map(row).collect()
+}
+
+/// So many rows with different atoms, of the predicates in turn. The arguments are consecutive numbers; those of the
+/// predicate's next row are greater by one.
+pub fn counting_log(table: &[i32], rows: usize) -> Vec<i32> {
+    let predicates = table.len() / 3;
+    let row = |number: usize| {
+        let (round, predicate) = (number / predicates, number % predicates);
+        let mut row = [0; ROW];
+        row[0] = predicate as i32;
+        row[1] = i32::from(round % 4 != 0);
+        for (argument, value) in row[2..].iter_mut().take(table[3 * predicate] as usize).zip(round..) {
+            *argument = value as i32;
+        }
+        row
+    };
+    (0..rows).flat_map(row).collect()
+}
+
+/// So many rows with different atoms. Their arguments are any words.
+pub fn random_log(random: &mut Random, table: &[i32], rows: usize) -> Vec<i32> {
+    let mut seen = BTreeSet::new();
+    let mut words = Vec::new();
+    while seen.len() < rows {
+        let atom = atom(random, table, |random| random.number() as i32);
+        if seen.insert(atom) {
+            words.extend(row(random, atom));
+        }
+    }
+    words
 }

@@ -4,13 +4,13 @@ use native.Mathlib.Nat.{suc-add, zero-add, suc-min-suc, min-zero, zero-min, eq-o
 use native.Mathlib.Omega.{arith}
 use mathlib.Core.Path.{_≡_, refl, sym, ap, ap₂}
 use mathlib.Core.Logic.{_⊎_, inl, inr, ⊎-elim}
-use mathlib.Core.Bool.{Bool, true, false, _||_, true≢false}
+use mathlib.Core.Bool.{Bool, true, false, cond, _||_, true≢false}
 use mathlib.Core.List.{List, [], _∷_, map, List·Memᴰ, List·Memᴰ·head, List·Memᴰ·tail, List·Memᴰ·not-nil, List·Memᴰ·cases-cons}
 use lib.ListN.{length, take, drop}
 use lib.Seq.{take-nil}
 use lib.Dec.{ltb}
 use borrow.Author.Tests.{ltb-true, ltb-false}
-use Rattle.model.specs.Lists.{span, any}
+use Rattle.model.specs.Lists.{span, any, keep}
 use Rattle.laws.specs.Words.Tests.{decide}
 
 -- a number is below another or not
@@ -78,6 +78,12 @@ module _ {A : Type 0} where
   any-same f g [] h = refl
   any-same f g (x ∷ l) h =
       ap₂ (λ (a b : Bool). a || b) (h x (List·Memᴰ·head refl)) (any-same f g l (λ y m. h y (List·Memᴰ·tail m)))
+
+  pub keep-same : (f g : A → Bool) (l : List A) → ((x : A) → List·Memᴰ x l → f x ≡ g x) → keep f l ≡ keep g l
+  unfolding keep
+  keep-same f g [] h = refl
+  keep-same f g (x ∷ l) h =
+      ap₂ (λ (b : Bool) (r : List A). cond b (x ∷ r) r) (h x (List·Memᴰ·head refl)) (keep-same f g l (λ y m. h y (List·Memᴰ·tail m)))
 
   -- a test that some element passes, denied: no element passes it
   pub any-none : (test : A → Bool) {x : A} {l : List A} → any test l ≡ false → List·Memᴰ x l → test x ≡ false

@@ -1,0 +1,213 @@
+-- Chains of rows by a key: the first row of a chain and the rest, by induction on the rows left; and one step of filling.
+use Prim.Native.Nat.{ℕ, zero, suc, _+_, _-_, _≤_, _<_}
+use native.Mathlib.Numerals.{add-one}
+use native.Mathlib.Omega.{arith}
+use mathlib.Core.Path.{_≡_, refl, sym, ap, _∙_, subst}
+use mathlib.Core.Logic.{_⊎_, inl, inr, ⊎-elim}
+use mathlib.Core.Bool.{Bool, true, false, cond}
+use mathlib.Core.List.{List, [], _∷_}
+use lib.ListN.{length, getD, set, length-set}
+use lib.Seq.{getD-set-same, getD-set-other}
+use lib.Dec.{eqb}
+use borrow.Author.Tests.{eqb-true, eqb-false, eq-eqb, ne-eqb}
+use Rattle.model.specs.Lists.{span, keep}
+use Rattle.laws.specs.Words.Tests.{decide}
+use Rattle.laws.specs.Lists.Span.{side}
+use Rattle.tables.proofs.Loops.{span-step, span-end}
+use Rattle.logs.specs.Chain.{chain, link, Chained, keyed, Keyed}
+
+module _ (key : ℕ → ℕ) (k i rows : ℕ) where
+  -- row i is of the key, or not, or there is no row i
+  pub chain-here : i < rows → key i ≡ k → chain key k i rows ≡ i ∷ chain key k (i + 1) rows
+  unfolding chain keep
+  chain-here h e = rw (span-step i rows h) (rw (eq-eqb (key i) k e) refl)
+
+  pub chain-past : i < rows → (key i ≡ k → ⊥) → chain key k i rows ≡ chain key k (i + 1) rows
+  unfolding chain keep
+  chain-past h e = rw (span-step i rows h) (rw (ne-eqb (key i) k e) refl)
+
+  pub chain-end : rows ≤ i → chain key k i rows ≡ []
+  unfolding chain keep
+  chain-end h = rw (span-end i rows h)
+
+-- the first row of the key from row i on, with the rest of the chain behind it
+pub record First (key : ℕ → ℕ) (k i rows r : ℕ) : Type 0 where
+  pub behind : i ≤ r
+  pub inside : r < rows
+  pub same : key r ≡ k
+  pub rest : chain key k i rows ≡ r ∷ chain key k (r + 1) rows
+
+-- there is none, or one
+chain-first-of : (key : ℕ → ℕ) (k rows n i : ℕ) → rows - i ≡ n → (chain key k i rows ≡ []) ⊎ ((r : ℕ) × First key k i rows r)
+chain-first-of key k rows zero i e = inl (chain-end key k i rows (omega arith))
+chain-first-of key k rows (suc n) i e =
+    let h : i < rows = omega arith in
+    let less : rows - (i + 1) ≡ n = omega arith in
+    ⊎-elim
+    (λ q. inr (i, record { behind = omega arith; inside = h; same = eqb-true _ _ q; rest = chain-here key k i rows h (eqb-true _ _ q) }))
+    (λ q.
+    let past = chain-past key k i rows h (eqb-false _ _ q) in
+    ⊎-elim
+    (λ none. inl (past ∙ none))
+    (λ one.
+    let r = one .0 in
+    let f : First key k (i + 1) rows r = one .1 in
+    let b : i + 1 ≤ r = f .behind in
+    inr (r, record { behind = omega arith; inside = f .inside; same = f .same; rest = past ∙ f .rest }))
+    (chain-first-of key k rows n (i + 1) less))
+    (decide (eqb (key i) k))
+
+pub chain-first : (key : ℕ → ℕ) (k i rows : ℕ) → (chain key k i rows ≡ []) ⊎ ((r : ℕ) × First key k i rows r)
+chain-first key k i rows = chain-first-of key k rows (rows - i) i refl
+
+-- a link tells the first row of a chain
+pub link-none : (rows : ℕ) {l : List ℕ} → l ≡ [] → link rows l ≡ 0
+unfolding link
+link-none rows e = ap (link rows) e
+
+pub link-some : (rows : ℕ) {l : List ℕ} (r : ℕ) (rs : List ℕ) → l ≡ r ∷ rs → link rows l ≡ rows - r
+unfolding link
+link-some rows r rs e = ap (link rows) e
+
+module _ (key : ℕ → ℕ) (k i rows x : ℕ) (e : x ≡ link rows (chain key k i rows)) where
+  pub walk-end : x ≡ 0 → chain key k i rows ≡ []
+  walk-end z =
+      ⊎-elim
+      (λ none. none)
+      (λ one. let f : First key k i rows (one .0) = one .1 in
+      let l = link-some rows (one .0) (chain key k (one .0 + 1) rows) (f .rest) in
+      let b = f .inside in
+      absurd (omega arith))
+      (chain-first key k i rows)
+
+  pub walk-step : (x ≡ 0 → ⊥) → First key k i rows (rows - x) × (x ≤ rows)
+  walk-step n =
+      ⊎-elim
+      (λ none. absurd (n (e ∙ link-none rows none)))
+      (λ one. let f : First key k i rows (one .0) = one .1 in
+      let l = link-some rows (one .0) (chain key k (one .0 + 1) rows) (f .rest) in
+      let b : one .0 < rows = f .inside in
+      let same : one .0 ≡ rows - x = omega arith in
+      (subst (First key k i rows) same f, omega arith))
+      (chain-first key k i rows)
+
+  pub link-small : x ≤ rows - i
+  link-small =
+      ⊎-elim
+      (λ none. let z = link-none rows none in omega arith)
+      (λ one. let f : First key k i rows (one .0) = one .1 in
+      let l = link-some rows (one .0) (chain key k (one .0 + 1) rows) (f .rest) in
+      let b = f .behind in
+      omega arith)
+      (chain-first key k i rows)
+
+-- the links while they are filled: rows from `from` on are linked, and before them stand keys
+pub record Filling (links₀ : List ℕ) (keys rows from : ℕ) (links : List ℕ) : Type 0 where
+  pub long : length links ≡ length links₀
+  pub heads : (k : ℕ) → k < keys → getD links k 0 ≡ link rows (chain (keyed links₀ keys) k from rows)
+  pub nexts :
+      (r : ℕ) → from ≤ r → r < rows →
+      getD links (keys + r) 0 ≡ link rows (chain (keyed links₀ keys) (keyed links₀ keys r) (r + 1) rows)
+  pub before : (r : ℕ) → r < from → getD links (keys + r) 0 ≡ keyed links₀ keys r
+
+pub filling-from :
+    {links₀ links : List ℕ} {keys rows from : ℕ} (other : ℕ) → from ≡ other → Filling links₀ keys rows from links → Filling links₀ keys rows other links
+filling-from {links₀} {links} {keys} {rows} other e f = subst (λ (n : ℕ). Filling links₀ keys rows n links) e f
+
+module _ (links₀ : List ℕ) (keys rows : ℕ) (start : Keyed links₀ keys rows) where
+  -- at first no row is linked
+  pub fill-start : Filling links₀ keys rows rows links₀
+  unfolding keyed
+  fill-start = record {
+    long = refl;
+    heads = λ k h. start .empty k h ∙ sym (link-none rows (chain-end (keyed links₀ keys) k rows rows (omega arith)));
+    nexts = λ r h l. absurd (omega arith);
+    before = λ r h. refl;
+  }
+
+  module _ (row from x : ℕ) (links : List ℕ) (inside : row < rows) (next : from ≡ row + 1) (f : Filling links₀ keys rows from links) (is : x ≡ rows - row) where
+    -- the key of the row to be linked
+    pub key-here : getD links (keys + row) 0 ≡ keyed links₀ keys row
+    key-here = f .before row (omega arith)
+
+    pub key-small : getD links (keys + row) 0 < keys
+    key-small = rw key-here (start .range row inside)
+
+    -- the links with one row more in front of its chain
+    abbrev half : List ℕ
+    half = set links (keys + row) (getD links (getD links (keys + row) 0) 0)
+
+    abbrev more : List ℕ
+    more = set half (getD links (keys + row) 0) x
+
+    fits : keys + row < length links
+    fits = let l = f .long in let w = start .within in omega arith
+
+    -- what stands at the row, at its key, and elsewhere
+    at-row : getD more (keys + row) 0 ≡ getD links (getD links (keys + row) 0) 0
+    at-row =
+        getD-set-other half (getD links (keys + row) 0) (keys + row) x 0 (λ q. let s = key-small in omega arith)
+        ∙ getD-set-same links (keys + row) (getD links (getD links (keys + row) 0) 0) 0 fits
+
+    at-key : getD more (getD links (keys + row) 0) 0 ≡ x
+    at-key = getD-set-same half (getD links (keys + row) 0) x 0 (rw length-set (let s = key-small in let h = fits in omega arith))
+
+    elsewhere : (j : ℕ) → (getD links (keys + row) 0 ≡ j → ⊥) → (keys + row ≡ j → ⊥) → getD more j 0 ≡ getD links j 0
+    elsewhere j n m =
+        getD-set-other half (getD links (keys + row) 0) j x 0 (λ q. n (sym q))
+        ∙ getD-set-other links (keys + row) j (getD links (getD links (keys + row) 0) 0) 0 (λ q. m (sym q))
+
+    abbrev key : ℕ → ℕ
+    key = keyed links₀ keys
+
+    head-more : (k : ℕ) → k < keys → getD more k 0 ≡ link rows (chain key k row rows)
+    head-more k h =
+        ⊎-elim
+        (λ e.
+        let same : getD links (keys + row) 0 ≡ k = eqb-true _ _ e in
+        ap (λ (j : ℕ). getD more j 0) (sym same)
+        ∙ at-key
+        ∙ is
+        ∙ sym (link-some rows row _ (chain-here key k row rows inside (sym key-here ∙ same))))
+        (λ e.
+        let other : getD links (keys + row) 0 ≡ k → ⊥ = eqb-false _ _ e in
+        elsewhere k other (λ q. omega arith)
+        ∙ f .heads k h
+        ∙ ap (λ (i : ℕ). link rows (chain key k i rows)) next
+        ∙ ap (link rows) (sym (chain-past key k row rows inside (λ q. other (key-here ∙ q)))))
+        (decide (eqb (getD links (keys + row) 0) k))
+
+    next-more : (r : ℕ) → row ≤ r → r < rows → getD more (keys + r) 0 ≡ link rows (chain key (key r) (r + 1) rows)
+    next-more r l h =
+        ⊎-elim
+        (λ e.
+        let same : row ≡ r = eqb-true _ _ e in
+        subst (λ (q : ℕ). getD more (keys + q) 0 ≡ link rows (chain key (key q) (q + 1) rows)) same
+        (at-row
+        ∙ f .heads (getD links (keys + row) 0) key-small
+        ∙ ap (λ (i : ℕ). link rows (chain key (getD links (keys + row) 0) i rows)) next
+        ∙ ap (λ (k : ℕ). link rows (chain key k (row + 1) rows)) key-here))
+        (λ e.
+        let other : row ≡ r → ⊥ = eqb-false _ _ e in
+        elsewhere (keys + r) (λ q. let s = key-small in omega arith) (λ q. other (omega arith))
+        ∙ f .nexts r (later other) h)
+        (decide (eqb row r))
+      where
+        later : (row ≡ r → ⊥) → from ≤ r
+        later n = ⊎-elim (λ k. absurd (n (omega arith))) (λ k. omega arith) (side (row + 1) r)
+
+    pub fill-step : Filling links₀ keys rows row more
+    fill-step = record {
+      long = simp length-set (f .long);
+      heads = head-more;
+      nexts = next-more;
+      before = λ r h. elsewhere (keys + r) (λ q. let s = key-small in omega arith) (λ q. omega arith) ∙ f .before r (omega arith);
+    }
+
+  -- at the end all are
+  pub fill-end : (links : List ℕ) (from : ℕ) → from ≡ 0 → Filling links₀ keys rows from links → Chained (keyed links₀ keys) keys rows links
+  fill-end links from z f = record {
+    within = let l = f .long in let w = start .within in omega arith;
+    heads = λ k h. f .heads k h ∙ ap (λ (i : ℕ). link rows (chain (keyed links₀ keys) k i rows)) z;
+    nexts = λ r h. f .nexts r (omega arith) h;
+  }

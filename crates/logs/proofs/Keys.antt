@@ -1,0 +1,199 @@
+-- The keys of rows: a row that holds an atom has the atom's key; and the keys of all rows, put where their links will stand.
+use Prim.Native.Nat.{ℕ, _+_, _*_, _-_, _/_, _%_, _^_, _≤_, _<_}
+use native.Mathlib.Nat.{sub-zero}
+use native.Mathlib.Omega.{arith}
+use mathlib.Core.Path.{_≡_, refl, sym, ap, ap₂, _∙_, subst}
+use mathlib.Core.Logic.{⊎-elim}
+use mathlib.Core.Bool.{Bool, true, false, cond, _&&_}
+use mathlib.Core.List.{List, [], _∷_}
+use lib.ListN.{length, getD, set, take, replicate, length-set, length-replicate, getD-replicate, List·getD-eq-default}
+use lib.Seq.{getD-set-same, getD-set-other, take-all}
+use lib.Dec.{eqb, ltb}
+use lib.IntN.{ℤ, pos, natAbs}
+use borrow.Author.Tests.{eqb-true, eqb-false, ne-eqb, ltb-true, ltb-false}
+use Rattle.model.specs.Words.{Words, word, value, equal, below}
+use Rattle.model.specs.Lists.{span, keep}
+use Rattle.model.specs.Log.{rowAt, arguments, saysTrue, holds}
+use Rattle.laws.specs.Words.Tests.{decide, clash, equal-true}
+use Rattle.laws.specs.Words.Standing.{below-value, below-pos}
+use Rattle.laws.specs.Log.{holds-value, holds-arguments}
+use Rattle.laws.specs.Lists.Span.{side, span-mem, keep-same}
+use Rattle.logs.specs.Chain.{chain, link, Chained, keyed, Keyed}
+use Rattle.logs.specs.Key.{spread, atomKey, rowKey, trueKey}
+use Rattle.logs.proofs.Rows.{row-first, row-six, row-word, argument-word}
+
+-- equal numbers are spread to the same key, which is below 16,384
+pub spread-same : (p : ℕ) (a b : ℕ → ℕ) → ((i : ℕ) → i < 6 → a i ≡ b i) → spread p a ≡ spread p b
+unfolding spread
+spread-same p a b h =
+    rw (h 0 (omega arith), h 1 (omega arith), h 2 (omega arith), h 3 (omega arith), h 4 (omega arith), h 5 (omega arith)) refl
+
+pub key-small : (p : ℕ) (ws : Words) (at : ℕ) → atomKey p ws at < 16384
+unfolding atomKey spread
+key-small p ws at = omega arith
+
+pub row-small : (log : Words) (r : ℕ) → rowKey log r < 16384
+unfolding rowKey
+row-small log r = key-small (value log (8 * r)) log (8 * r + 2)
+
+-- a row that holds an atom has its key
+pub same-key :
+    (log : Words) (p : ℕ) (ns : List ℤ) (r : ℕ) →
+    8 * r + 8 ≤ length log →
+    length ns ≡ 6 →
+    holds p ns (rowAt log r) ≡ true →
+    rowKey log r ≡ atomKey p ns 0
+unfolding rowKey atomKey value word
+same-key log p ns r within six h =
+    let whole : arguments (rowAt log r) ≡ ns =
+    sym (take-all (length ns) (arguments (rowAt log r)) (omega (arith, row-six log r within))) ∙ holds-arguments p ns (rowAt log r) h in
+    ap (λ (q : ℕ). spread q (λ i. natAbs (word log (8 * r + 2 + i)))) (ap natAbs (sym (row-first log r)) ∙ holds-value p ns (rowAt log r) h)
+    ∙ spread-same p _ _ λ i k. ap natAbs (sym (argument-word log r i k) ∙ argument whole i)
+  where
+    argument : arguments (rowAt log r) ≡ ns → (i : ℕ) → getD (arguments (rowAt log r)) i (pos 0) ≡ word ns (0 + i)
+    argument e i = let z : 0 + i ≡ i = omega arith in rw z (ap (λ (l : List ℤ). getD l i (pos 0)) e)
+
+-- the key of a row by its predicate, test by test
+module _ (log : Words) (r : ℕ) where
+  pub says : saysTrue (rowAt log r) ≡ equal (word log (8 * r + 1)) (pos 1)
+  unfolding saysTrue
+  says = ap (λ (z : ℤ). equal z (pos 1)) (row-word log r 1 (omega arith))
+
+  pub true-not : equal (word log (8 * r + 1)) (pos 1) ≡ false → 256 ≡ trueKey log r
+  unfolding trueKey
+  true-not e = rw (says ∙ e)
+
+  pub true-none : below 256 (word log (8 * r)) ≡ false → 256 ≡ trueKey log r
+  unfolding trueKey
+  true-none e = rw e (none (saysTrue (rowAt log r)))
+    where
+      none : (b : Bool) → 256 ≡ cond (b && false) (value log (8 * r)) 256
+      none true = refl
+      none false = refl
+
+  pub true-here :
+      equal (word log (8 * r + 1)) (pos 1) ≡ true →
+      below 256 (word log (8 * r)) ≡ true →
+      value log (8 * r) ≡ trueKey log r
+  unfolding trueKey
+  true-here e f = rw (says ∙ e, f)
+
+  pub true-small : trueKey log r < 257
+  unfolding trueKey value
+  true-small = go (saysTrue (rowAt log r)) (below 256 (word log (8 * r))) refl
+    where
+      go : (a b : Bool) → below 256 (word log (8 * r)) ≡ b → cond (a && b) (value log (8 * r)) 256 < 257
+      go true true e = let k = below-value 256 (word log (8 * r)) e in omega (arith, k .1)
+      go true false e = omega arith
+      go false b e = omega arith
+
+-- the rows whose key is a predicate are its true rows
+pub true-key : (log : Words) (p r : ℕ) → p < 256 → eqb (trueKey log r) p ≡ (saysTrue (rowAt log r) && equal (word (rowAt log r) 0) (pos p))
+unfolding trueKey value equal
+true-key log p r few =
+    go (saysTrue (rowAt log r)) (word log (8 * r)) (below 256 (word log (8 * r))) refl
+    ∙ ap (λ (z : ℤ). saysTrue (rowAt log r) && equal z (pos p)) (sym (row-first log r))
+  where
+    other : eqb 256 p ≡ false
+    other = ne-eqb 256 p (λ e. omega arith)
+
+    go : (a : Bool) (z : ℤ) (b : Bool) → below 256 z ≡ b → eqb (cond (a && b) (natAbs z) 256) p ≡ (a && equal z (pos p))
+    go false z b e = other
+    go true z true e = ap (λ (y : ℤ). equal y (pos p)) (sym (below-value 256 z e .0))
+    go true z false e =
+        ⊎-elim
+        (λ q. clash (ap (below 256) (equal-true z (pos p) q) ∙ below-pos 256 p few) e)
+        (λ q. other ∙ sym q)
+        (decide (equal z (pos p)))
+
+pub true-rows :
+    (log : Words) (p rows : ℕ) → p < 256 →
+    chain (trueKey log) p 0 rows ≡ keep (λ r. saysTrue (rowAt log r) && equal (word (rowAt log r) 0) (pos p)) (span 0 rows)
+unfolding chain
+true-rows log p rows few =
+    ap (λ (n : ℕ). keep (λ r. eqb (trueKey log r) p) (span 0 n)) (sub-zero rows)
+    ∙ keep-same _ _ (span 0 rows) (λ r m. true-key log p r few)
+
+-- keys of the first rows stand where their links will stand; the links of keys are 0
+pub record Keying (f : ℕ → ℕ) (keys total row : ℕ) (links : List ℕ) : Type 0 where
+  pub long : length links ≡ total
+  pub empty : (k : ℕ) → k < keys → getD links k 0 ≡ 0
+  pub put : (r : ℕ) → r < row → getD links (keys + r) 0 ≡ f r
+
+module _ (f : ℕ → ℕ) (keys total : ℕ) where
+  pub keying-start : (links : List ℕ) → links ≡ replicate {A = ℕ} total 0 → Keying f keys total 0 links
+  keying-start links e = record {
+    long = ap length e ∙ length-replicate {A = ℕ} total 0;
+    empty = λ k h. ap (λ (l : List ℕ). getD l k 0) e ∙ zero-there k;
+    put = λ r h. absurd (omega arith);
+  }
+    where
+      zero-there : (k : ℕ) → getD (replicate {A = ℕ} total 0) k 0 ≡ 0
+      zero-there k =
+          ⊎-elim
+          (λ h. getD-replicate total k 0 0 h)
+          (λ h. List·getD-eq-default (replicate total 0) 0 (rw length-replicate h))
+          (side total k)
+
+  pub keying-step :
+      (row : ℕ) (links : List ℕ) (x : ℕ) → keys + row < total → x ≡ f row → Keying f keys total row links →
+      Keying f keys total (row + 1) (set links (keys + row) x)
+  keying-step row links x h e s = record {
+    long = simp length-set (s .long);
+    empty = λ k l. getD-set-other links (keys + row) k x 0 (λ q. omega arith) ∙ s .empty k l;
+    put = λ r l.
+        ⊎-elim
+        (λ q.
+        let same : row ≡ r = eqb-true _ _ q in
+        subst (λ (n : ℕ). getD (set links (keys + row) x) (keys + n) 0 ≡ f n) same
+        (getD-set-same links (keys + row) x 0 (let w = s .long in omega arith) ∙ e))
+        (λ q.
+        let other : row ≡ r → ⊥ = eqb-false _ _ q in
+        getD-set-other links (keys + row) (keys + r) x 0 (λ z. other (omega arith))
+        ∙ s .put r (smaller r l other))
+        (decide (eqb row r));
+  }
+    where
+      smaller : (r : ℕ) → r < row + 1 → (row ≡ r → ⊥) → r < row
+      smaller r l n = ⊎-elim (λ q. ltb-true _ _ q) (λ q. absurd (n (let b = ltb-false r row q in omega arith))) (decide (ltb r row))
+
+  module _ (rows : ℕ) (links : List ℕ) (s : Keying f keys total rows links) (fits : keys + rows ≤ total) where
+    pub keying-end : rows < 65536 → ((r : ℕ) → f r < keys) → Keyed links keys rows
+    unfolding keyed
+    keying-end few small = record {
+      within = let w = s .long in omega arith;
+      few = few;
+      range = λ r h. rw (s .put r h) (small r);
+      empty = s .empty;
+    }
+
+    -- chained by the keys put there is chained by f
+    pub keying-chained : (filled : List ℕ) → Chained (keyed links keys) keys rows filled → Chained f keys rows filled
+    unfolding keyed chain
+    keying-chained filled c = record {
+      within = c .within;
+      heads = λ k h. c .heads k h ∙ ap (link rows) (chain-same k 0);
+      nexts = λ r h. c .nexts r h ∙ ap (link rows) (chain-same (getD links (keys + r) 0) (r + 1) ∙ ap (λ (k : ℕ). chain f k (r + 1) rows) (s .put r h));
+    }
+      where
+        chain-same : (k i : ℕ) → chain (λ r. getD links (keys + r) 0) k i rows ≡ chain f k i rows
+        chain-same k i =
+            keep-same _ _ (span i (rows - i))
+            λ r m. let b = span-mem i (rows - i) m in ap (λ (x : ℕ). eqb x k) (s .put r (omega arith))
+
+-- the numbers spread, one by one
+pub spread-of :
+    (p a b c d e f : ℕ) (v : ℕ → ℕ) →
+    a ≡ v 0 → b ≡ v 1 → c ≡ v 2 → d ≡ v 3 → e ≡ v 4 → f ≡ v 5 →
+    (p % 256 * 663608941
+    + a % 2 ^ 31 * 625341585
+    + b % 2 ^ 31 * 461845907
+    + c % 2 ^ 31 * 789269575
+    + d % 2 ^ 31 * 668265263
+    + e % 2 ^ 31 * 374761393
+    + f % 2 ^ 31 * 1013904243)
+    / 2 ^ 16
+    % 16384
+    ≡ spread p v
+unfolding spread
+spread-of p a b c d e f v h0 h1 h2 h3 h4 h5 = rw (h0, h1, h2, h3, h4, h5)

@@ -1,0 +1,119 @@
+-- `logs::log::check_rows` meets its contract. The loop's invariant: the rows passed are good and no row repeats, so the
+-- questions come to those at the rows left. The measure is their number.
+use Prim.Native.Nat.{ℕ, _-_, _/_, _≤_, _<_}
+use native.Mathlib.Nat.{sub-zero}
+use native.Mathlib.Omega.{arith}
+use mathlib.Core.Path.{_≡_, refl, sym, ap, _∙_}
+use mathlib.Core.Bool.{true, false, not}
+use borrow.Author.Tests.{not-true, not-false}
+use lib.ListN.{length}
+use Rattle.model.specs.declared.Refusal.the-variants.{Row, Repeat}
+use Rattle.model.specs.Words.{Words}
+use Rattle.model.specs.Lists.{span}
+use Rattle.model.specs.Answer.{Outcome, passed, refused, ask, inTurn, _>>=_}
+use Rattle.model.specs.Log.{rowCount, rowAt, goodRow}
+use Rattle.tables.proofs.Loops.{turn-step, turn-stop, turn-end}
+use Rattle.logs.specs.Search.{askRows, repeatsAt}
+use Rattle.logs.proofs.Rows.{good-number}
+use Rattle.logs.proofs.log.check_rows.Statement.{statement}
+use Rattle.logs.proofs.log.check_rows.Tie as tie
+use Rattle.logs.proofs.log.check_rows.Reads as reads
+use Rattle.logs.proofs.log.check_rows.Lts as lts
+use Rattle.logs.proofs.log.good_row.Reads as good-row-reads
+use Rattle.logs.proofs.log.repeats.Reads as repeats-reads
+
+-- questions 9 and 10 at a row
+row-questions : Words → Words → ℕ → Outcome (Unit {0})
+row-questions table log r = do
+  _ ← ask (goodRow table (rowAt log r)) Row r
+  ask (not (repeatsAt log r)) Repeat r
+
+module _ (table log : Words) where
+  rows-start : askRows table log ≡ inTurn (row-questions table log) (span 0 (length log / 8))
+  unfolding askRows rowCount row-questions
+  rows-start = refl
+
+  row-bad : (r : ℕ) → goodRow table (rowAt log r) ≡ false → row-questions table log r ≡ refused Row r
+  unfolding row-questions ask _>>=_
+  row-bad r e = rw e
+
+  row-repeats : (r : ℕ) → goodRow table (rowAt log r) ≡ true → repeatsAt log r ≡ true → row-questions table log r ≡ refused Repeat r
+  unfolding row-questions ask _>>=_
+  row-repeats r e f = rw (e, f)
+
+  row-passed : (r : ℕ) → goodRow table (rowAt log r) ≡ true → repeatsAt log r ≡ false → row-questions table log r ≡ passed tt
+  unfolding row-questions ask _>>=_
+  row-passed r e f = rw (e, f)
+
+abbrev Inv-loop : tie.InvT-loop
+Inv-loop table log links n row₀ row = (row ≤ n) × (askRows table log ≡ inTurn (row-questions table log) (span row (n - row)))
+
+abbrev μ-loop : tie.MeasureT-loop
+μ-loop table log links n row₀ row = n - row
+
+loop-holds : tie.Need-loop-holds Inv-loop μ-loop
+loop-holds c = (
+  omega arith,
+  rows-start (c .before .args .table .now) (c .before .args .log .now)
+      ∙ ap (λ (m : ℕ). inTurn (row-questions (c .before .args .table .now) (c .before .args .log .now)) (span 0 m)) (sym (sub-zero _)),
+)
+
+good-row-requires : tie.Need-good-row-requires Inv-loop μ-loop
+good-row-requires c κs = (c .before .before .before .pre .0, omega arith)
+
+returns : tie.Need-returns Inv-loop μ-loop
+returns c =
+    sym
+    (c .before .before .before .loop .inv .1
+    ∙ turn-stop (row-questions (c .before .before .before .before .before .args .table .now) (c .before .before .before .before .before .args .log .now)) (c .before .before .before .loop .row) (length (c .before .before .before .before .before .args .log .now) / 8) (c .before .before .loop-test .taken)
+    (row-bad (c .before .before .before .before .before .args .table .now) (c .before .before .before .before .before .args .log .now) (c .before .before .before .loop .row) (sym (c .before .good-row .ensures) ∙ not-true _ (c .if1 .taken))))
+
+is-good :
+    (c : tie.Else1 Inv-loop μ-loop) →
+    goodRow (c .before .before .before .before .before .args .table .now) (rowAt (c .before .before .before .before .before .args .log .now) (c .before .before .before .loop .row)) ≡ true
+is-good c = sym (c .before .good-row .ensures) ∙ not-false _ (c .if1 .left)
+
+repeats-requires : tie.Need-repeats-requires Inv-loop μ-loop
+unfolding rowCount
+repeats-requires c κs = (c .before .before .before .before .before .pre .1, c .before .before .loop-test .taken, good-number (c .before .before .before .before .before .args .table .now) (c .before .before .before .before .before .args .log .now) (c .before .before .before .loop .row) (is-good c))
+
+returns-2 : tie.Need-returns-2 Inv-loop μ-loop
+returns-2 c =
+    sym
+    (c .before .before .before .before .before .loop .inv .1
+    ∙ turn-stop (row-questions (c .before .before .before .before .before .before .before .args .table .now) (c .before .before .before .before .before .before .before .args .log .now)) (c .before .before .before .before .before .loop .row) (length (c .before .before .before .before .before .before .before .args .log .now) / 8) (c .before .before .before .before .loop-test .taken)
+    (row-repeats (c .before .before .before .before .before .before .before .args .table .now) (c .before .before .before .before .before .before .before .args .log .now) (c .before .before .before .before .before .loop .row) (is-good (c .before .before)) (sym (c .before .repeats .ensures) ∙ c .if2 .taken)))
+
+add-row : tie.Need-add-row Inv-loop μ-loop
+add-row c = omega arith
+
+loop-less : tie.Need-loop-less Inv-loop μ-loop
+loop-less c = omega arith
+
+loop-again : tie.Need-loop-again Inv-loop μ-loop
+loop-again c = (
+  omega arith,
+  c .before .before .before .before .before .loop .inv .1
+      ∙ turn-step (row-questions (c .before .before .before .before .before .before .before .args .table .now) (c .before .before .before .before .before .before .before .args .log .now)) (c .before .before .before .before .before .loop .row) (length (c .before .before .before .before .before .before .before .args .log .now) / 8) (c .before .before .before .before .loop-test .taken)
+      (row-passed (c .before .before .before .before .before .before .before .args .table .now) (c .before .before .before .before .before .before .before .args .log .now) (c .before .before .before .before .before .loop .row) (is-good (c .before .before)) (sym (c .before .repeats .ensures) ∙ c .if2 .left)),
+)
+
+returns-3 : tie.Need-returns-3 Inv-loop μ-loop
+returns-3 c =
+    sym (c .before .loop .inv .1 ∙ turn-end (row-questions (c .before .before .before .args .table .now) (c .before .before .before .args .log .now)) (c .before .loop .row) (length (c .before .before .before .args .log .now) / 8) (c .loop-test .left))
+
+pub check-rows-spec : {M : Type 1} → statement M
+check-rows-spec =
+    tie.close
+    (tie.spec
+    Inv-loop
+    μ-loop
+    loop-holds
+    good-row-requires
+    returns
+    repeats-requires
+    returns-2
+    add-row
+    loop-less
+    loop-again
+    returns-3)

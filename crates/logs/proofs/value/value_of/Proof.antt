@@ -1,0 +1,82 @@
+-- `logs::value::value_of` meets its contract: what the row found says, or the predicate's completeness, is the atom's value.
+use Prim.Native.Nat.{_<_, _+_}
+use native.Mathlib.Omega.{arith}
+use mathlib.Core.Path.{_≡_, sym, _∙_}
+use mathlib.Core.Bool.{true, false}
+use Rattle.model.specs.Log.{rowCount}
+use Rattle.logs.proofs.Rows.{first-inside}
+use Rattle.logs.proofs.Values.{value-found, by-row, by-complete, by-nothing}
+use borrow.Author.Needs.{needs}
+use Rattle.logs.proofs.value.value_of.Statement.{statement}
+use Rattle.logs.proofs.value.value_of.Tie as tie
+use Rattle.logs.proofs.value.value_of.Reads as reads
+use Rattle.logs.proofs.value.value_of.Lts as lts
+use Rattle.logs.proofs.search.search.Reads as search-reads
+use Rattle.tables.proofs.words.is.Reads as is-reads
+
+search-requires : tie.Need-search-requires
+search-requires c κs = search needs
+
+enum-known-found : tie.Need-enum-known-found
+enum-known-found c = search needs
+
+mul-is : tie.Need-mul-is
+unfolding rowCount
+mul-is c =
+    let b = first-inside (c .before .before .before .before .before .args .log .now) (c .before .before .before .before .before .args .predicate) (c .before .before .before .before .before .args .arguments .now) _ (rowCount (c .before .before .before .before .before .args .log .now)) 0 (sym (c .before .before .before .search .ensures) ∙ c .before .found .given .1) in
+    omega arith
+
+add-is : tie.Need-add-is
+unfolding rowCount
+add-is c =
+    let b = first-inside (c .before .before .before .before .before .args .log .now) (c .before .before .before .before .before .args .predicate) (c .before .before .before .before .before .args .arguments .now) _ (rowCount (c .before .before .before .before .before .args .log .now)) 0 (sym (c .before .before .before .search .ensures) ∙ c .before .found .given .1) in
+    omega arith
+
+is-requires : tie.Need-is-requires
+is-requires c κs = search needs
+
+enum-told : tie.Need-enum-told
+enum-told c = search needs
+
+mul-is-2 : tie.Need-mul-is-2
+mul-is-2 c = search needs
+
+add-is-2 : tie.Need-add-is-2
+add-is-2 c = search needs
+
+is-requires-2 : tie.Need-is-requires-2
+is-requires-2 c κs = search needs
+
+returns : tie.Need-returns
+returns c = λ ns long filled.
+    sym (value-found (c .before .before .before .before .before .before .before .args .table .now) (c .before .before .before .before .before .before .before .args .log .now) (c .before .before .before .before .before .before .before .args .predicate) (c .before .before .before .before .before .before .before .pre .3) (c .before .before .before .before .before .before .before .args .arguments .now) ns (c .before .before .before .before .before .before .before .pre .1) (c .before .before .before .before .before .search .ensures) long filled ∙ by-row (c .before .before .before .before .before .before .before .args .table .now) (c .before .before .before .before .before .before .before .args .log .now) (c .before .before .before .before .before .before .before .args .predicate) _ true (c .before .before .before .found .given .1) (sym (c .before .is .ensures) ∙ c .if1 .taken))
+
+returns-2 : tie.Need-returns-2
+returns-2 c = λ ns long filled.
+    sym (value-found (c .before .before .before .before .before .before .before .args .table .now) (c .before .before .before .before .before .before .before .args .log .now) (c .before .before .before .before .before .before .before .args .predicate) (c .before .before .before .before .before .before .before .pre .3) (c .before .before .before .before .before .before .before .args .arguments .now) ns (c .before .before .before .before .before .before .before .pre .1) (c .before .before .before .before .before .search .ensures) long filled ∙ by-row (c .before .before .before .before .before .before .before .args .table .now) (c .before .before .before .before .before .before .before .args .log .now) (c .before .before .before .before .before .before .before .args .predicate) _ false (c .before .before .before .found .given .1) (sym (c .before .is .ensures) ∙ c .if1 .left))
+
+returns-3 : tie.Need-returns-3
+returns-3 c = λ ns long filled.
+    sym (value-found (c .before .before .before .before .before .before .args .table .now) (c .before .before .before .before .before .before .args .log .now) (c .before .before .before .before .before .before .args .predicate) (c .before .before .before .before .before .before .pre .3) (c .before .before .before .before .before .before .args .arguments .now) ns (c .before .before .before .before .before .before .pre .1) (c .before .before .before .before .search .ensures) long filled ∙ by-complete (c .before .before .before .before .before .before .args .table .now) (c .before .before .before .before .before .before .args .log .now) (c .before .before .before .before .before .before .args .predicate) (c .before .before .enum-told .given .1) (sym (c .before .is2 .ensures) ∙ c .if2 .taken))
+
+returns-4 : tie.Need-returns-4
+returns-4 c = λ ns long filled.
+    sym (value-found (c .before .before .before .before .before .before .args .table .now) (c .before .before .before .before .before .before .args .log .now) (c .before .before .before .before .before .before .args .predicate) (c .before .before .before .before .before .before .pre .3) (c .before .before .before .before .before .before .args .arguments .now) ns (c .before .before .before .before .before .before .pre .1) (c .before .before .before .before .search .ensures) long filled ∙ by-nothing (c .before .before .before .before .before .before .args .table .now) (c .before .before .before .before .before .before .args .log .now) (c .before .before .before .before .before .before .args .predicate) (c .before .before .enum-told .given .1) (sym (c .before .is2 .ensures) ∙ c .if2 .left))
+
+pub value-of-spec : {M : Type 1} → statement M
+value-of-spec =
+    tie.close
+    (tie.spec
+    search-requires
+    enum-known-found
+    mul-is
+    add-is
+    is-requires
+    enum-told
+    mul-is-2
+    add-is-2
+    is-requires-2
+    returns
+    returns-2
+    returns-3
+    returns-4)

@@ -1,0 +1,32 @@
+-- Chains of rows by a key: what the links of chained rows are.
+use Prim.Native.Nat.{ℕ, _+_, _-_, _≤_, _<_}
+use mathlib.Core.Path.{_≡_}
+use mathlib.Core.List.{List, [], _∷_}
+use lib.ListN.{length, getD}
+use lib.Dec.{eqb}
+use Rattle.model.specs.Lists.{span, keep}
+
+-- the rows of a key from row i to the last, ascending, and no others
+unfoldable pub chain : (ℕ → ℕ) → ℕ → ℕ → ℕ → List ℕ
+chain key k i rows = keep (λ r. eqb (key r) k) (span i (rows - i))
+
+-- the link to the first of some rows: how many rows there are from it to the end; 0, if there is none
+unfoldable pub link : ℕ → List ℕ → ℕ
+link rows [] = 0
+link rows (r ∷ rs) = rows - r
+
+-- a key links to the first of its rows, and a row to the next one of its key
+pub record Chained (key : ℕ → ℕ) (keys rows : ℕ) (links : List ℕ) : Type 0 where
+  pub within : keys + rows ≤ length links
+  pub heads : (k : ℕ) → k < keys → getD links k 0 ≡ link rows (chain key k 0 rows)
+  pub nexts : (r : ℕ) → r < rows → getD links (keys + r) 0 ≡ link rows (chain key (key r) (r + 1) rows)
+
+-- the keys of rows that stand where their links will stand, and links of keys that are still 0
+unfoldable pub keyed : List ℕ → ℕ → ℕ → ℕ
+keyed links keys r = getD links (keys + r) 0
+
+pub record Keyed (links : List ℕ) (keys rows : ℕ) : Type 0 where
+  pub within : keys + rows ≤ length links
+  pub few : rows < 65536
+  pub range : (r : ℕ) → r < rows → keyed links keys r < keys
+  pub empty : (k : ℕ) → k < keys → getD links k 0 ≡ 0
