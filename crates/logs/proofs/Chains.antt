@@ -14,7 +14,7 @@ use Rattle.model.specs.Lists.{span, keep}
 use Rattle.laws.specs.Words.Tests.{decide}
 use Rattle.laws.specs.Lists.Span.{side}
 use Rattle.tables.proofs.Loops.{span-step, span-end}
-use Rattle.logs.specs.Chain.{chain, link, Chained, keyed, Keyed}
+use Rattle.logs.specs.Chain.{chain, link, Chained, given, Ready}
 
 module _ (key : ℕ → ℕ) (k i rows : ℕ) where
   -- row i is of the key, or not, or there is no row i
@@ -101,113 +101,108 @@ module _ (key : ℕ → ℕ) (k i rows x : ℕ) (e : x ≡ link rows (chain key 
       omega arith)
       (chain-first key k i rows)
 
--- the links while they are filled: rows from `from` on are linked, and before them stand keys
-pub record Filling (links₀ : List ℕ) (keys rows from : ℕ) (links : List ℕ) : Type 0 where
+-- the links while they are filled: the rows from `from` on are linked
+pub record Filling (keys : List ℕ) (heads from : ℕ) (links₀ links : List ℕ) : Type 0 where
   pub long : length links ≡ length links₀
-  pub heads : (k : ℕ) → k < keys → getD links k 0 ≡ link rows (chain (keyed links₀ keys) k from rows)
+  pub first : (k : ℕ) → k < heads → getD links k 0 ≡ link (length keys) (chain (given keys) k from (length keys))
   pub nexts :
-      (r : ℕ) → from ≤ r → r < rows →
-      getD links (keys + r) 0 ≡ link rows (chain (keyed links₀ keys) (keyed links₀ keys r) (r + 1) rows)
-  pub before : (r : ℕ) → r < from → getD links (keys + r) 0 ≡ keyed links₀ keys r
+      (r : ℕ) → from ≤ r → r < length keys →
+      getD links (heads + r) 0 ≡ link (length keys) (chain (given keys) (given keys r) (r + 1) (length keys))
 
 pub filling-from :
-    {links₀ links : List ℕ} {keys rows from : ℕ} (other : ℕ) → from ≡ other → Filling links₀ keys rows from links → Filling links₀ keys rows other links
-filling-from {links₀} {links} {keys} {rows} other e f = subst (λ (n : ℕ). Filling links₀ keys rows n links) e f
+    {keys links₀ links : List ℕ} {heads from : ℕ} (other : ℕ) → from ≡ other → Filling keys heads from links₀ links → Filling keys heads other links₀ links
+filling-from {keys} {links₀} {links} {heads} other e f = subst (λ (n : ℕ). Filling keys heads n links₀ links) e f
 
-module _ (links₀ : List ℕ) (keys rows : ℕ) (start : Keyed links₀ keys rows) where
+module _ (keys : List ℕ) (heads : ℕ) (links₀ : List ℕ) (start : Ready keys heads links₀) where
+  abbrev rows : ℕ
+  rows = length keys
+
   -- at first no row is linked
-  pub fill-start : Filling links₀ keys rows rows links₀
-  unfolding keyed
+  pub fill-start : Filling keys heads (length keys) links₀ links₀
   fill-start = record {
     long = refl;
-    heads = λ k h. start .empty k h ∙ sym (link-none rows (chain-end (keyed links₀ keys) k rows rows (omega arith)));
+    first = λ k h. start .empty k h ∙ sym (link-none rows (chain-end (given keys) k rows rows (omega arith)));
     nexts = λ r h l. absurd (omega arith);
-    before = λ r h. refl;
   }
 
-  module _ (row from x : ℕ) (links : List ℕ) (inside : row < rows) (next : from ≡ row + 1) (f : Filling links₀ keys rows from links) (is : x ≡ rows - row) where
+  module _ (row from x : ℕ) (links : List ℕ) (inside : row < length keys) (next : from ≡ row + 1) (f : Filling keys heads from links₀ links) (is : x ≡ length keys - row) where
     -- the key of the row to be linked
-    pub key-here : getD links (keys + row) 0 ≡ keyed links₀ keys row
-    key-here = f .before row (omega arith)
-
-    pub key-small : getD links (keys + row) 0 < keys
-    key-small = rw key-here (start .range row inside)
+    pub key-small : getD keys row 0 < heads
+    unfolding given
+    key-small = start .range row inside
 
     -- the links with one row more in front of its chain
     abbrev half : List ℕ
-    half = set links (keys + row) (getD links (getD links (keys + row) 0) 0)
+    half = set links (heads + row) (getD links (getD keys row 0) 0)
 
     abbrev more : List ℕ
-    more = set half (getD links (keys + row) 0) x
+    more = set half (getD keys row 0) x
 
-    fits : keys + row < length links
+    fits : heads + row < length links
     fits = let l = f .long in let w = start .within in omega arith
 
     -- what stands at the row, at its key, and elsewhere
-    at-row : getD more (keys + row) 0 ≡ getD links (getD links (keys + row) 0) 0
+    at-row : getD more (heads + row) 0 ≡ getD links (getD keys row 0) 0
     at-row =
-        getD-set-other half (getD links (keys + row) 0) (keys + row) x 0 (λ q. let s = key-small in omega arith)
-        ∙ getD-set-same links (keys + row) (getD links (getD links (keys + row) 0) 0) 0 fits
+        getD-set-other half (getD keys row 0) (heads + row) x 0 (λ q. let s = key-small in omega arith)
+        ∙ getD-set-same links (heads + row) (getD links (getD keys row 0) 0) 0 fits
 
-    at-key : getD more (getD links (keys + row) 0) 0 ≡ x
-    at-key = getD-set-same half (getD links (keys + row) 0) x 0 (rw length-set (let s = key-small in let h = fits in omega arith))
+    at-key : getD more (getD keys row 0) 0 ≡ x
+    at-key = getD-set-same half (getD keys row 0) x 0 (rw length-set (let s = key-small in let h = fits in omega arith))
 
-    elsewhere : (j : ℕ) → (getD links (keys + row) 0 ≡ j → ⊥) → (keys + row ≡ j → ⊥) → getD more j 0 ≡ getD links j 0
+    elsewhere : (j : ℕ) → (getD keys row 0 ≡ j → ⊥) → (heads + row ≡ j → ⊥) → getD more j 0 ≡ getD links j 0
     elsewhere j n m =
-        getD-set-other half (getD links (keys + row) 0) j x 0 (λ q. n (sym q))
-        ∙ getD-set-other links (keys + row) j (getD links (getD links (keys + row) 0) 0) 0 (λ q. m (sym q))
+        getD-set-other half (getD keys row 0) j x 0 (λ q. n (sym q))
+        ∙ getD-set-other links (heads + row) j (getD links (getD keys row 0) 0) 0 (λ q. m (sym q))
 
-    abbrev key : ℕ → ℕ
-    key = keyed links₀ keys
-
-    head-more : (k : ℕ) → k < keys → getD more k 0 ≡ link rows (chain key k row rows)
-    head-more k h =
+    first-more : (k : ℕ) → k < heads → getD more k 0 ≡ link rows (chain (given keys) k row rows)
+    unfolding given
+    first-more k h =
         ⊎-elim
         (λ e.
-        let same : getD links (keys + row) 0 ≡ k = eqb-true _ _ e in
+        let same : getD keys row 0 ≡ k = eqb-true _ _ e in
         ap (λ (j : ℕ). getD more j 0) (sym same)
         ∙ at-key
         ∙ is
-        ∙ sym (link-some rows row _ (chain-here key k row rows inside (sym key-here ∙ same))))
+        ∙ sym (link-some rows row _ (chain-here (given keys) k row rows inside same)))
         (λ e.
-        let other : getD links (keys + row) 0 ≡ k → ⊥ = eqb-false _ _ e in
+        let other : getD keys row 0 ≡ k → ⊥ = eqb-false _ _ e in
         elsewhere k other (λ q. omega arith)
-        ∙ f .heads k h
-        ∙ ap (λ (i : ℕ). link rows (chain key k i rows)) next
-        ∙ ap (link rows) (sym (chain-past key k row rows inside (λ q. other (key-here ∙ q)))))
-        (decide (eqb (getD links (keys + row) 0) k))
+        ∙ f .first k h
+        ∙ ap (λ (i : ℕ). link rows (chain (given keys) k i rows)) next
+        ∙ ap (link rows) (sym (chain-past (given keys) k row rows inside other)))
+        (decide (eqb (getD keys row 0) k))
 
-    next-more : (r : ℕ) → row ≤ r → r < rows → getD more (keys + r) 0 ≡ link rows (chain key (key r) (r + 1) rows)
+    next-more : (r : ℕ) → row ≤ r → r < rows → getD more (heads + r) 0 ≡ link rows (chain (given keys) (given keys r) (r + 1) rows)
+    unfolding given
     next-more r l h =
         ⊎-elim
         (λ e.
         let same : row ≡ r = eqb-true _ _ e in
-        subst (λ (q : ℕ). getD more (keys + q) 0 ≡ link rows (chain key (key q) (q + 1) rows)) same
+        subst (λ (q : ℕ). getD more (heads + q) 0 ≡ link rows (chain (given keys) (given keys q) (q + 1) rows)) same
         (at-row
-        ∙ f .heads (getD links (keys + row) 0) key-small
-        ∙ ap (λ (i : ℕ). link rows (chain key (getD links (keys + row) 0) i rows)) next
-        ∙ ap (λ (k : ℕ). link rows (chain key k (row + 1) rows)) key-here))
+        ∙ f .first (getD keys row 0) key-small
+        ∙ ap (λ (i : ℕ). link rows (chain (given keys) (getD keys row 0) i rows)) next))
         (λ e.
         let other : row ≡ r → ⊥ = eqb-false _ _ e in
-        elsewhere (keys + r) (λ q. let s = key-small in omega arith) (λ q. other (omega arith))
+        elsewhere (heads + r) (λ q. let s = key-small in omega arith) (λ q. other (omega arith))
         ∙ f .nexts r (later other) h)
         (decide (eqb row r))
       where
         later : (row ≡ r → ⊥) → from ≤ r
         later n = ⊎-elim (λ k. absurd (n (omega arith))) (λ k. omega arith) (side (row + 1) r)
 
-    pub fill-step : Filling links₀ keys rows row more
+    pub fill-step : Filling keys heads row links₀ more
     fill-step = record {
       long = simp length-set (f .long);
-      heads = head-more;
+      first = first-more;
       nexts = next-more;
-      before = λ r h. elsewhere (keys + r) (λ q. let s = key-small in omega arith) (λ q. omega arith) ∙ f .before r (omega arith);
     }
 
   -- at the end all are
-  pub fill-end : (links : List ℕ) (from : ℕ) → from ≡ 0 → Filling links₀ keys rows from links → Chained (keyed links₀ keys) keys rows links
+  pub fill-end : (links : List ℕ) (from : ℕ) → from ≡ 0 → Filling keys heads from links₀ links → Chained (given keys) heads (length keys) links
   fill-end links from z f = record {
     within = let l = f .long in let w = start .within in omega arith;
-    heads = λ k h. f .heads k h ∙ ap (λ (i : ℕ). link rows (chain (keyed links₀ keys) k i rows)) z;
+    heads = λ k h. f .first k h ∙ ap (λ (i : ℕ). link rows (chain (given keys) k i rows)) z;
     nexts = λ r h. f .nexts r (omega arith) h;
   }

@@ -1,4 +1,4 @@
--- The keys of rows: a row that holds an atom has the atom's key; and the keys of all rows, put where their links will stand.
+-- The keys of rows: a row that holds an atom has the atom's key; and rows chained by keys that were written down.
 use Prim.Native.Nat.{ℕ, _+_, _*_, _-_, _/_, _%_, _^_, _≤_, _<_}
 use native.Mathlib.Nat.{sub-zero}
 use native.Mathlib.Omega.{arith}
@@ -6,21 +6,22 @@ use mathlib.Core.Path.{_≡_, refl, sym, ap, ap₂, _∙_, subst}
 use mathlib.Core.Logic.{⊎-elim}
 use mathlib.Core.Bool.{Bool, true, false, cond, _&&_}
 use mathlib.Core.List.{List, [], _∷_}
-use lib.ListN.{length, getD, set, take, replicate, length-set, length-replicate, getD-replicate, List·getD-eq-default}
+use lib.ListN.{length, getD, set, take, drop, replicate, length-set, length-replicate, getD-replicate}
 use lib.Seq.{getD-set-same, getD-set-other, take-all}
 use lib.Dec.{eqb, ltb}
 use lib.IntN.{ℤ, pos, natAbs}
 use borrow.Author.Tests.{eqb-true, eqb-false, ne-eqb, ltb-true, ltb-false}
-use Rattle.model.specs.Words.{Words, word, value, equal, below}
+use Rattle.model.specs.Words.{Words, word, value, equal, atLeast, below}
 use Rattle.model.specs.Lists.{span, keep}
-use Rattle.model.specs.Log.{rowAt, arguments, saysTrue, holds}
+use Rattle.model.specs.Log.{rowCount, rowAt, arguments, saysTrue, holds}
+use Rattle.tables.specs.Offset.{fromLeast}
 use Rattle.laws.specs.Words.Tests.{decide, clash, equal-true}
 use Rattle.laws.specs.Words.Standing.{below-value, below-pos}
 use Rattle.laws.specs.Log.{holds-value, holds-arguments}
-use Rattle.laws.specs.Lists.Span.{side, span-mem, keep-same}
-use Rattle.logs.specs.Chain.{chain, link, Chained, keyed, Keyed}
-use Rattle.logs.specs.Key.{spread, atomKey, rowKey, trueKey}
-use Rattle.logs.proofs.Rows.{row-first, row-six, row-word, argument-word}
+use Rattle.laws.specs.Lists.Span.{span-mem, keep-same}
+use Rattle.logs.specs.Chain.{chain, link, Chained, given, Ready}
+use Rattle.logs.specs.Key.{spread, atomKey, rowKey, trueKey, Keys}
+use Rattle.logs.proofs.Rows.{row-first, row-six, row-word, row-part, argument-word, own-row}
 
 -- equal numbers are spread to the same key, which is below 16,384
 pub spread-same : (p : ℕ) (a b : ℕ → ℕ) → ((i : ℕ) → i < 6 → a i ≡ b i) → spread p a ≡ spread p b
@@ -47,11 +48,20 @@ unfolding rowKey atomKey value word
 same-key log p ns r within six h =
     let whole : arguments (rowAt log r) ≡ ns =
     sym (take-all (length ns) (arguments (rowAt log r)) (omega (arith, row-six log r within))) ∙ holds-arguments p ns (rowAt log r) h in
-    ap (λ (q : ℕ). spread q (λ i. natAbs (word log (8 * r + 2 + i)))) (ap natAbs (sym (row-first log r)) ∙ holds-value p ns (rowAt log r) h)
-    ∙ spread-same p _ _ λ i k. ap natAbs (sym (argument-word log r i k) ∙ argument whole i)
+    ap (λ (q : ℕ). spread q (λ i. fromLeast (word log (8 * r + 2 + i)))) (ap natAbs (sym (row-first log r)) ∙ holds-value p ns (rowAt log r) h)
+    ∙ spread-same p _ _ λ i k. ap fromLeast (sym (argument-word log r i k) ∙ argument whole i)
   where
     argument : arguments (rowAt log r) ≡ ns → (i : ℕ) → getD (arguments (rowAt log r)) i (pos 0) ≡ word ns (0 + i)
     argument e i = let z : 0 + i ≡ i = omega arith in rw z (ap (λ (l : List ℤ). getD l i (pos 0)) e)
+
+-- a row's own atom, as it stands in the log
+pub own-key :
+    (log : Words) (r : ℕ) → r < rowCount log → atLeast 0 (word log (8 * r)) ≡ true →
+    rowKey log r ≡ atomKey (value log (8 * r)) (take 6 (drop (8 * r + 2) log)) 0
+unfolding rowCount
+own-key log r inside number =
+    same-key log (value log (8 * r)) (arguments (rowAt log r)) r (omega arith) (row-six log r (omega arith)) (own-row log r inside number)
+    ∙ ap (λ (l : List ℤ). atomKey (value log (8 * r)) l 0) (sym (row-part log r))
 
 -- the key of a row by its predicate, test by test
 module _ (log : Words) (r : ℕ) where
@@ -114,85 +124,91 @@ true-rows log p rows few =
     ap (λ (n : ℕ). keep (λ r. eqb (trueKey log r) p) (span 0 n)) (sub-zero rows)
     ∙ keep-same _ _ (span 0 rows) (λ r m. true-key log p r few)
 
--- keys of the first rows stand where their links will stand; the links of keys are 0
-pub record Keying (f : ℕ → ℕ) (keys total row : ℕ) (links : List ℕ) : Type 0 where
-  pub long : length links ≡ total
-  pub empty : (k : ℕ) → k < keys → getD links k 0 ≡ 0
-  pub put : (r : ℕ) → r < row → getD links (keys + r) 0 ≡ f r
+-- the keys of the first rows
+pub record Keying (f : ℕ → ℕ) (total row : ℕ) (keys : List ℕ) : Type 0 where
+  pub long : length keys ≡ total
+  pub put : (r : ℕ) → r < row → getD keys r 0 ≡ f r
 
-module _ (f : ℕ → ℕ) (keys total : ℕ) where
-  pub keying-start : (links : List ℕ) → links ≡ replicate {A = ℕ} total 0 → Keying f keys total 0 links
-  keying-start links e = record {
-    long = ap length e ∙ length-replicate {A = ℕ} total 0;
-    empty = λ k h. ap (λ (l : List ℕ). getD l k 0) e ∙ zero-there k;
-    put = λ r h. absurd (omega arith);
-  }
-    where
-      zero-there : (k : ℕ) → getD (replicate {A = ℕ} total 0) k 0 ≡ 0
-      zero-there k =
-          ⊎-elim
-          (λ h. getD-replicate total k 0 0 h)
-          (λ h. List·getD-eq-default (replicate total 0) 0 (rw length-replicate h))
-          (side total k)
+module _ (f : ℕ → ℕ) (total : ℕ) where
+  pub keying-start : (keys : List ℕ) → length keys ≡ total → Keying f total 0 keys
+  keying-start keys e = record { long = e; put = λ r h. absurd (omega arith) }
 
   pub keying-step :
-      (row : ℕ) (links : List ℕ) (x : ℕ) → keys + row < total → x ≡ f row → Keying f keys total row links →
-      Keying f keys total (row + 1) (set links (keys + row) x)
-  keying-step row links x h e s = record {
+      (row : ℕ) (keys : List ℕ) (x : ℕ) → row < total → x ≡ f row → Keying f total row keys → Keying f total (row + 1) (set keys row x)
+  keying-step row keys x h e s = record {
     long = simp length-set (s .long);
-    empty = λ k l. getD-set-other links (keys + row) k x 0 (λ q. omega arith) ∙ s .empty k l;
     put = λ r l.
         ⊎-elim
         (λ q.
         let same : row ≡ r = eqb-true _ _ q in
-        subst (λ (n : ℕ). getD (set links (keys + row) x) (keys + n) 0 ≡ f n) same
-        (getD-set-same links (keys + row) x 0 (let w = s .long in omega arith) ∙ e))
+        subst (λ (n : ℕ). getD (set keys row x) n 0 ≡ f n) same
+        (getD-set-same keys row x 0 (let w = s .long in omega arith) ∙ e))
         (λ q.
         let other : row ≡ r → ⊥ = eqb-false _ _ q in
-        getD-set-other links (keys + row) (keys + r) x 0 (λ z. other (omega arith))
-        ∙ s .put r (smaller r l other))
+        getD-set-other keys row r x 0 (λ z. other (sym z)) ∙ s .put r (smaller r l other))
         (decide (eqb row r));
   }
     where
       smaller : (r : ℕ) → r < row + 1 → (row ≡ r → ⊥) → r < row
       smaller r l n = ⊎-elim (λ q. ltb-true _ _ q) (λ q. absurd (n (let b = ltb-false r row q in omega arith))) (decide (ltb r row))
 
-  module _ (rows : ℕ) (links : List ℕ) (s : Keying f keys total rows links) (fits : keys + rows ≤ total) where
-    pub keying-end : rows < 65536 → ((r : ℕ) → f r < keys) → Keyed links keys rows
-    unfolding keyed
-    keying-end few small = record {
-      within = let w = s .long in omega arith;
-      few = few;
-      range = λ r h. rw (s .put r h) (small r);
-      empty = s .empty;
+-- chains by keys that agree
+chain-keys : (f g : ℕ → ℕ) (k i rows : ℕ) → ((r : ℕ) → r < rows → f r ≡ g r) → chain f k i rows ≡ chain g k i rows
+unfolding chain
+chain-keys f g k i rows h =
+    keep-same _ _ (span i (rows - i))
+    λ r m. let b = span-mem i (rows - i) m in ap (λ (x : ℕ). eqb x k) (h r (omega arith))
+
+module _ (key : Words → ℕ → ℕ) (log : Words) (keys : List ℕ) where
+  keyed-given : (r : ℕ) → getD keys r 0 ≡ key log r → given keys r ≡ key log r
+  unfolding given
+  keyed-given r e = e
+
+  pub keying-keys : (row : ℕ) → rowCount log ≤ row → Keying (key log) (rowCount log) row keys → Keys key log keys
+  keying-keys row h s = record { long = s .long; keyed = λ r l. s .put r (omega arith) }
+
+  module _ (heads total : ℕ) (links : List ℕ) (s : Keys key log keys) where
+    -- links for them that can be filled
+    pub keys-ready :
+        heads + rowCount log ≤ total →
+        rowCount log ≤ 4096 →
+        links ≡ replicate {A = ℕ} total 0 →
+        ((r : ℕ) → key log r < heads) →
+        Ready keys heads links
+    unfolding given
+    keys-ready fits few e small = record {
+      within = let l = s .long in omega (arith, ap length e ∙ length-replicate {A = ℕ} total 0);
+      few = let l = s .long in omega arith;
+      range = λ r h. rw (s .keyed r (let l = s .long in omega arith)) (small r);
+      empty = λ k h. ap (λ (l : List ℕ). getD l k 0) e ∙ getD-replicate total k 0 0 (omega arith);
     }
 
-    -- chained by the keys put there is chained by f
-    pub keying-chained : (filled : List ℕ) → Chained (keyed links keys) keys rows filled → Chained f keys rows filled
-    unfolding keyed chain
-    keying-chained filled c = record {
+    -- rows chained by these keys are chained by the key function
+    pub keys-chained : (filled : List ℕ) → Chained (given keys) heads (length keys) filled → Chained (key log) heads (rowCount log) filled
+    keys-chained filled c = subst (λ (n : ℕ). Chained (key log) heads n filled) (s .long) (record {
       within = c .within;
-      heads = λ k h. c .heads k h ∙ ap (link rows) (chain-same k 0);
-      nexts = λ r h. c .nexts r h ∙ ap (link rows) (chain-same (getD links (keys + r) 0) (r + 1) ∙ ap (λ (k : ℕ). chain f k (r + 1) rows) (s .put r h));
-    }
+      heads = λ k h. c .heads k h ∙ ap (link (length keys)) (chain-same k 0);
+      nexts = λ r h. c .nexts r h ∙ ap (link (length keys)) (chain-same (given keys r) (r + 1) ∙ ap (λ (k : ℕ). chain (key log) k (r + 1) (length keys)) (same r h));
+    })
       where
-        chain-same : (k i : ℕ) → chain (λ r. getD links (keys + r) 0) k i rows ≡ chain f k i rows
-        chain-same k i =
-            keep-same _ _ (span i (rows - i))
-            λ r m. let b = span-mem i (rows - i) m in ap (λ (x : ℕ). eqb x k) (s .put r (omega arith))
+        same : (r : ℕ) → r < length keys → given keys r ≡ key log r
+        same r h = keyed-given r (s .keyed r (let l = s .long in omega arith))
+
+        chain-same : (k i : ℕ) → chain (given keys) k i (length keys) ≡ chain (key log) k i (length keys)
+        chain-same k i = chain-keys (given keys) (key log) k i (length keys) (λ r h. same r h)
 
 -- the numbers spread, one by one
 pub spread-of :
     (p a b c d e f : ℕ) (v : ℕ → ℕ) →
     a ≡ v 0 → b ≡ v 1 → c ≡ v 2 → d ≡ v 3 → e ≡ v 4 → f ≡ v 5 →
-    (p % 256 * 663608941
-    + a % 2 ^ 31 * 625341585
-    + b % 2 ^ 31 * 461845907
-    + c % 2 ^ 31 * 789269575
-    + d % 2 ^ 31 * 668265263
-    + e % 2 ^ 31 * 374761393
-    + f % 2 ^ 31 * 1013904243)
-    / 2 ^ 16
+    (p % 256 * 331804471
+    + a % 2 ^ 32 * 442291847
+    + b % 2 ^ 32 * 349421991
+    + c % 2 ^ 32 * 480404705
+    + d % 2 ^ 32 * 294359035
+    + e % 2 ^ 32 * 307324391
+    + f % 2 ^ 32 * 318971139)
+    / 2 ^ 15
     % 16384
     ≡ spread p v
 unfolding spread

@@ -1,5 +1,5 @@
 -- Rows of a log by index: a row's atom compared argument by argument, and the search through a span of rows.
-use Prim.Native.Nat.{ℕ, zero, suc, _+_, _*_, _-_, _/_, _≤_, _<_}
+use Prim.Native.Nat.{ℕ, zero, suc, _+_, _*_, _-_, _/_, _≤_, _<_, max}
 use native.Mathlib.Nat.{zero-add, add-zero, sub-zero, add-assoc, eq-or-lt-of-le}
 use native.Mathlib.Numerals.{add-one}
 use native.Mathlib.Omega.{arith}
@@ -19,7 +19,7 @@ use Rattle.model.specs.Words.{Words, word, value, atLeast, within, below, equal
 use Rattle.model.specs.Table.{predicates, arity}
 use Rattle.model.specs.Lists.{span, all, any}
 use Rattle.model.specs.Log.{rowCount, rowAt, arguments, holds, sameAtom, goodRow}
-use Rattle.laws.specs.Lists.Span.{span-mem, drop-take}
+use Rattle.laws.specs.Lists.Span.{side, span-mem, drop-take}
 use Rattle.laws.specs.Log.{holds-intro}
 use Rattle.logs.specs.declared.search.Found.{Found}
 use Rattle.logs.specs.declared.search.Found.the-variants.{At, Nothing}
@@ -99,15 +99,46 @@ module _ (log : Words) (r : ℕ) (h : 8 * r + 8 ≤ length log) (i : ℕ) where
   unused-cons k =
       rw (drop-cons (arguments (rowAt log r)) i (pos 0) (rw (row-six log r h) k), argument-word log r i k, add-one i) refl
 
-  pub unused-step : i < 6 → equal (word log (8 * r + 2 + i)) (pos 0) ≡ true → unusedFrom log r i ≡ unusedFrom log r (i + 1)
-  unused-step k e = unused-cons k ∙ ap (λ (x : Bool). x && unusedFrom log r (i + 1)) e
-
-  pub unused-stop : i < 6 → equal (word log (8 * r + 2 + i)) (pos 0) ≡ false → unusedFrom log r i ≡ false
-  unused-stop k e = unused-cons k ∙ ap (λ (x : Bool). x && unusedFrom log r (i + 1)) e
-
-  pub unused-end : 6 ≤ i → unusedFrom log r i ≡ true
+  unused-end : 6 ≤ i → unusedFrom log r i ≡ true
   unfolding unusedFrom all
   unused-end k = rw (drop-of-length-le (arguments (rowAt log r)) {i = i} (rw (row-six log r h) k))
+
+-- the arguments from the n-th on, looked at from the first argument on: those before the n-th pass
+pub unused-start : (log : Words) (r n : ℕ) → unusedFrom log r n ≡ (true && unusedFrom log r (max n 0))
+unused-start log r n = let e : n ≡ max n 0 = omega arith in ap (unusedFrom log r) e
+
+module _ (log : Words) (r : ℕ) (h : 8 * r + 8 ≤ length log) (n i : ℕ) (clean : Bool) where
+  pub unused-turn :
+      i < 6 →
+      {empty : Bool} →
+      empty ≡ equal (word log (8 * r + 2 + i)) (pos 0) →
+      (clean && unusedFrom log r (max n i)) ≡ ((clean && (ltb i n || empty)) && unusedFrom log r (max n (i + 1)))
+  unused-turn k {empty} e =
+      ⊎-elim
+      (λ l.
+      let same : max n i ≡ max n (i + 1) = omega arith in
+      rw (lt-ltb i n l, same) (used clean (unusedFrom log r (max n (i + 1)))))
+      (λ l.
+      let here : max n i ≡ i = omega arith in
+      let next : max n (i + 1) ≡ i + 1 = omega arith in
+      rw (le-ltb i n l, here, next, unused-cons log r h i k, e)
+      (and-assoc clean (equal (word log (8 * r + 2 + i)) (pos 0)) (unusedFrom log r (i + 1))))
+      (side n i)
+    where
+      used : (a b : Bool) → (a && b) ≡ ((a && true) && b)
+      used true b = refl
+      used false b = refl
+
+      and-assoc : (a b c : Bool) → (a && (b && c)) ≡ ((a && b) && c)
+      and-assoc true b c = refl
+      and-assoc false b c = refl
+
+  pub unused-last : 6 ≤ i → (clean && unusedFrom log r (max n i)) ≡ clean
+  unused-last k = rw (unused-end log r h (max n i) (omega arith)) (last clean)
+    where
+      last : (a : Bool) → (a && true) ≡ a
+      last true = refl
+      last false = refl
 
 -- equality of numbers and of lists is symmetric
 eqb-sym : (a b : ℕ) → eqb a b ≡ eqb b a
@@ -219,7 +250,7 @@ first-before log p ns r (suc n) i l h k =
 
 -- an earlier row repeats a row's atom exactly if the first row of the log that holds it is earlier
 module _ (log : Words) (r : ℕ) (inside : r < rowCount log) (number : atLeast 0 (word log (8 * r)) ≡ true) where
-  own-row : holds (value log (8 * r)) (arguments (rowAt log r)) (rowAt log r) ≡ true
+  pub own-row : holds (value log (8 * r)) (arguments (rowAt log r)) (rowAt log r) ≡ true
   unfolding value
   own-row =
       holds-intro (natAbs (word log (8 * r))) (arguments (rowAt log r)) (rowAt log r)

@@ -1,8 +1,12 @@
 -- The keys by which the rows of a log are chained.
-use Prim.Native.Nat.{ℕ, _+_, _*_, _/_, _%_, _^_}
+use Prim.Native.Nat.{ℕ, _+_, _*_, _/_, _%_, _^_, _<_}
+use mathlib.Core.Path.{_≡_}
 use mathlib.Core.Bool.{cond, _&&_}
+use mathlib.Core.List.{List}
+use lib.ListN.{length, getD}
 use Rattle.model.specs.Words.{Words, word, value, below, predicateLimit}
-use Rattle.model.specs.Log.{rowAt, saysTrue}
+use Rattle.model.specs.Log.{rowCount, rowAt, saysTrue}
+use Rattle.tables.specs.Offset.{fromLeast}
 
 -- so many keys of atoms; one more key than there are predicates
 abbrev pub atomKeys : ℕ
@@ -14,19 +18,19 @@ predicateKeys = predicateLimit + 1
 -- a predicate and six numbers, spread over the keys of atoms
 unfoldable pub spread : ℕ → (ℕ → ℕ) → ℕ
 spread p a =
-    (p % 256 * 663608941
-    + a 0 % 2 ^ 31 * 625341585
-    + a 1 % 2 ^ 31 * 461845907
-    + a 2 % 2 ^ 31 * 789269575
-    + a 3 % 2 ^ 31 * 668265263
-    + a 4 % 2 ^ 31 * 374761393
-    + a 5 % 2 ^ 31 * 1013904243)
-    / 2 ^ 16
+    (p % 256 * 331804471
+    + a 0 % 2 ^ 32 * 442291847
+    + a 1 % 2 ^ 32 * 349421991
+    + a 2 % 2 ^ 32 * 480404705
+    + a 3 % 2 ^ 32 * 294359035
+    + a 4 % 2 ^ 32 * 307324391
+    + a 5 % 2 ^ 32 * 318971139)
+    / 2 ^ 15
     % atomKeys
 
 -- the key of an atom whose six arguments, the unused ones 0, stand at an index of some words; of the atom of a row
 unfoldable pub atomKey : ℕ → Words → ℕ → ℕ
-atomKey p ws at = spread p (λ i. value ws (at + i))
+atomKey p ws at = spread p (λ i. fromLeast (word ws (at + i)))
 
 unfoldable pub rowKey : Words → ℕ → ℕ
 rowKey log r = atomKey (value log (8 * r)) log (8 * r + 2)
@@ -35,3 +39,8 @@ rowKey log r = atomKey (value log (8 * r)) log (8 * r + 2)
 unfoldable pub trueKey : Words → ℕ → ℕ
 trueKey log r =
     cond (saysTrue (rowAt log r) && below predicateLimit (word log (8 * r))) (value log (8 * r)) predicateLimit
+
+-- the keys of the rows of a log, by a key function, one behind another
+pub record Keys (key : Words → ℕ → ℕ) (log : Words) (keys : List ℕ) : Type 0 where
+  pub long : length keys ≡ rowCount log
+  pub keyed : (r : ℕ) → r < rowCount log → getD keys r 0 ≡ key log r

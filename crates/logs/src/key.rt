@@ -18,14 +18,14 @@ pub fn of_atom(predicate: usize, words: &[i32], at: usize) -> usize
     requires { ⌜ at + 6 ≤ length (now words) ⌝ }
     ensures { λ r. ⌜ r ≡ K.atomKey predicate (now (words .entry)) at ⌝ }
 {
-    let p = predicate % 256 * 663608941;
-    let a = words::value(words, at) % 2147483648 * 625341585;
-    let b = words::value(words, at + 1) % 2147483648 * 461845907;
-    let c = words::value(words, at + 2) % 2147483648 * 789269575;
-    let d = words::value(words, at + 3) % 2147483648 * 668265263;
-    let e = words::value(words, at + 4) % 2147483648 * 374761393;
-    let f = words::value(words, at + 5) % 2147483648 * 1013904243;
-    (p + a + b + c + d + e + f) / 65536 % ATOM_KEYS
+    let p = predicate % 256 * 331804471;
+    let a = words::offset(words, at) % 4294967296 * 442291847;
+    let b = words::offset(words, at + 1) % 4294967296 * 349421991;
+    let c = words::offset(words, at + 2) % 4294967296 * 480404705;
+    let d = words::offset(words, at + 3) % 4294967296 * 294359035;
+    let e = words::offset(words, at + 4) % 4294967296 * 307324391;
+    let f = words::offset(words, at + 5) % 4294967296 * 318971139;
+    (p + a + b + c + d + e + f) / 32768 % ATOM_KEYS
 }
 
 // The predicate of a row that says true; 256 of any other row.
@@ -42,32 +42,37 @@ fn of_true(log: &[i32], row: usize) -> usize
     words::value(log, 8 * row)
 }
 
-// The rows of a log, chained by their atoms.
-pub fn by_atom(log: &[i32], links: &mut [u16])
-    requires { ⌜ (rowCount (now log) ≤ 4096) × (now links ≡ replicate 20480 0) ⌝ }
+// The rows of a log, chained by their atoms; and their keys.
+pub fn by_atom(log: &[i32], keys: &mut [u16], links: &mut [u16])
+    requires { ⌜
+        (rowCount (now log) ≤ 4096) × (length (now keys) ≡ rowCount (now log)) × (now links ≡ replicate 20480 0)
+        ⌝ }
+    ensures { λ _. ⌜ K.Keys K.rowKey (now (log .entry)) (now (keys .exit)) ⌝ }
     ensures { λ _. ⌜ Chained (K.rowKey (now (log .entry))) K.atomKeys (rowCount (now (log .entry))) (now (links .exit)) ⌝ }
 {
     let rows = log.len() / 8;
     let mut row = 0;
     while row < rows {
         let key = of_atom(words::value(log, 8 * row), log, 8 * row + 2);
-        links[ATOM_KEYS + row] = key as u16;
+        keys[row] = key as u16;
         row += 1;
     }
-    chain::fill(links, ATOM_KEYS, rows);
+    chain::fill(keys, links, ATOM_KEYS);
 }
 
 // The true rows of a log, chained by their predicates.
-pub fn by_predicate(log: &[i32], links: &mut [u16])
-    requires { ⌜ (rowCount (now log) ≤ 4096) × (now links ≡ replicate 4353 0) ⌝ }
+pub fn by_predicate(log: &[i32], keys: &mut [u16], links: &mut [u16])
+    requires { ⌜
+        (rowCount (now log) ≤ 4096) × (length (now keys) ≡ rowCount (now log)) × (now links ≡ replicate 4353 0)
+        ⌝ }
     ensures { λ _. ⌜ Chained (K.trueKey (now (log .entry))) K.predicateKeys (rowCount (now (log .entry))) (now (links .exit)) ⌝ }
 {
     let rows = log.len() / 8;
     let mut row = 0;
     while row < rows {
         let key = of_true(log, row);
-        links[PREDICATE_KEYS + row] = key as u16;
+        keys[row] = key as u16;
         row += 1;
     }
-    chain::fill(links, PREDICATE_KEYS, rows);
+    chain::fill(keys, links, PREDICATE_KEYS);
 }

@@ -13,23 +13,23 @@ ghost use lib.ListN.{length, replicate};
 ghost use Rattle.model.specs.Words as W;
 ghost use Rattle.model.specs.Log as L;
 ghost use Rattle.logs.specs.Chain.{Chained};
-ghost use Rattle.logs.specs.Key.{rowKey, atomKeys};
+ghost use Rattle.logs.specs.Key.{rowKey, atomKeys, Keys};
 ghost use Rattle.tables.specs.Checked.{outcome};
 ghost use Rattle.logs.specs.Search.{askRows, repeatsAt, unusedFrom, Checks};
 
-// The arguments of a row from the n-th on are 0.
+// The arguments of a row from the n-th on are 0. All six are looked at, with no branch on the arity.
 fn unused(log: &[i32], row: usize, n: usize) -> bool
     requires { ⌜ 8 * row + 8 ≤ length (now log) ⌝ }
     ensures { λ r. ⌜ r ≡ unusedFrom (now (log .entry)) row n ⌝ }
 {
-    let mut i = n;
+    let mut clean = true;
+    let mut i = 0;
     while i < 6 {
-        if !words::is(log, 8 * row + 2 + i, 0) {
-            return false;
-        }
+        let empty = words::zero(log, 8 * row + 2 + i);
+        clean = clean & ((i < n) | empty);
         i += 1;
     }
-    true
+    clean
 }
 
 // Question 9 at a row.
@@ -48,16 +48,24 @@ fn good_row(table: &[i32], log: &[i32], row: usize) -> bool
 }
 
 // Question 10 at a row whose predicate is a number: the first row that holds its atom is an earlier one.
-fn repeats(log: &[i32], links: &[u16], row: usize) -> bool
+fn repeats(log: &[i32], keys: &[u16], links: &[u16], row: usize) -> bool
     requires { ⌜
-        Chained (rowKey (now log)) atomKeys (L.rowCount (now log)) (now links)
+        Keys rowKey (now log) (now keys)
+        × Chained (rowKey (now log)) atomKeys (L.rowCount (now log)) (now links)
         × (row < L.rowCount (now log))
         × (W.atLeast 0 (W.word (now log) (8 * row)) ≡ true)
         ⌝ }
     ensures { λ r. ⌜ r ≡ repeatsAt (now (log .entry)) row ⌝ }
 {
     let at = 8 * row;
-    let found = search::search(log, links, words::value(log, at), &log[at + 2..at + 8]);
+    let start = keys[row] as usize;
+    let found = search::search(
+        log,
+        links,
+        start,
+        words::value(log, at),
+        &log[at + 2..at + 8],
+    );
     match found {
         Found::At(first) => first < row,
         Found::Nothing => false,
@@ -65,9 +73,11 @@ fn repeats(log: &[i32], links: &[u16], row: usize) -> bool
 }
 
 // Questions 9 and 10 at each row in turn.
-fn check_rows(table: &[i32], log: &[i32], links: &[u16]) -> Checked
+fn check_rows(table: &[i32], log: &[i32], keys: &[u16], links: &[u16]) -> Checked
     requires { ⌜
-        (length (now table) ≤ 768) × Chained (rowKey (now log)) atomKeys (L.rowCount (now log)) (now links)
+        (length (now table) ≤ 768)
+        × Keys rowKey (now log) (now keys)
+        × Chained (rowKey (now log)) atomKeys (L.rowCount (now log)) (now links)
         ⌝ }
     ensures { λ r. ⌜ outcome r ≡ askRows (now (table .entry)) (now (log .entry)) ⌝ }
 {
@@ -77,12 +87,27 @@ fn check_rows(table: &[i32], log: &[i32], links: &[u16]) -> Checked
         if !good_row(table, log, row) {
             return Checked::Refused(Refusal::Row, row);
         }
-        if repeats(log, links, row) {
+        if repeats(log, keys, links, row) {
             return Checked::Refused(Refusal::Repeat, row);
         }
         row += 1;
     }
     Checked::Passed
+}
+
+// Questions 9 and 10, over rows that are chained for it. The keys have room for those of the rows.
+fn chain_and_check(table: &[i32], log: &[i32], keys: &mut [u16], links: &mut [u16]) -> Checked
+    requires { ⌜
+        (length (now table) ≤ 768)
+        × (L.rowCount (now log) ≤ 4096)
+        × (length (now keys) ≡ L.rowCount (now log))
+        × (now links ≡ replicate 20480 0)
+        ⌝ }
+    ensures { λ r. ⌜ outcome r ≡ askRows (now (table .entry)) (now (log .entry)) ⌝ }
+    ensures { λ _. ⌜ Chained (rowKey (now (log .entry))) atomKeys (L.rowCount (now (log .entry))) (now (links .exit)) ⌝ }
+{
+    key::by_atom(log, keys, links);
+    check_rows(table, log, keys, links)
 }
 
 // Questions 8, 9 and 10. The links, all 0 at first, chain the rows by their atoms unless question 8 refuses.
@@ -96,6 +121,7 @@ pub fn check_log(table: &[i32], log: &[i32], links: &mut [u16]) -> Checked
     if 4096 < log.len() / 8 {
         return Checked::Refused(Refusal::LogLength, 0);
     }
-    key::by_atom(log, links);
-    check_rows(table, log, links)
+    let rows = log.len() / 8;
+    let mut keys = [0; 4096];
+    chain_and_check(table, log, &mut keys[..rows], links)
 }

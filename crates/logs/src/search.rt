@@ -6,7 +6,7 @@ ghost use Prim.Native.Nat.{_≤_};
 ghost use lib.ListN.{length};
 ghost use Rattle.model.specs.Lists.{span};
 ghost use Rattle.model.specs.Log.{rowCount};
-ghost use Rattle.logs.specs.Key.{rowKey, atomKeys};
+ghost use Rattle.logs.specs.Key.{atomKey, rowKey, atomKeys};
 ghost use Rattle.logs.specs.Chain.{Chained};
 ghost use Rattle.logs.specs.Search.{firstRow};
 
@@ -16,13 +16,22 @@ pub enum Found {
     Nothing,
 }
 
-// The first row of a log that holds the atom of a predicate at six arguments, the unused ones 0.
-pub fn search(log: &[i32], links: &[u16], predicate: usize, arguments: &[i32]) -> Found
-    requires { ⌜ Chained (rowKey (now log)) atomKeys (rowCount (now log)) (now links) × (length (now arguments) ≡ 6) ⌝ }
+// The first row of a log that holds the atom of a predicate at six arguments, the unused ones 0, from the atom's key on.
+pub fn search(
+    log: &[i32],
+    links: &[u16],
+    start: usize,
+    predicate: usize,
+    arguments: &[i32],
+) -> Found
+    requires { ⌜
+        Chained (rowKey (now log)) atomKeys (rowCount (now log)) (now links)
+        × (length (now arguments) ≡ 6)
+        × (start ≡ atomKey predicate (now arguments) 0)
+        ⌝ }
     ensures { λ r. ⌜ r ≡ firstRow (now (log .entry)) predicate (now (arguments .entry)) (span 0 (rowCount (now (log .entry)))) ⌝ }
 {
     let rows = log.len() / 8;
-    let start = key::of_atom(predicate, arguments, 0);
     let mut link = links[start] as usize;
     let found = 'rows: loop {
         if link == 0 {

@@ -1,4 +1,5 @@
 // The value of a ground atom in a log.
+use crate::key;
 use crate::search;
 use crate::search::Found;
 use tables::words;
@@ -43,7 +44,8 @@ pub fn value_of(
         asValue r ≡ valueIn (now (table .entry)) (rows (now (log .entry))) predicate ns)
         ⌝ }
 {
-    let found = search::search(log, links, predicate, arguments);
+    let start = key::of_atom(predicate, arguments, 0);
+    let found = search::search(log, links, start, predicate, arguments);
     match found {
         Found::At(row) => {
             if words::is(log, 8 * row + 1, 1) {

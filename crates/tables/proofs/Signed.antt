@@ -1,16 +1,16 @@
 -- Signed words of 32 bits: what the machine reads back from their bits, their magnitude, and tests on them.
-use Prim.Native.Nat.{ℕ, suc, _-_, _^_, _<_}
+use Prim.Native.Nat.{ℕ, suc, _+_, _-_, _^_, _<_}
 use native.Mathlib.Nat.{zero-add}
 use native.Mathlib.Omega.{arith}
 use mathlib.Core.Path.{_≡_, refl, sym, ap, _∙_}
 use mathlib.Core.Logic.{⊎-elim}
 use mathlib.Core.Bool.{true, false, true≢false, false≢true, _&&_}
 use lib.Dec.{T, leb, ltb, eqb, leb·zero}
-use lib.IntN.{ℤ, pos, negsuc, natAbs, _-ℤ_}
+use lib.IntN.{ℤ, pos, negsuc, natAbs, _+ℤ_, _-ℤ_}
 use lib.Signed.{leZ, ltZ, nonNeg}
 use mir.Syntax.{w32, w64}
 use mir.Val.{SFits, ofZ}
-use borrow.Author.Tests.{ltb-true, eqb-true, eqb-false, eq-eqb, ne-eqb}
+use borrow.Author.Tests.{ltb-true, eqb-true, eqb-false, eq-eqb, ne-eqb, le-ltb}
 use Rattle.model.specs.Words.{atLeast, within, below, equal}
 use Rattle.laws.specs.Words.Tests.{decide}
 
@@ -31,6 +31,13 @@ minus-nonNeg (negsuc n) e = tt
 pub minus-abs : (x : ℤ) → ltZ x (pos 0) ≡ true → natAbs (pos 0 -ℤ x) ≡ natAbs x
 minus-abs (pos n) e = absurd (omega (arith, ltb-true n 0 e))
 minus-abs (negsuc n) e = zero-add (suc n)
+
+-- a word plus 2 ^ 31 is a number, and fits
+pub raised : (x : ℤ) → SFits w32 x → (y : ℕ) × (x +ℤ pos (2 ^ 31) ≡ pos y) × (y < 2 ^ 32)
+raised (pos n) h = let b : n < 2 ^ 31 = h .sfits in (n + 2 ^ 31, refl, omega arith)
+raised (negsuc n) h =
+    let b : n < 2 ^ 31 = h .sfits in
+    (2 ^ 31 - suc n, rw (le-ltb (2 ^ 31) (suc n) (omega arith)) refl, omega arith)
 
 -- a word's bits are equal exactly if the words are
 pub same-bits : (x y : ℤ) → SFits w32 x → SFits w32 y → eqb (ofZ w32 x) (ofZ w32 y) ≡ equal x y

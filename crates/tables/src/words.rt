@@ -7,6 +7,7 @@ ghost use lib.Signed.{ltZ};
 ghost use Prim.Native.Nat.{_<_};
 ghost use lib.ListN.{length};
 ghost use Rattle.model.specs.Words as W;
+ghost use Rattle.tables.specs.Offset as O;
 
 // The magnitude of a word.
 fn magnitude(x: i32) -> usize
@@ -26,6 +27,21 @@ pub fn value(s: &[i32], i: usize) -> usize
     if i < s.len() { magnitude(s[i]) } else { 0 }
 }
 
+// A word's distance from the least word.
+fn from_least(x: i32) -> usize
+    ensures { λ r. ⌜ r ≡ O.fromLeast x ⌝ }
+{
+    ((x as i64) + 2147483648) as usize
+}
+
+// The distance of the word at an index from the least word: words that differ have different ones, and no test is made.
+pub fn offset(s: &[i32], i: usize) -> usize
+    requires { ⌜ i < length (now s) ⌝ }
+    ensures { λ r. ⌜ r ≡ O.fromLeast (W.word (now (s .entry)) i) ⌝ }
+{
+    from_least(s[i])
+}
+
 // The word at an index is below 0.
 pub fn negative(s: &[i32], i: usize) -> bool
     ensures { λ r. ⌜ r ≡ ltZ (W.word (now (s .entry)) i) (pos 0) ⌝ }
@@ -39,6 +55,14 @@ pub fn same(s: &[i32], i: usize, t: &[i32], j: usize) -> bool
     ensures { λ r. ⌜ r ≡ W.equal (W.word (now (s .entry)) i) (W.word (now (t .entry)) j) ⌝ }
 {
     s[i] == t[j]
+}
+
+// The word at an index is 0.
+pub fn zero(s: &[i32], i: usize) -> bool
+    requires { ⌜ i < length (now s) ⌝ }
+    ensures { λ r. ⌜ r ≡ W.equal (W.word (now (s .entry)) i) (pos 0) ⌝ }
+{
+    s[i] == 0
 }
 
 // The word at an index is at least low.

@@ -10,13 +10,13 @@ pub const KEYS: usize = 16_384;
 
 /// What the predicate and the six arguments are multiplied by.
 const FACTORS: [u64; 7] = [
-    663_608_941,
-    625_341_585,
-    461_845_907,
-    789_269_575,
-    668_265_263,
-    374_761_393,
-    1_013_904_243,
+    331_804_471,
+    442_291_847,
+    349_421_991,
+    480_404_705,
+    294_359_035,
+    307_324_391,
+    318_971_139,
 ];
 
 /// The library's key of a good row's atom. It only serves to make the worst case and to count: if the library takes
@@ -24,10 +24,10 @@ const FACTORS: [u64; 7] = [
 fn key(row: &[i32; ROW]) -> usize {
     let [predicate, _, arguments @ ..] = row;
     let predicate = u64::from(predicate.unsigned_abs()) % 256;
-    let arguments = arguments.map(|argument| u64::from(argument.unsigned_abs()) % (1 << 31));
+    let arguments = arguments.map(|argument| (i64::from(argument) + (1 << 31)) as u64);
     let products = [predicate].into_iter().chain(arguments).zip(FACTORS);
     let sum: u64 = products.map(|(word, factor)| word * factor).sum();
-    (sum >> 16) as usize % KEYS
+    (sum >> 15) as usize % KEYS
 }
 
 /// How the rows of logs fall on the keys.

@@ -1,11 +1,10 @@
--- `logs::key::by_atom` meets its contract. The invariant: the keys of the rows passed stand where their links will stand.
-use Prim.Native.Nat.{ℕ, _+_, _*_, _-_, _/_, _≤_, _<_}
+-- `logs::key::by_atom` meets its contract. The invariant: the keys of the rows passed are written down.
+use Prim.Native.Nat.{ℕ, _+_, _*_, _-_, _≤_}
 use native.Mathlib.Omega.{arith}
-use mathlib.Core.Path.{_≡_, sym, ap, _∙_, subst}
-use lib.ListN.{length, length-replicate}
+use mathlib.Core.Path.{_≡_, sym, ap, _∙_}
 use Rattle.model.specs.Log.{rowCount}
-use Rattle.logs.specs.Key.{rowKey, atomKey}
-use Rattle.logs.proofs.Keys.{row-small, Keying, keying-start, keying-step, keying-end, keying-chained}
+use Rattle.logs.specs.Key.{rowKey, atomKey, Keys}
+use Rattle.logs.proofs.Keys.{row-small, Keying, keying-start, keying-step, keying-keys, keys-ready, keys-chained}
 use Rattle.logs.proofs.key.by_atom.Statement.{statement}
 use Rattle.logs.proofs.key.by_atom.Tie as tie
 use Rattle.logs.proofs.key.by_atom.Reads as reads
@@ -15,13 +14,14 @@ use Rattle.logs.proofs.key.of_atom.Reads as of-atom-reads
 use Rattle.tables.proofs.words.value.Reads as value-reads
 
 abbrev Inv-loop : tie.InvT-loop
-Inv-loop log links₀ rows row₀ links row = (row ≤ rows) × Keying (rowKey log) 16384 20480 row links
+Inv-loop log keys₀ links rows row₀ keys row = (row ≤ rows) × Keying (rowKey log) (rowCount log) row keys
 
 abbrev μ-loop : tie.MeasureT-loop
-μ-loop log links₀ rows row₀ links row = rows - row
+μ-loop log keys₀ links rows row₀ keys row = rows - row
 
 loop-holds : tie.Need-loop-holds Inv-loop μ-loop
-loop-holds c = (omega arith, keying-start (rowKey (c .before .args .log .now)) 16384 20480 (c .before .args .links .now) (c .before .pre .1))
+unfolding rowCount
+loop-holds c = (omega arith, keying-start (rowKey (c .before .before .args .log .now)) (rowCount (c .before .before .args .log .now)) (c .before .before .args .keys .now) (c .before .before .pre .1))
 
 mul-value : tie.Need-mul-value Inv-loop μ-loop
 mul-value c = omega arith
@@ -40,26 +40,25 @@ of-atom-requires c κs = omega arith
 
 key-there :
     (c : tie.After-of-atom Inv-loop μ-loop) →
-    c .of-atom .result ≡ rowKey (c .before .before .before .before .before .args .log .now) (c .before .before .before .loop .row)
+    c .of-atom .result ≡ rowKey (c .before .before .before .before .before .before .args .log .now) (c .before .before .before .loop .row)
 unfolding rowKey
 key-there c =
-    c .of-atom .ensures ∙ ap (λ (p : ℕ). atomKey p (c .before .before .before .before .before .args .log .now) (8 * c .before .before .before .loop .row + 2)) (c .before .value .ensures)
+    c .of-atom .ensures ∙ ap (λ (p : ℕ). atomKey p (c .before .before .before .before .before .before .args .log .now) (8 * c .before .before .before .loop .row + 2)) (c .before .value .ensures)
 
-cast-links : tie.Need-cast-links Inv-loop μ-loop
-cast-links c = omega (arith, row-small (c .before .before .before .before .before .args .log .now) (c .before .before .before .loop .row), key-there c)
+cast-keys : tie.Need-cast-keys Inv-loop μ-loop
+cast-keys c = omega (arith, row-small (c .before .before .before .before .before .before .args .log .now) (c .before .before .before .loop .row), key-there c)
 
-add-links : tie.Need-add-links Inv-loop μ-loop
-add-links c = omega arith
-
-mul-links : tie.Need-mul-links Inv-loop μ-loop
-mul-links c = omega arith
-
-slice-write-links : tie.Need-slice-write-links Inv-loop μ-loop
+mul-keys : tie.Need-mul-keys Inv-loop μ-loop
 unfolding rowCount
-slice-write-links c =
-    let few : length (c .before .before .before .before .before .args .log .now) / 8 ≤ 4096 = c .before .before .before .before .before .pre .0 in
+mul-keys c =
+    let few = c .before .before .before .before .before .before .pre .0 in
+    omega (arith, c .before .before .loop-test .taken)
+
+slice-write-keys : tie.Need-slice-write-keys Inv-loop μ-loop
+unfolding rowCount
+slice-write-keys c =
     let long = c .before .before .before .loop .inv .1 .long in
-    omega arith
+    omega (arith, c .before .before .loop-test .taken)
 
 add-row : tie.Need-add-row Inv-loop μ-loop
 add-row c = omega arith
@@ -70,35 +69,28 @@ loop-less c = omega arith
 loop-again : tie.Need-loop-again Inv-loop μ-loop
 unfolding rowCount
 loop-again c =
-    let few : length (c .before .before .before .before .before .args .log .now) / 8 ≤ 4096 = c .before .before .before .before .before .pre .0 in
-    let t : c .before .before .before .loop .row < length (c .before .before .before .before .before .args .log .now) / 8 = c .before .before .loop-test .taken in
-    (omega arith, keying-step (rowKey (c .before .before .before .before .before .args .log .now)) 16384 20480 (c .before .before .before .loop .row) (c .before .before .before .loop .links) _ (omega arith) (key-there c) (c .before .before .before .loop .inv .1))
+    (omega (arith, c .before .before .loop-test .taken), keying-step (rowKey (c .before .before .before .before .before .before .args .log .now)) (rowCount (c .before .before .before .before .before .before .args .log .now)) (c .before .before .before .loop .row) (c .before .before .before .loop .keys) _ (c .before .before .loop-test .taken) (key-there c) (c .before .before .before .loop .inv .1))
 
-keyed :
+keys-there :
     (c : tie.After-loop Inv-loop μ-loop) →
-    Keying (rowKey (c .before .before .before .args .log .now)) 16384 20480 (length (c .before .before .before .args .log .now) / 8) (c .before .loop .links)
-keyed c =
-    let t : length (c .before .before .before .args .log .now) / 8 ≤ c .before .loop .row = c .loop-test .left in
-    let e : c .before .loop .row ≡ length (c .before .before .before .args .log .now) / 8 = omega arith in
-    subst (λ (n : ℕ). Keying (rowKey (c .before .before .before .args .log .now)) 16384 20480 n (c .before .loop .links)) e (c .before .loop .inv .1)
+    Keys rowKey (c .before .before .before .before .args .log .now) (c .before .loop .keys)
+unfolding rowCount
+keys-there c = keying-keys rowKey (c .before .before .before .before .args .log .now) (c .before .loop .keys) (c .before .loop .row) (c .loop-test .left) (c .before .loop .inv .1)
 
 fill-requires : tie.Need-fill-requires Inv-loop μ-loop
-unfolding rowCount
 fill-requires c κs =
-    let few : length (c .before .before .before .before .args .log .now) / 8 ≤ 4096 = c .before .before .before .before .pre .0 in
-    keying-end (rowKey (c .before .before .before .before .args .log .now)) 16384 20480 (length (c .before .before .before .before .args .log .now) / 8) (c .before .before .loop .links) (keyed (c .before))
-    (omega arith) (omega arith) (row-small (c .before .before .before .before .args .log .now))
+    keys-ready rowKey (c .before .before .before .before .before .before .args .log .now) (c .before .before .before .loop .keys) 16384 20480 (c .before .before .before .before .before .before .args .links .now) (keys-there (c .before .before))
+    (omega (arith, c .before .before .before .before .before .before .pre .0)) (c .before .before .before .before .before .before .pre .0) (c .before .before .before .before .before .before .pre .2) (row-small (c .before .before .before .before .before .before .args .log .now))
 
 same-length : tie.Need-same-length Inv-loop μ-loop
 same-length c =
-    c .before .before .fill .kept .0 ∙ c .before .before .before .before .before .loop .inv .1 .long ∙ sym (ap length (c .before .before .before .before .before .before .before .pre .1) ∙ length-replicate {A = ℕ} 20480 0)
+    c .before .before .before .before .before .before .loop .inv .1 .long ∙ sym (c .before .before .before .before .before .before .before .before .before .pre .1)
+
+same-length-2 : tie.Need-same-length-2 Inv-loop μ-loop
+same-length-2 c = c .before .before .fill .kept .1 .0
 
 returns : tie.Need-returns Inv-loop μ-loop
-unfolding rowCount
-returns c =
-    let few : length (c .before .before .before .before .before .before .before .args .log .now) / 8 ≤ 4096 = c .before .before .before .before .before .before .before .pre .0 in
-    keying-chained (rowKey (c .before .before .before .before .before .before .before .args .log .now)) 16384 20480 (length (c .before .before .before .before .before .before .before .args .log .now) / 8) (c .before .before .before .before .before .loop .links) (keyed (c .before .before .before .before))
-    (omega arith) _ (c .before .before .fill .ensures)
+returns c = (keys-there (c .before .before .before .before .before), keys-chained rowKey (c .before .before .before .before .before .before .before .before .before .args .log .now) (c .before .before .before .before .before .before .loop .keys) 16384 20480 (c .before .before .before .before .before .before .before .before .before .args .links .now) (keys-there (c .before .before .before .before .before)) _ (c .before .before .fill .ensures))
 
 pub by-atom-spec : {M : Type 1} → statement M
 by-atom-spec =
@@ -112,13 +104,13 @@ by-atom-spec =
     mul-of-atom
     add-of-atom
     of-atom-requires
-    cast-links
-    add-links
-    mul-links
-    slice-write-links
+    cast-keys
+    mul-keys
+    slice-write-keys
     add-row
     loop-less
     loop-again
     fill-requires
     same-length
+    same-length-2
     returns)

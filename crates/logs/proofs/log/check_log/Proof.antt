@@ -1,10 +1,11 @@
 -- `logs::log::check_log` meets its contract: question 8 is two tests; questions 9 and 10 are asked over the chained rows.
 use Prim.Native.Nat.{ℕ, _/_, _%_, _≤_}
 use native.Mathlib.Omega.{arith}
-use mathlib.Core.Path.{_≡_, sym, _∙_}
+use mathlib.Core.Path.{_≡_, sym, _∙_, subst}
 use mathlib.Core.Bool.{true, false}
 use borrow.Author.Tests.{eq-eqb, ne-eqb, le-leb, lt-leb}
-use lib.ListN.{length}
+use lib.ListN.{length, take, replicate, length-replicate}
+use lib.Seq.{length-take-le}
 use lib.Dec.{eqb, leb}
 use Rattle.model.specs.declared.Refusal.the-variants.{LogLength}
 use Rattle.model.specs.Words.{Words}
@@ -17,8 +18,7 @@ use Rattle.logs.proofs.log.check_log.Statement.{statement}
 use Rattle.logs.proofs.log.check_log.Tie as tie
 use Rattle.logs.proofs.log.check_log.Reads as reads
 use Rattle.logs.proofs.log.check_log.Lts as lts
-use Rattle.logs.proofs.key.by_atom.Reads as by-atom-reads
-use Rattle.logs.proofs.log.check_rows.Reads as check-rows-reads
+use Rattle.logs.proofs.log.chain_and_check.Reads as chain-and-check-reads
 
 module _ (table log : Words) where
   ask-whole : eqb (length log % 8) 0 ≡ false → refused LogLength 0 ≡ askLog table log
@@ -37,29 +37,43 @@ module _ (table log : Words) where
 never : {X : Type 0} {p : ℕ} → Refused LogLength p ≡ Passed → X
 never e = let z : _≡_ {A = ℕ} 0 1 = cc in absurd (omega arith)
 
+-- the part of the keys that is lent has one for each row
+first-keys : (n : ℕ) → n ≤ 4096 → length (take n (replicate {A = ℕ} 4096 0)) ≡ n
+first-keys n h = length-take-le n (replicate 4096 0) (subst (λ (k : ℕ). n ≤ k) (sym (length-replicate {A = ℕ} 4096 0)) h)
+
 returns : tie.Need-returns
 returns c = record { asked = ask-whole (c .before .before .args .table .now) (c .before .before .args .log .now) (ne-eqb _ 0 (c .if1 .taken)); chained = λ e. never e }
 
 returns-2 : tie.Need-returns-2
 returns-2 c = record { asked = ask-long (c .before .before .before .args .table .now) (c .before .before .before .args .log .now) (eq-eqb _ 0 (c .before .if1 .left)) (lt-leb _ 4096 (c .if2 .taken)); chained = λ e. never e }
 
-by-atom-requires : tie.Need-by-atom-requires
-unfolding rowCount
-by-atom-requires c κs = (c .before .if2 .left, c .before .before .before .before .pre .1)
+array-borrow-prefix-keys : tie.Need-array-borrow-prefix-keys
+array-borrow-prefix-keys c = search needs
 
-check-rows-requires : tie.Need-check-rows-requires
-check-rows-requires c κs = search needs
+slice-aggregate-chain-and-check : tie.Need-slice-aggregate-chain-and-check
+slice-aggregate-chain-and-check c = sym (first-keys (length (c .before .before .before .before .args .log .now) / 8) (c .before .if2 .left))
+
+chain-and-check-requires : tie.Need-chain-and-check-requires
+unfolding rowCount
+chain-and-check-requires c κs = (c .before .before .before .before .before .pre .0, c .before .before .if2 .left, first-keys (length (c .before .before .before .before .before .args .log .now) / 8) (c .before .before .if2 .left), c .before .before .before .before .before .pre .1)
 
 same-length : tie.Need-same-length
 same-length c = search needs
 
 returns-3 : tie.Need-returns-3
 returns-3 c = record {
-  asked = c .check-rows .ensures ∙ sym (ask-rows (c .before .before .before .before .before .before .before .before .before .args .table .now) (c .before .before .before .before .before .before .before .before .before .args .log .now) (eq-eqb _ 0 (c .before .before .before .before .before .before .before .if1 .left)) (le-leb _ 4096 (c .before .before .before .before .before .before .if2 .left)));
-  chained = λ e. c .before .before .before .before .by-atom .ensures;
+  asked = c .before .before .before .chain-and-check .ensures .0 ∙ sym (ask-rows (c .before .before .before .before .before .before .before .before .before .args .table .now) (c .before .before .before .before .before .before .before .before .before .args .log .now) (eq-eqb _ 0 (c .before .before .before .before .before .before .before .if1 .left)) (le-leb _ 4096 (c .before .before .before .before .before .before .if2 .left)));
+  chained = λ e. c .before .before .before .chain-and-check .ensures .1;
 }
 
 pub check-log-spec : {M : Type 1} → statement M
 check-log-spec =
     tie.close
-    (tie.spec returns returns-2 by-atom-requires check-rows-requires same-length returns-3)
+    (tie.spec
+    returns
+    returns-2
+    array-borrow-prefix-keys
+    slice-aggregate-chain-and-check
+    chain-and-check-requires
+    same-length
+    returns-3)

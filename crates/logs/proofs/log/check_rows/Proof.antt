@@ -46,43 +46,42 @@ module _ (table log : Words) where
   row-passed r e f = rw (e, f)
 
 abbrev Inv-loop : tie.InvT-loop
-Inv-loop table log links n row₀ row = (row ≤ n) × (askRows table log ≡ inTurn (row-questions table log) (span row (n - row)))
+Inv-loop table log keys links n row₀ row = (row ≤ n) × (askRows table log ≡ inTurn (row-questions table log) (span row (n - row)))
 
 abbrev μ-loop : tie.MeasureT-loop
-μ-loop table log links n row₀ row = n - row
+μ-loop table log keys links n row₀ row = n - row
 
 loop-holds : tie.Need-loop-holds Inv-loop μ-loop
 loop-holds c = (
   omega arith,
-  rows-start (c .before .args .table .now) (c .before .args .log .now)
-      ∙ ap (λ (m : ℕ). inTurn (row-questions (c .before .args .table .now) (c .before .args .log .now)) (span 0 m)) (sym (sub-zero _)),
+  rows-start (c .before .before .args .table .now) (c .before .before .args .log .now) ∙ ap (λ (m : ℕ). inTurn (row-questions (c .before .before .args .table .now) (c .before .before .args .log .now)) (span 0 m)) (sym (sub-zero _)),
 )
 
 good-row-requires : tie.Need-good-row-requires Inv-loop μ-loop
-good-row-requires c κs = (c .before .before .before .pre .0, omega arith)
+good-row-requires c κs = (c .before .before .before .before .pre .0, omega arith)
 
 returns : tie.Need-returns Inv-loop μ-loop
 returns c =
     sym
     (c .before .before .before .loop .inv .1
-    ∙ turn-stop (row-questions (c .before .before .before .before .before .args .table .now) (c .before .before .before .before .before .args .log .now)) (c .before .before .before .loop .row) (length (c .before .before .before .before .before .args .log .now) / 8) (c .before .before .loop-test .taken)
-    (row-bad (c .before .before .before .before .before .args .table .now) (c .before .before .before .before .before .args .log .now) (c .before .before .before .loop .row) (sym (c .before .good-row .ensures) ∙ not-true _ (c .if1 .taken))))
+    ∙ turn-stop (row-questions (c .before .before .before .before .before .before .args .table .now) (c .before .before .before .before .before .before .args .log .now)) (c .before .before .before .loop .row) (length (c .before .before .before .before .before .before .args .log .now) / 8) (c .before .before .loop-test .taken)
+    (row-bad (c .before .before .before .before .before .before .args .table .now) (c .before .before .before .before .before .before .args .log .now) (c .before .before .before .loop .row) (sym (c .before .good-row .ensures) ∙ not-true _ (c .if1 .taken))))
 
 is-good :
     (c : tie.Else1 Inv-loop μ-loop) →
-    goodRow (c .before .before .before .before .before .args .table .now) (rowAt (c .before .before .before .before .before .args .log .now) (c .before .before .before .loop .row)) ≡ true
+    goodRow (c .before .before .before .before .before .before .args .table .now) (rowAt (c .before .before .before .before .before .before .args .log .now) (c .before .before .before .loop .row)) ≡ true
 is-good c = sym (c .before .good-row .ensures) ∙ not-false _ (c .if1 .left)
 
 repeats-requires : tie.Need-repeats-requires Inv-loop μ-loop
 unfolding rowCount
-repeats-requires c κs = (c .before .before .before .before .before .pre .1, c .before .before .loop-test .taken, good-number (c .before .before .before .before .before .args .table .now) (c .before .before .before .before .before .args .log .now) (c .before .before .before .loop .row) (is-good c))
+repeats-requires c κs = (c .before .before .before .before .before .before .pre .1, c .before .before .before .before .before .before .pre .2, c .before .before .loop-test .taken, good-number (c .before .before .before .before .before .before .args .table .now) (c .before .before .before .before .before .before .args .log .now) (c .before .before .before .loop .row) (is-good c))
 
 returns-2 : tie.Need-returns-2 Inv-loop μ-loop
 returns-2 c =
     sym
     (c .before .before .before .before .before .loop .inv .1
-    ∙ turn-stop (row-questions (c .before .before .before .before .before .before .before .args .table .now) (c .before .before .before .before .before .before .before .args .log .now)) (c .before .before .before .before .before .loop .row) (length (c .before .before .before .before .before .before .before .args .log .now) / 8) (c .before .before .before .before .loop-test .taken)
-    (row-repeats (c .before .before .before .before .before .before .before .args .table .now) (c .before .before .before .before .before .before .before .args .log .now) (c .before .before .before .before .before .loop .row) (is-good (c .before .before)) (sym (c .before .repeats .ensures) ∙ c .if2 .taken)))
+    ∙ turn-stop (row-questions (c .before .before .before .before .before .before .before .before .args .table .now) (c .before .before .before .before .before .before .before .before .args .log .now)) (c .before .before .before .before .before .loop .row) (length (c .before .before .before .before .before .before .before .before .args .log .now) / 8) (c .before .before .before .before .loop-test .taken)
+    (row-repeats (c .before .before .before .before .before .before .before .before .args .table .now) (c .before .before .before .before .before .before .before .before .args .log .now) (c .before .before .before .before .before .loop .row) (is-good (c .before .before)) (sym (c .before .repeats .ensures) ∙ c .if2 .taken)))
 
 add-row : tie.Need-add-row Inv-loop μ-loop
 add-row c = omega arith
@@ -94,13 +93,13 @@ loop-again : tie.Need-loop-again Inv-loop μ-loop
 loop-again c = (
   omega arith,
   c .before .before .before .before .before .loop .inv .1
-      ∙ turn-step (row-questions (c .before .before .before .before .before .before .before .args .table .now) (c .before .before .before .before .before .before .before .args .log .now)) (c .before .before .before .before .before .loop .row) (length (c .before .before .before .before .before .before .before .args .log .now) / 8) (c .before .before .before .before .loop-test .taken)
-      (row-passed (c .before .before .before .before .before .before .before .args .table .now) (c .before .before .before .before .before .before .before .args .log .now) (c .before .before .before .before .before .loop .row) (is-good (c .before .before)) (sym (c .before .repeats .ensures) ∙ c .if2 .left)),
+      ∙ turn-step (row-questions (c .before .before .before .before .before .before .before .before .args .table .now) (c .before .before .before .before .before .before .before .before .args .log .now)) (c .before .before .before .before .before .loop .row) (length (c .before .before .before .before .before .before .before .before .args .log .now) / 8) (c .before .before .before .before .loop-test .taken)
+      (row-passed (c .before .before .before .before .before .before .before .before .args .table .now) (c .before .before .before .before .before .before .before .before .args .log .now) (c .before .before .before .before .before .loop .row) (is-good (c .before .before)) (sym (c .before .repeats .ensures) ∙ c .if2 .left)),
 )
 
 returns-3 : tie.Need-returns-3 Inv-loop μ-loop
 returns-3 c =
-    sym (c .before .loop .inv .1 ∙ turn-end (row-questions (c .before .before .before .args .table .now) (c .before .before .before .args .log .now)) (c .before .loop .row) (length (c .before .before .before .args .log .now) / 8) (c .loop-test .left))
+    sym (c .before .loop .inv .1 ∙ turn-end (row-questions (c .before .before .before .before .args .table .now) (c .before .before .before .before .args .log .now)) (c .before .loop .row) (length (c .before .before .before .before .args .log .now) / 8) (c .loop-test .left))
 
 pub check-rows-spec : {M : Type 1} → statement M
 check-rows-spec =

@@ -1,12 +1,14 @@
 -- `logs::log::repeats` meets its contract: the first row of the log that holds the row's atom is earlier, or it is the row.
-use Prim.Native.Nat.{ℕ, _+_, _*_, _-_}
+use Prim.Native.Nat.{ℕ, _+_, _*_, _-_, _/_, _≤_, _<_}
 use native.Mathlib.Omega.{arith}
 use mathlib.Core.Path.{_≡_, sym, ap, ap₂, _∙_}
-use lib.ListN.{take, drop}
+use lib.ListN.{length, take, drop, length-take, length-drop}
 use Rattle.model.specs.Lists.{span}
 use Rattle.model.specs.Log.{rowCount}
+use Rattle.logs.specs.Key.{atomKey}
 use Rattle.logs.specs.Search.{firstRow, repeatsAt}
 use Rattle.logs.proofs.Rows.{earlier, repeats-first}
+use Rattle.logs.proofs.Keys.{own-key}
 use borrow.Author.Needs.{needs}
 use Rattle.logs.proofs.log.repeats.Statement.{statement}
 use Rattle.logs.proofs.log.repeats.Tie as tie
@@ -18,6 +20,23 @@ use Rattle.tables.proofs.words.value.Reads as value-reads
 mul-at : tie.Need-mul-at
 unfolding rowCount
 mul-at c = omega arith
+
+mul-start : tie.Need-mul-start
+unfolding rowCount
+mul-start c =
+    let long = c .before .before .pre .0 .long in
+    let in-row = c .before .before .pre .2 in
+    omega arith
+
+shared-slice-read-start : tie.Need-shared-slice-read-start
+unfolding rowCount
+shared-slice-read-start c =
+    let long = c .before .before .before .pre .0 .long in
+    let in-row = c .before .before .before .pre .2 in
+    omega arith
+
+cast-start : tie.Need-cast-start
+cast-start c = omega (arith, c .shared-slice-known3 .given (c .before .before .before .args .row))
 
 value-requires : tie.Need-value-requires
 value-requires c κs = search needs
@@ -45,7 +64,17 @@ unfolding rowCount
 part-search-end c = omega arith
 
 search-requires : tie.Need-search-requires
-search-requires c κs = search needs
+unfolding rowCount
+search-requires c κs =
+    let log = c .before .before .before .before .before .args .log .now in
+    let row = c .before .before .before .before .before .args .row in
+    let six : (8 * row + 8) - (8 * row + 2) ≡ 6 = omega arith in (
+      c .before .before .before .before .before .pre .1,
+      simp (length-take, length-drop) (omega (arith, c .before .before .before .before .before .pre .2)),
+      c .before .before .before .before .before .pre .0 .keyed row (c .before .before .before .before .before .pre .2)
+          ∙ own-key log row (c .before .before .before .before .before .pre .2) (c .before .before .before .before .before .pre .3)
+          ∙ sym (ap₂ (λ (p n : ℕ). atomKey p (take n (drop (8 * row + 2) log)) 0) (c .before .value .ensures) six),
+    )
 
 enum-known-found : tie.Need-enum-known-found
 enum-known-found c = search needs
@@ -55,26 +84,29 @@ enum-told c = search needs
 
 found :
     (c : tie.After-search) →
-    repeatsAt (c .before .before .before .before .args .log .now) (c .before .before .before .before .args .row) ≡ earlier (c .before .before .before .before .args .row) (c .search .result)
+    repeatsAt (c .before .before .before .before .before .before .args .log .now) (c .before .before .before .before .before .before .args .row) ≡ earlier (c .before .before .before .before .before .before .args .row) (c .search .result)
 found c =
-    let log = c .before .before .before .before .args .log .now in
-    let row = c .before .before .before .before .args .row in
+    let log = c .before .before .before .before .before .before .args .log .now in
+    let row = c .before .before .before .before .before .before .args .row in
     let six : (8 * row + 8) - (8 * row + 2) ≡ 6 = omega arith in
-    repeats-first log row (c .before .before .before .before .pre .1) (c .before .before .before .before .pre .2)
+    repeats-first log row (c .before .before .before .before .before .before .pre .2) (c .before .before .before .before .before .before .pre .3)
     (c .search .ensures
     ∙ ap₂ (λ (p n : ℕ). firstRow log p (take n (drop (8 * row + 2) log)) (span 0 (rowCount log))) (c .before .before .value .ensures) six)
 
 returns : tie.Need-returns
-returns c = sym (found (c .before .before .before) ∙ ap (earlier (c .before .before .before .before .before .before .before .args .row)) (c .before .found .given .1))
+returns c = sym (found (c .before .before .before) ∙ ap (earlier (c .before .before .before .before .before .before .before .before .before .args .row)) (c .before .found .given .1))
 
 returns-2 : tie.Need-returns-2
-returns-2 c = sym (found (c .before .before) ∙ ap (earlier (c .before .before .before .before .before .before .args .row)) (c .enum-told .given .1))
+returns-2 c = sym (found (c .before .before) ∙ ap (earlier (c .before .before .before .before .before .before .before .before .args .row)) (c .enum-told .given .1))
 
 pub repeats-spec : {M : Type 1} → statement M
 repeats-spec =
     tie.close
     (tie.spec
     mul-at
+    mul-start
+    shared-slice-read-start
+    cast-start
     value-requires
     add-search
     add-search-2

@@ -17,94 +17,90 @@ use Rattle.logs.proofs.search.search.Statement.{statement}
 use Rattle.logs.proofs.search.search.Tie as tie
 use Rattle.logs.proofs.search.search.Reads as reads
 use Rattle.logs.proofs.search.search.Lts as lts
-use Rattle.logs.proofs.key.of_atom.Reads as of-atom-reads
 use Rattle.tables.proofs.words.is.Reads as is-reads
 use Rattle.tables.proofs.words.same.Reads as same-reads
 
 abbrev Inv-loop : tie.InvT-loop
-Inv-loop log links predicate arguments rows start link row i₀ i = (i ≤ 6) × (holds predicate arguments (rowAt log row) ≡ Rest log (8 * row + 2) arguments i)
+Inv-loop log links start predicate arguments rows link row i₀ i = (i ≤ 6) × (holds predicate arguments (rowAt log row) ≡ Rest log (8 * row + 2) arguments i)
 
 abbrev μ-loop : tie.MeasureT-loop
-μ-loop log links predicate arguments rows start link row i₀ i = 6 - i
+μ-loop log links start predicate arguments rows link row i₀ i = 6 - i
 
 abbrev Inv-rows : tie.InvT-rows
-Inv-rows log links predicate arguments rows start link₀ link = (from : ℕ) × Searching log predicate arguments start rows from link
+Inv-rows log links start predicate arguments rows link₀ link = (from : ℕ) × Searching log predicate arguments start rows from link
 
 abbrev μ-rows : tie.MeasureT-rows
-μ-rows log links predicate arguments rows start link₀ link = link
-
-of-atom-requires : tie.Need-of-atom-requires Inv-loop μ-loop Inv-rows μ-rows
-of-atom-requires c κs = omega (arith, c .before .pre .1)
+μ-rows log links start predicate arguments rows link₀ link = link
 
 mul-link : tie.Need-mul-link Inv-loop μ-loop Inv-rows μ-rows
-mul-link c = omega (arith, key-small (c .before .before .args .predicate) (c .before .before .args .arguments .now) 0, c .of-atom .ensures)
+mul-link c = omega (arith, key-small (c .before .args .predicate) (c .before .args .arguments .now) 0, c .before .pre .2)
 
 shared-slice-read-link : tie.Need-shared-slice-read-link Inv-loop μ-loop Inv-rows μ-rows
 unfolding rowCount
-shared-slice-read-link c = omega (arith, key-small (c .before .before .before .args .predicate) (c .before .before .before .args .arguments .now) 0, c .before .of-atom .ensures, c .before .before .before .pre .0 .within)
+shared-slice-read-link c = omega (arith, key-small (c .before .before .args .predicate) (c .before .before .args .arguments .now) 0, c .before .before .pre .2, c .before .before .pre .0 .within)
 
 cast-link : tie.Need-cast-link Inv-loop μ-loop Inv-rows μ-rows
-cast-link c = omega (arith, c .shared-slice-known2 .given (c .before .of-atom .result))
+cast-link c = omega (arith, c .shared-slice-known2 .given (c .before .before .args .start))
 
 rows-holds : tie.Need-rows-holds Inv-loop μ-loop Inv-rows μ-rows
 unfolding rowCount
 rows-holds c =
-    let small = key-small (c .before .before .before .args .predicate) (c .before .before .before .args .arguments .now) 0 in
-    let start = c .before .of-atom .ensures in (
+    let small = key-small (c .before .before .args .predicate) (c .before .before .args .arguments .now) 0 in
+    let start = c .before .before .pre .2 in (
       0,
       record {
-        linked = c .before .before .before .pre .0 .heads (c .before .of-atom .result) (omega arith);
-        left = first-chain (c .before .before .before .args .log .now) (c .before .before .before .args .predicate) (c .before .before .before .args .arguments .now) (c .before .before .before .pre .1) (length (c .before .before .before .args .log .now) / 8) (omega arith)
-            ∙ ap (λ (k : ℕ). firstRow (c .before .before .before .args .log .now) (c .before .before .before .args .predicate) (c .before .before .before .args .arguments .now) (chain (rowKey (c .before .before .before .args .log .now)) k 0 (length (c .before .before .before .args .log .now) / 8))) (sym start);
+        linked = c .before .before .pre .0 .heads (c .before .before .args .start) (omega arith);
+        left = first-chain (c .before .before .args .log .now) (c .before .before .args .predicate) (c .before .before .args .arguments .now) (c .before .before .pre .1) (length (c .before .before .args .log .now) / 8) (omega arith)
+            ∙ ap (λ (k : ℕ). firstRow (c .before .before .args .log .now) (c .before .before .args .predicate) (c .before .before .args .arguments .now) (chain (rowKey (c .before .before .args .log .now)) k 0 (length (c .before .before .args .log .now) / 8))) (sym start);
       },
     )
 
 sub-row : tie.Need-sub-row Inv-loop μ-loop Inv-rows μ-rows
 unfolding rowCount
 sub-row c =
-    let found = search-row (c .before .before .before .before .before .args .log .now) (c .before .before .before .before .before .args .predicate) (c .before .before .before .before .before .args .arguments .now) (c .before .before .before .of-atom .result) (length (c .before .before .before .before .before .args .log .now) / 8) (c .before .rows .inv .0) (c .before .rows .link) (c .before .rows .inv .1) (c .if1 .left) in
-    let inside : ((length (c .before .before .before .before .before .args .log .now) / 8) - c .before .rows .link) < (length (c .before .before .before .before .before .args .log .now) / 8) = found .0 .inside in
-    let few : c .before .rows .link ≤ (length (c .before .before .before .before .before .args .log .now) / 8) = found .1 in
-    let room = c .before .before .before .before .before .pre .0 .within in
+    let found = search-row (c .before .before .before .before .args .log .now) (c .before .before .before .before .args .predicate) (c .before .before .before .before .args .arguments .now) (c .before .before .before .before .args .start) (length (c .before .before .before .before .args .log .now) / 8) (c .before .rows .inv .0) (c .before .rows .link) (c .before .rows .inv .1) (c .if1 .left) in
+    let inside : ((length (c .before .before .before .before .args .log .now) / 8) - c .before .rows .link) < (length (c .before .before .before .before .args .log .now) / 8) = found .0 .inside in
+    let few : c .before .rows .link ≤ (length (c .before .before .before .before .args .log .now) / 8) = found .1 in
+    let room = c .before .before .before .before .pre .0 .within in
     omega arith
 
 add-link : tie.Need-add-link Inv-loop μ-loop Inv-rows μ-rows
 unfolding rowCount
 add-link c =
-    let found = search-row (c .before .before .before .before .before .args .log .now) (c .before .before .before .before .before .args .predicate) (c .before .before .before .before .before .args .arguments .now) (c .before .before .before .of-atom .result) (length (c .before .before .before .before .before .args .log .now) / 8) (c .before .rows .inv .0) (c .before .rows .link) (c .before .rows .inv .1) (c .if1 .left) in
-    let inside : ((length (c .before .before .before .before .before .args .log .now) / 8) - c .before .rows .link) < (length (c .before .before .before .before .before .args .log .now) / 8) = found .0 .inside in
-    let few : c .before .rows .link ≤ (length (c .before .before .before .before .before .args .log .now) / 8) = found .1 in
-    let room = c .before .before .before .before .before .pre .0 .within in
+    let found = search-row (c .before .before .before .before .args .log .now) (c .before .before .before .before .args .predicate) (c .before .before .before .before .args .arguments .now) (c .before .before .before .before .args .start) (length (c .before .before .before .before .args .log .now) / 8) (c .before .rows .inv .0) (c .before .rows .link) (c .before .rows .inv .1) (c .if1 .left) in
+    let inside : ((length (c .before .before .before .before .args .log .now) / 8) - c .before .rows .link) < (length (c .before .before .before .before .args .log .now) / 8) = found .0 .inside in
+    let few : c .before .rows .link ≤ (length (c .before .before .before .before .args .log .now) / 8) = found .1 in
+    let room = c .before .before .before .before .pre .0 .within in
     omega arith
 
 mul-link-2 : tie.Need-mul-link-2 Inv-loop μ-loop Inv-rows μ-rows
 unfolding rowCount
 mul-link-2 c =
-    let found = search-row (c .before .before .before .before .before .args .log .now) (c .before .before .before .before .before .args .predicate) (c .before .before .before .before .before .args .arguments .now) (c .before .before .before .of-atom .result) (length (c .before .before .before .before .before .args .log .now) / 8) (c .before .rows .inv .0) (c .before .rows .link) (c .before .rows .inv .1) (c .if1 .left) in
-    let inside : ((length (c .before .before .before .before .before .args .log .now) / 8) - c .before .rows .link) < (length (c .before .before .before .before .before .args .log .now) / 8) = found .0 .inside in
-    let few : c .before .rows .link ≤ (length (c .before .before .before .before .before .args .log .now) / 8) = found .1 in
-    let room = c .before .before .before .before .before .pre .0 .within in
+    let found = search-row (c .before .before .before .before .args .log .now) (c .before .before .before .before .args .predicate) (c .before .before .before .before .args .arguments .now) (c .before .before .before .before .args .start) (length (c .before .before .before .before .args .log .now) / 8) (c .before .rows .inv .0) (c .before .rows .link) (c .before .rows .inv .1) (c .if1 .left) in
+    let inside : ((length (c .before .before .before .before .args .log .now) / 8) - c .before .rows .link) < (length (c .before .before .before .before .args .log .now) / 8) = found .0 .inside in
+    let few : c .before .rows .link ≤ (length (c .before .before .before .before .args .log .now) / 8) = found .1 in
+    let room = c .before .before .before .before .pre .0 .within in
     omega arith
 
 shared-slice-read-link-2 : tie.Need-shared-slice-read-link-2 Inv-loop μ-loop Inv-rows μ-rows
 unfolding rowCount
 shared-slice-read-link-2 c =
-    let found = search-row (c .before .before .before .before .before .before .args .log .now) (c .before .before .before .before .before .before .args .predicate) (c .before .before .before .before .before .before .args .arguments .now) (c .before .before .before .before .of-atom .result) (length (c .before .before .before .before .before .before .args .log .now) / 8) (c .before .before .rows .inv .0) (c .before .before .rows .link) (c .before .before .rows .inv .1) (c .before .if1 .left) in
-    let inside : ((length (c .before .before .before .before .before .before .args .log .now) / 8) - c .before .before .rows .link) < (length (c .before .before .before .before .before .before .args .log .now) / 8) = found .0 .inside in
-    let few : c .before .before .rows .link ≤ (length (c .before .before .before .before .before .before .args .log .now) / 8) = found .1 in
-    let room = c .before .before .before .before .before .before .pre .0 .within in
+    let found = search-row (c .before .before .before .before .before .args .log .now) (c .before .before .before .before .before .args .predicate) (c .before .before .before .before .before .args .arguments .now) (c .before .before .before .before .before .args .start) (length (c .before .before .before .before .before .args .log .now) / 8) (c .before .before .rows .inv .0) (c .before .before .rows .link) (c .before .before .rows .inv .1) (c .before .if1 .left) in
+    let inside : ((length (c .before .before .before .before .before .args .log .now) / 8) - c .before .before .rows .link) < (length (c .before .before .before .before .before .args .log .now) / 8) = found .0 .inside in
+    let few : c .before .before .rows .link ≤ (length (c .before .before .before .before .before .args .log .now) / 8) = found .1 in
+    let room = c .before .before .before .before .before .pre .0 .within in
     omega arith
 
 cast-link-2 : tie.Need-cast-link-2 Inv-loop μ-loop Inv-rows μ-rows
-cast-link-2 c = omega (arith, c .shared-slice-known3 .given (16384 + ((length (c .before .before .before .before .before .before .args .log .now) / 8) - c .before .before .rows .link)))
+cast-link-2 c = omega (arith, c .shared-slice-known3 .given (16384 + ((length (c .before .before .before .before .before .args .log .now) / 8) - c .before .before .rows .link)))
 
 mul-is : tie.Need-mul-is Inv-loop μ-loop Inv-rows μ-rows
 unfolding rowCount
 mul-is c =
-    let found = search-row (c .before .before .before .before .before .before .args .log .now) (c .before .before .before .before .before .before .args .predicate) (c .before .before .before .before .before .before .args .arguments .now) (c .before .before .before .before .of-atom .result) (length (c .before .before .before .before .before .before .args .log .now) / 8) (c .before .before .rows .inv .0) (c .before .before .rows .link) (c .before .before .rows .inv .1) (c .before .if1 .left) in
-    let inside : ((length (c .before .before .before .before .before .before .args .log .now) / 8) - c .before .before .rows .link) < (length (c .before .before .before .before .before .before .args .log .now) / 8) = found .0 .inside in
-    let few : c .before .before .rows .link ≤ (length (c .before .before .before .before .before .before .args .log .now) / 8) = found .1 in
-    let room = c .before .before .before .before .before .before .pre .0 .within in
+    let found = search-row (c .before .before .before .before .before .args .log .now) (c .before .before .before .before .before .args .predicate) (c .before .before .before .before .before .args .arguments .now) (c .before .before .before .before .before .args .start) (length (c .before .before .before .before .before .args .log .now) / 8) (c .before .before .rows .inv .0) (c .before .before .rows .link) (c .before .before .rows .inv .1) (c .before .if1 .left) in
+    let inside : ((length (c .before .before .before .before .before .args .log .now) / 8) - c .before .before .rows .link) < (length (c .before .before .before .before .before .args .log .now) / 8) = found .0 .inside in
+    let few : c .before .before .rows .link ≤ (length (c .before .before .before .before .before .args .log .now) / 8) = found .1 in
+    let room = c .before .before .before .before .before .pre .0 .within in
     omega arith
 
 is-requires : tie.Need-is-requires Inv-loop μ-loop Inv-rows μ-rows
@@ -112,72 +108,72 @@ is-requires c κs = tt
 
 rows-less : tie.Need-rows-less Inv-loop μ-loop Inv-rows μ-rows
 unfolding rowCount
-rows-less c = search-less (c .before .before .before .before .before .before .before .before .args .log .now) (c .before .before .before .before .before .before .before .before .args .predicate) (c .before .before .before .before .before .before .before .before .args .arguments .now) (c .before .before .before .before .before .before .of-atom .result) (length (c .before .before .before .before .before .before .before .before .args .log .now) / 8) (c .before .before .before .before .rows .inv .0) (c .before .before .before .before .rows .link) (c .before .before .before .before .rows .inv .1) (c .before .before .before .if1 .left) (c .before .before .before .before .before .before .before .before .args .links .now) 16384 _ (c .before .before .before .before .before .before .before .before .pre .0) refl
+rows-less c = search-less (c .before .before .before .before .before .before .before .args .log .now) (c .before .before .before .before .before .before .before .args .predicate) (c .before .before .before .before .before .before .before .args .arguments .now) (c .before .before .before .before .before .before .before .args .start) (length (c .before .before .before .before .before .before .before .args .log .now) / 8) (c .before .before .before .before .rows .inv .0) (c .before .before .before .before .rows .link) (c .before .before .before .before .rows .inv .1) (c .before .before .before .if1 .left) (c .before .before .before .before .before .before .before .args .links .now) 16384 _ (c .before .before .before .before .before .before .before .pre .0) refl
 
 rows-again : tie.Need-rows-again Inv-loop μ-loop Inv-rows μ-rows
 unfolding rowCount
-rows-again c = (((length (c .before .before .before .before .before .before .before .before .args .log .now) / 8) - c .before .before .before .before .rows .link) + 1, search-next (c .before .before .before .before .before .before .before .before .args .log .now) (c .before .before .before .before .before .before .before .before .args .predicate) (c .before .before .before .before .before .before .before .before .args .arguments .now) (c .before .before .before .before .before .before .of-atom .result) (length (c .before .before .before .before .before .before .before .before .args .log .now) / 8) (c .before .before .before .before .rows .inv .0) (c .before .before .before .before .rows .link) (c .before .before .before .before .rows .inv .1) (c .before .before .before .if1 .left) (c .before .before .before .before .before .before .before .before .args .links .now) 16384 _ (c .before .before .before .before .before .before .before .before .pre .0) refl (holds-not (c .before .before .before .before .before .before .before .before .args .log .now) (c .before .before .before .before .before .before .before .before .args .predicate) (c .before .before .before .before .before .before .before .before .args .arguments .now) ((length (c .before .before .before .before .before .before .before .before .args .log .now) / 8) - c .before .before .before .before .rows .link) (sym (c .before .is .ensures) ∙ not-true _ (c .if2 .taken))))
+rows-again c = (((length (c .before .before .before .before .before .before .before .args .log .now) / 8) - c .before .before .before .before .rows .link) + 1, search-next (c .before .before .before .before .before .before .before .args .log .now) (c .before .before .before .before .before .before .before .args .predicate) (c .before .before .before .before .before .before .before .args .arguments .now) (c .before .before .before .before .before .before .before .args .start) (length (c .before .before .before .before .before .before .before .args .log .now) / 8) (c .before .before .before .before .rows .inv .0) (c .before .before .before .before .rows .link) (c .before .before .before .before .rows .inv .1) (c .before .before .before .if1 .left) (c .before .before .before .before .before .before .before .args .links .now) 16384 _ (c .before .before .before .before .before .before .before .pre .0) refl (holds-not (c .before .before .before .before .before .before .before .args .log .now) (c .before .before .before .before .before .before .before .args .predicate) (c .before .before .before .before .before .before .before .args .arguments .now) ((length (c .before .before .before .before .before .before .before .args .log .now) / 8) - c .before .before .before .before .rows .link) (sym (c .before .is .ensures) ∙ not-true _ (c .if2 .taken))))
 
 loop-holds : tie.Need-loop-holds Inv-loop μ-loop Inv-rows μ-rows
 loop-holds c = (
   omega arith,
-  holds-here (c .before .before .before .before .before .before .before .before .args .log .now) (c .before .before .before .before .before .before .before .before .args .predicate) (c .before .before .before .before .before .before .before .before .args .arguments .now) ((length (c .before .before .before .before .before .before .before .before .args .log .now) / 8) - c .before .before .before .before .rows .link) (omega (arith, c .before .before .before .before .before .before .before .before .pre .1)) (sym (c .before .is .ensures) ∙ not-false _ (c .if2 .left))
-      ∙ sym (rest-start (c .before .before .before .before .before .before .before .before .args .log .now) (8 * ((length (c .before .before .before .before .before .before .before .before .args .log .now) / 8) - c .before .before .before .before .rows .link) + 2) (c .before .before .before .before .before .before .before .before .args .arguments .now) 0),
+  holds-here (c .before .before .before .before .before .before .before .args .log .now) (c .before .before .before .before .before .before .before .args .predicate) (c .before .before .before .before .before .before .before .args .arguments .now) ((length (c .before .before .before .before .before .before .before .args .log .now) / 8) - c .before .before .before .before .rows .link) (omega (arith, c .before .before .before .before .before .before .before .pre .1)) (sym (c .before .is .ensures) ∙ not-false _ (c .if2 .left))
+      ∙ sym (rest-start (c .before .before .before .before .before .before .before .args .log .now) (8 * ((length (c .before .before .before .before .before .before .before .args .log .now) / 8) - c .before .before .before .before .rows .link) + 2) (c .before .before .before .before .before .before .before .args .arguments .now) 0),
 )
 
 mul-same : tie.Need-mul-same Inv-loop μ-loop Inv-rows μ-rows
 unfolding rowCount
 mul-same c =
-    let found = search-row (c .before .before .before .before .before .before .before .before .before .before .args .log .now) (c .before .before .before .before .before .before .before .before .before .before .args .predicate) (c .before .before .before .before .before .before .before .before .before .before .args .arguments .now) (c .before .before .before .before .before .before .before .before .of-atom .result) (length (c .before .before .before .before .before .before .before .before .before .before .args .log .now) / 8) (c .before .before .before .before .before .before .rows .inv .0) (c .before .before .before .before .before .before .rows .link) (c .before .before .before .before .before .before .rows .inv .1) (c .before .before .before .before .before .if1 .left) in
-    let inside : ((length (c .before .before .before .before .before .before .before .before .before .before .args .log .now) / 8) - c .before .before .before .before .before .before .rows .link) < (length (c .before .before .before .before .before .before .before .before .before .before .args .log .now) / 8) = found .0 .inside in
-    let few : c .before .before .before .before .before .before .rows .link ≤ (length (c .before .before .before .before .before .before .before .before .before .before .args .log .now) / 8) = found .1 in
-    let room = c .before .before .before .before .before .before .before .before .before .before .pre .0 .within in
+    let found = search-row (c .before .before .before .before .before .before .before .before .before .args .log .now) (c .before .before .before .before .before .before .before .before .before .args .predicate) (c .before .before .before .before .before .before .before .before .before .args .arguments .now) (c .before .before .before .before .before .before .before .before .before .args .start) (length (c .before .before .before .before .before .before .before .before .before .args .log .now) / 8) (c .before .before .before .before .before .before .rows .inv .0) (c .before .before .before .before .before .before .rows .link) (c .before .before .before .before .before .before .rows .inv .1) (c .before .before .before .before .before .if1 .left) in
+    let inside : ((length (c .before .before .before .before .before .before .before .before .before .args .log .now) / 8) - c .before .before .before .before .before .before .rows .link) < (length (c .before .before .before .before .before .before .before .before .before .args .log .now) / 8) = found .0 .inside in
+    let few : c .before .before .before .before .before .before .rows .link ≤ (length (c .before .before .before .before .before .before .before .before .before .args .log .now) / 8) = found .1 in
+    let room = c .before .before .before .before .before .before .before .before .before .pre .0 .within in
     omega arith
 
 add-same : tie.Need-add-same Inv-loop μ-loop Inv-rows μ-rows
 unfolding rowCount
 add-same c =
-    let found = search-row (c .before .before .before .before .before .before .before .before .before .before .args .log .now) (c .before .before .before .before .before .before .before .before .before .before .args .predicate) (c .before .before .before .before .before .before .before .before .before .before .args .arguments .now) (c .before .before .before .before .before .before .before .before .of-atom .result) (length (c .before .before .before .before .before .before .before .before .before .before .args .log .now) / 8) (c .before .before .before .before .before .before .rows .inv .0) (c .before .before .before .before .before .before .rows .link) (c .before .before .before .before .before .before .rows .inv .1) (c .before .before .before .before .before .if1 .left) in
-    let inside : ((length (c .before .before .before .before .before .before .before .before .before .before .args .log .now) / 8) - c .before .before .before .before .before .before .rows .link) < (length (c .before .before .before .before .before .before .before .before .before .before .args .log .now) / 8) = found .0 .inside in
-    let few : c .before .before .before .before .before .before .rows .link ≤ (length (c .before .before .before .before .before .before .before .before .before .before .args .log .now) / 8) = found .1 in
-    let room = c .before .before .before .before .before .before .before .before .before .before .pre .0 .within in
+    let found = search-row (c .before .before .before .before .before .before .before .before .before .args .log .now) (c .before .before .before .before .before .before .before .before .before .args .predicate) (c .before .before .before .before .before .before .before .before .before .args .arguments .now) (c .before .before .before .before .before .before .before .before .before .args .start) (length (c .before .before .before .before .before .before .before .before .before .args .log .now) / 8) (c .before .before .before .before .before .before .rows .inv .0) (c .before .before .before .before .before .before .rows .link) (c .before .before .before .before .before .before .rows .inv .1) (c .before .before .before .before .before .if1 .left) in
+    let inside : ((length (c .before .before .before .before .before .before .before .before .before .args .log .now) / 8) - c .before .before .before .before .before .before .rows .link) < (length (c .before .before .before .before .before .before .before .before .before .args .log .now) / 8) = found .0 .inside in
+    let few : c .before .before .before .before .before .before .rows .link ≤ (length (c .before .before .before .before .before .before .before .before .before .args .log .now) / 8) = found .1 in
+    let room = c .before .before .before .before .before .before .before .before .before .pre .0 .within in
     omega arith
 
 add-same-2 : tie.Need-add-same-2 Inv-loop μ-loop Inv-rows μ-rows
 unfolding rowCount
 add-same-2 c =
-    let found = search-row (c .before .before .before .before .before .before .before .before .before .before .args .log .now) (c .before .before .before .before .before .before .before .before .before .before .args .predicate) (c .before .before .before .before .before .before .before .before .before .before .args .arguments .now) (c .before .before .before .before .before .before .before .before .of-atom .result) (length (c .before .before .before .before .before .before .before .before .before .before .args .log .now) / 8) (c .before .before .before .before .before .before .rows .inv .0) (c .before .before .before .before .before .before .rows .link) (c .before .before .before .before .before .before .rows .inv .1) (c .before .before .before .before .before .if1 .left) in
-    let inside : ((length (c .before .before .before .before .before .before .before .before .before .before .args .log .now) / 8) - c .before .before .before .before .before .before .rows .link) < (length (c .before .before .before .before .before .before .before .before .before .before .args .log .now) / 8) = found .0 .inside in
-    let few : c .before .before .before .before .before .before .rows .link ≤ (length (c .before .before .before .before .before .before .before .before .before .before .args .log .now) / 8) = found .1 in
-    let room = c .before .before .before .before .before .before .before .before .before .before .pre .0 .within in
+    let found = search-row (c .before .before .before .before .before .before .before .before .before .args .log .now) (c .before .before .before .before .before .before .before .before .before .args .predicate) (c .before .before .before .before .before .before .before .before .before .args .arguments .now) (c .before .before .before .before .before .before .before .before .before .args .start) (length (c .before .before .before .before .before .before .before .before .before .args .log .now) / 8) (c .before .before .before .before .before .before .rows .inv .0) (c .before .before .before .before .before .before .rows .link) (c .before .before .before .before .before .before .rows .inv .1) (c .before .before .before .before .before .if1 .left) in
+    let inside : ((length (c .before .before .before .before .before .before .before .before .before .args .log .now) / 8) - c .before .before .before .before .before .before .rows .link) < (length (c .before .before .before .before .before .before .before .before .before .args .log .now) / 8) = found .0 .inside in
+    let few : c .before .before .before .before .before .before .rows .link ≤ (length (c .before .before .before .before .before .before .before .before .before .args .log .now) / 8) = found .1 in
+    let room = c .before .before .before .before .before .before .before .before .before .pre .0 .within in
     omega arith
 
 same-requires : tie.Need-same-requires Inv-loop μ-loop Inv-rows μ-rows
 unfolding rowCount
 same-requires c κs =
-    let found = search-row (c .before .before .before .before .before .before .before .before .before .before .args .log .now) (c .before .before .before .before .before .before .before .before .before .before .args .predicate) (c .before .before .before .before .before .before .before .before .before .before .args .arguments .now) (c .before .before .before .before .before .before .before .before .of-atom .result) (length (c .before .before .before .before .before .before .before .before .before .before .args .log .now) / 8) (c .before .before .before .before .before .before .rows .inv .0) (c .before .before .before .before .before .before .rows .link) (c .before .before .before .before .before .before .rows .inv .1) (c .before .before .before .before .before .if1 .left) in
-    let inside : ((length (c .before .before .before .before .before .before .before .before .before .before .args .log .now) / 8) - c .before .before .before .before .before .before .rows .link) < (length (c .before .before .before .before .before .before .before .before .before .before .args .log .now) / 8) = found .0 .inside in
-    let few : c .before .before .before .before .before .before .rows .link ≤ (length (c .before .before .before .before .before .before .before .before .before .before .args .log .now) / 8) = found .1 in
-    let room = c .before .before .before .before .before .before .before .before .before .before .pre .0 .within in
-    let six = c .before .before .before .before .before .before .before .before .before .before .pre .1 in
+    let found = search-row (c .before .before .before .before .before .before .before .before .before .args .log .now) (c .before .before .before .before .before .before .before .before .before .args .predicate) (c .before .before .before .before .before .before .before .before .before .args .arguments .now) (c .before .before .before .before .before .before .before .before .before .args .start) (length (c .before .before .before .before .before .before .before .before .before .args .log .now) / 8) (c .before .before .before .before .before .before .rows .inv .0) (c .before .before .before .before .before .before .rows .link) (c .before .before .before .before .before .before .rows .inv .1) (c .before .before .before .before .before .if1 .left) in
+    let inside : ((length (c .before .before .before .before .before .before .before .before .before .args .log .now) / 8) - c .before .before .before .before .before .before .rows .link) < (length (c .before .before .before .before .before .before .before .before .before .args .log .now) / 8) = found .0 .inside in
+    let few : c .before .before .before .before .before .before .rows .link ≤ (length (c .before .before .before .before .before .before .before .before .before .args .log .now) / 8) = found .1 in
+    let room = c .before .before .before .before .before .before .before .before .before .pre .0 .within in
+    let six = c .before .before .before .before .before .before .before .before .before .pre .1 in
     omega arith
 
 rows-less-2 : tie.Need-rows-less-2 Inv-loop μ-loop Inv-rows μ-rows
 unfolding rowCount
-rows-less-2 c = search-less (c .before .before .before .before .before .before .before .before .before .before .before .before .args .log .now) (c .before .before .before .before .before .before .before .before .before .before .before .before .args .predicate) (c .before .before .before .before .before .before .before .before .before .before .before .before .args .arguments .now) (c .before .before .before .before .before .before .before .before .before .before .of-atom .result) (length (c .before .before .before .before .before .before .before .before .before .before .before .before .args .log .now) / 8) (c .before .before .before .before .before .before .before .before .rows .inv .0) (c .before .before .before .before .before .before .before .before .rows .link) (c .before .before .before .before .before .before .before .before .rows .inv .1) (c .before .before .before .before .before .before .before .if1 .left) (c .before .before .before .before .before .before .before .before .before .before .before .before .args .links .now) 16384 _ (c .before .before .before .before .before .before .before .before .before .before .before .before .pre .0) refl
+rows-less-2 c = search-less (c .before .before .before .before .before .before .before .before .before .before .before .args .log .now) (c .before .before .before .before .before .before .before .before .before .before .before .args .predicate) (c .before .before .before .before .before .before .before .before .before .before .before .args .arguments .now) (c .before .before .before .before .before .before .before .before .before .before .before .args .start) (length (c .before .before .before .before .before .before .before .before .before .before .before .args .log .now) / 8) (c .before .before .before .before .before .before .before .before .rows .inv .0) (c .before .before .before .before .before .before .before .before .rows .link) (c .before .before .before .before .before .before .before .before .rows .inv .1) (c .before .before .before .before .before .before .before .if1 .left) (c .before .before .before .before .before .before .before .before .before .before .before .args .links .now) 16384 _ (c .before .before .before .before .before .before .before .before .before .before .before .pre .0) refl
 
 rows-again-2 : tie.Need-rows-again-2 Inv-loop μ-loop Inv-rows μ-rows
 unfolding rowCount
 rows-again-2 c =
-    let found = search-row (c .before .before .before .before .before .before .before .before .before .before .before .before .args .log .now) (c .before .before .before .before .before .before .before .before .before .before .before .before .args .predicate) (c .before .before .before .before .before .before .before .before .before .before .before .before .args .arguments .now) (c .before .before .before .before .before .before .before .before .before .before .of-atom .result) (length (c .before .before .before .before .before .before .before .before .before .before .before .before .args .log .now) / 8) (c .before .before .before .before .before .before .before .before .rows .inv .0) (c .before .before .before .before .before .before .before .before .rows .link) (c .before .before .before .before .before .before .before .before .rows .inv .1) (c .before .before .before .before .before .before .before .if1 .left) in
-    let inside : ((length (c .before .before .before .before .before .before .before .before .before .before .before .before .args .log .now) / 8) - c .before .before .before .before .before .before .before .before .rows .link) < (length (c .before .before .before .before .before .before .before .before .before .before .before .before .args .log .now) / 8) = found .0 .inside in
-    let few : c .before .before .before .before .before .before .before .before .rows .link ≤ (length (c .before .before .before .before .before .before .before .before .before .before .before .before .args .log .now) / 8) = found .1 in
-    let room = c .before .before .before .before .before .before .before .before .before .before .before .before .pre .0 .within in
-    let six = c .before .before .before .before .before .before .before .before .before .before .before .before .pre .1 in (
-      ((length (c .before .before .before .before .before .before .before .before .before .before .before .before .args .log .now) / 8) - c .before .before .before .before .before .before .before .before .rows .link) + 1,
-      search-next (c .before .before .before .before .before .before .before .before .before .before .before .before .args .log .now) (c .before .before .before .before .before .before .before .before .before .before .before .before .args .predicate) (c .before .before .before .before .before .before .before .before .before .before .before .before .args .arguments .now) (c .before .before .before .before .before .before .before .before .before .before .of-atom .result) (length (c .before .before .before .before .before .before .before .before .before .before .before .before .args .log .now) / 8) (c .before .before .before .before .before .before .before .before .rows .inv .0) (c .before .before .before .before .before .before .before .before .rows .link) (c .before .before .before .before .before .before .before .before .rows .inv .1) (c .before .before .before .before .before .before .before .if1 .left) (c .before .before .before .before .before .before .before .before .before .before .before .before .args .links .now) 16384 _ (c .before .before .before .before .before .before .before .before .before .before .before .before .pre .0) refl
+    let found = search-row (c .before .before .before .before .before .before .before .before .before .before .before .args .log .now) (c .before .before .before .before .before .before .before .before .before .before .before .args .predicate) (c .before .before .before .before .before .before .before .before .before .before .before .args .arguments .now) (c .before .before .before .before .before .before .before .before .before .before .before .args .start) (length (c .before .before .before .before .before .before .before .before .before .before .before .args .log .now) / 8) (c .before .before .before .before .before .before .before .before .rows .inv .0) (c .before .before .before .before .before .before .before .before .rows .link) (c .before .before .before .before .before .before .before .before .rows .inv .1) (c .before .before .before .before .before .before .before .if1 .left) in
+    let inside : ((length (c .before .before .before .before .before .before .before .before .before .before .before .args .log .now) / 8) - c .before .before .before .before .before .before .before .before .rows .link) < (length (c .before .before .before .before .before .before .before .before .before .before .before .args .log .now) / 8) = found .0 .inside in
+    let few : c .before .before .before .before .before .before .before .before .rows .link ≤ (length (c .before .before .before .before .before .before .before .before .before .before .before .args .log .now) / 8) = found .1 in
+    let room = c .before .before .before .before .before .before .before .before .before .before .before .pre .0 .within in
+    let six = c .before .before .before .before .before .before .before .before .before .before .before .pre .1 in (
+      ((length (c .before .before .before .before .before .before .before .before .before .before .before .args .log .now) / 8) - c .before .before .before .before .before .before .before .before .rows .link) + 1,
+      search-next (c .before .before .before .before .before .before .before .before .before .before .before .args .log .now) (c .before .before .before .before .before .before .before .before .before .before .before .args .predicate) (c .before .before .before .before .before .before .before .before .before .before .before .args .arguments .now) (c .before .before .before .before .before .before .before .before .before .before .before .args .start) (length (c .before .before .before .before .before .before .before .before .before .before .before .args .log .now) / 8) (c .before .before .before .before .before .before .before .before .rows .inv .0) (c .before .before .before .before .before .before .before .before .rows .link) (c .before .before .before .before .before .before .before .before .rows .inv .1) (c .before .before .before .before .before .before .before .if1 .left) (c .before .before .before .before .before .before .before .before .before .before .before .args .links .now) 16384 _ (c .before .before .before .before .before .before .before .before .before .before .before .pre .0) refl
           (c .before .before .before .loop .inv .1
-          ∙ rest-stop (c .before .before .before .before .before .before .before .before .before .before .before .before .args .log .now) (8 * ((length (c .before .before .before .before .before .before .before .before .before .before .before .before .args .log .now) / 8) - c .before .before .before .before .before .before .before .before .rows .link) + 2) (c .before .before .before .before .before .before .before .before .before .before .before .before .args .arguments .now) (c .before .before .before .loop .i) (omega (arith, c .before .before .loop-test .taken)) (omega (arith, c .before .before .loop-test .taken)) (sym (c .before .same .ensures) ∙ not-true _ (c .if3 .taken))),
+          ∙ rest-stop (c .before .before .before .before .before .before .before .before .before .before .before .args .log .now) (8 * ((length (c .before .before .before .before .before .before .before .before .before .before .before .args .log .now) / 8) - c .before .before .before .before .before .before .before .before .rows .link) + 2) (c .before .before .before .before .before .before .before .before .before .before .before .args .arguments .now) (c .before .before .before .loop .i) (omega (arith, c .before .before .loop-test .taken)) (omega (arith, c .before .before .loop-test .taken)) (sym (c .before .same .ensures) ∙ not-true _ (c .if3 .taken))),
     )
 
 add-i : tie.Need-add-i Inv-loop μ-loop Inv-rows μ-rows
@@ -189,24 +185,24 @@ loop-less c = omega arith
 loop-again : tie.Need-loop-again Inv-loop μ-loop Inv-rows μ-rows
 unfolding rowCount
 loop-again c =
-    let found = search-row (c .before .before .before .before .before .before .before .before .before .before .before .before .args .log .now) (c .before .before .before .before .before .before .before .before .before .before .before .before .args .predicate) (c .before .before .before .before .before .before .before .before .before .before .before .before .args .arguments .now) (c .before .before .before .before .before .before .before .before .before .before .of-atom .result) (length (c .before .before .before .before .before .before .before .before .before .before .before .before .args .log .now) / 8) (c .before .before .before .before .before .before .before .before .rows .inv .0) (c .before .before .before .before .before .before .before .before .rows .link) (c .before .before .before .before .before .before .before .before .rows .inv .1) (c .before .before .before .before .before .before .before .if1 .left) in
-    let inside : ((length (c .before .before .before .before .before .before .before .before .before .before .before .before .args .log .now) / 8) - c .before .before .before .before .before .before .before .before .rows .link) < (length (c .before .before .before .before .before .before .before .before .before .before .before .before .args .log .now) / 8) = found .0 .inside in
-    let few : c .before .before .before .before .before .before .before .before .rows .link ≤ (length (c .before .before .before .before .before .before .before .before .before .before .before .before .args .log .now) / 8) = found .1 in
-    let room = c .before .before .before .before .before .before .before .before .before .before .before .before .pre .0 .within in
-    let six = c .before .before .before .before .before .before .before .before .before .before .before .before .pre .1 in (
+    let found = search-row (c .before .before .before .before .before .before .before .before .before .before .before .args .log .now) (c .before .before .before .before .before .before .before .before .before .before .before .args .predicate) (c .before .before .before .before .before .before .before .before .before .before .before .args .arguments .now) (c .before .before .before .before .before .before .before .before .before .before .before .args .start) (length (c .before .before .before .before .before .before .before .before .before .before .before .args .log .now) / 8) (c .before .before .before .before .before .before .before .before .rows .inv .0) (c .before .before .before .before .before .before .before .before .rows .link) (c .before .before .before .before .before .before .before .before .rows .inv .1) (c .before .before .before .before .before .before .before .if1 .left) in
+    let inside : ((length (c .before .before .before .before .before .before .before .before .before .before .before .args .log .now) / 8) - c .before .before .before .before .before .before .before .before .rows .link) < (length (c .before .before .before .before .before .before .before .before .before .before .before .args .log .now) / 8) = found .0 .inside in
+    let few : c .before .before .before .before .before .before .before .before .rows .link ≤ (length (c .before .before .before .before .before .before .before .before .before .before .before .args .log .now) / 8) = found .1 in
+    let room = c .before .before .before .before .before .before .before .before .before .before .before .pre .0 .within in
+    let six = c .before .before .before .before .before .before .before .before .before .before .before .pre .1 in (
       omega arith,
       c .before .before .before .loop .inv .1
-          ∙ rest-step (c .before .before .before .before .before .before .before .before .before .before .before .before .args .log .now) (8 * ((length (c .before .before .before .before .before .before .before .before .before .before .before .before .args .log .now) / 8) - c .before .before .before .before .before .before .before .before .rows .link) + 2) (c .before .before .before .before .before .before .before .before .before .before .before .before .args .arguments .now) (c .before .before .before .loop .i) (omega (arith, c .before .before .loop-test .taken)) (omega (arith, c .before .before .loop-test .taken)) (sym (c .before .same .ensures) ∙ not-false _ (c .if3 .left)),
+          ∙ rest-step (c .before .before .before .before .before .before .before .before .before .before .before .args .log .now) (8 * ((length (c .before .before .before .before .before .before .before .before .before .before .before .args .log .now) / 8) - c .before .before .before .before .before .before .before .before .rows .link) + 2) (c .before .before .before .before .before .before .before .before .before .before .before .args .arguments .now) (c .before .before .before .loop .i) (omega (arith, c .before .before .loop-test .taken)) (omega (arith, c .before .before .loop-test .taken)) (sym (c .before .same .ensures) ∙ not-false _ (c .if3 .left)),
     )
 
 returns : tie.Need-returns Inv-loop μ-loop Inv-rows μ-rows
 unfolding rowCount
-returns c = search-none (c .before .before .before .before .before .args .log .now) (c .before .before .before .before .before .args .predicate) (c .before .before .before .before .before .args .arguments .now) (c .before .before .before .of-atom .result) (length (c .before .before .before .before .before .args .log .now) / 8) (c .before .rows .inv .0) (c .before .rows .link) (c .before .rows .inv .1) (c .if1 .taken)
+returns c = search-none (c .before .before .before .before .args .log .now) (c .before .before .before .before .args .predicate) (c .before .before .before .before .args .arguments .now) (c .before .before .before .before .args .start) (length (c .before .before .before .before .args .log .now) / 8) (c .before .rows .inv .0) (c .before .rows .link) (c .before .rows .inv .1) (c .if1 .taken)
 
 returns-2 : tie.Need-returns-2 Inv-loop μ-loop Inv-rows μ-rows
 unfolding rowCount
-returns-2 c = search-found (c .before .before .before .before .before .before .before .before .before .before .args .log .now) (c .before .before .before .before .before .before .before .before .before .before .args .predicate) (c .before .before .before .before .before .before .before .before .before .before .args .arguments .now) (c .before .before .before .before .before .before .before .before .of-atom .result) (length (c .before .before .before .before .before .before .before .before .before .before .args .log .now) / 8) (c .before .before .before .before .before .before .rows .inv .0) (c .before .before .before .before .before .before .rows .link) (c .before .before .before .before .before .before .rows .inv .1) (c .before .before .before .before .before .if1 .left)
-    (c .before .loop .inv .1 ∙ rest-end (c .before .before .before .before .before .before .before .before .before .before .args .log .now) (8 * ((length (c .before .before .before .before .before .before .before .before .before .before .args .log .now) / 8) - c .before .before .before .before .before .before .rows .link) + 2) (c .before .before .before .before .before .before .before .before .before .before .args .arguments .now) (c .before .loop .i) (omega (arith, c .before .before .before .before .before .before .before .before .before .before .pre .1, c .loop-test .left)))
+returns-2 c = search-found (c .before .before .before .before .before .before .before .before .before .args .log .now) (c .before .before .before .before .before .before .before .before .before .args .predicate) (c .before .before .before .before .before .before .before .before .before .args .arguments .now) (c .before .before .before .before .before .before .before .before .before .args .start) (length (c .before .before .before .before .before .before .before .before .before .args .log .now) / 8) (c .before .before .before .before .before .before .rows .inv .0) (c .before .before .before .before .before .before .rows .link) (c .before .before .before .before .before .before .rows .inv .1) (c .before .before .before .before .before .if1 .left)
+    (c .before .loop .inv .1 ∙ rest-end (c .before .before .before .before .before .before .before .before .before .args .log .now) (8 * ((length (c .before .before .before .before .before .before .before .before .before .args .log .now) / 8) - c .before .before .before .before .before .before .rows .link) + 2) (c .before .before .before .before .before .before .before .before .before .args .arguments .now) (c .before .loop .i) (omega (arith, c .before .before .before .before .before .before .before .before .before .pre .1, c .loop-test .left)))
 
 pub search-spec : {M : Type 1} → statement M
 search-spec =
@@ -216,7 +212,6 @@ search-spec =
     μ-loop
     Inv-rows
     μ-rows
-    of-atom-requires
     mul-link
     shared-slice-read-link
     cast-link

@@ -1,7 +1,6 @@
 -- `logs::value::value_of` meets its contract: what the row found says, or the predicate's completeness, is the atom's value.
-use Prim.Native.Nat.{_<_, _+_}
 use native.Mathlib.Omega.{arith}
-use mathlib.Core.Path.{_≡_, sym, _∙_}
+use mathlib.Core.Path.{sym, _∙_}
 use mathlib.Core.Bool.{true, false}
 use Rattle.model.specs.Log.{rowCount}
 use Rattle.logs.proofs.Rows.{first-inside}
@@ -11,11 +10,15 @@ use Rattle.logs.proofs.value.value_of.Statement.{statement}
 use Rattle.logs.proofs.value.value_of.Tie as tie
 use Rattle.logs.proofs.value.value_of.Reads as reads
 use Rattle.logs.proofs.value.value_of.Lts as lts
+use Rattle.logs.proofs.key.of_atom.Reads as of-atom-reads
 use Rattle.logs.proofs.search.search.Reads as search-reads
 use Rattle.tables.proofs.words.is.Reads as is-reads
 
+of-atom-requires : tie.Need-of-atom-requires
+of-atom-requires c κs = search needs
+
 search-requires : tie.Need-search-requires
-search-requires c κs = search needs
+search-requires c κs = (c .before .before .pre .0, c .before .before .pre .1, c .of-atom .ensures)
 
 enum-known-found : tie.Need-enum-known-found
 enum-known-found c = search needs
@@ -23,13 +26,13 @@ enum-known-found c = search needs
 mul-is : tie.Need-mul-is
 unfolding rowCount
 mul-is c =
-    let b = first-inside (c .before .before .before .before .before .args .log .now) (c .before .before .before .before .before .args .predicate) (c .before .before .before .before .before .args .arguments .now) _ (rowCount (c .before .before .before .before .before .args .log .now)) 0 (sym (c .before .before .before .search .ensures) ∙ c .before .found .given .1) in
+    let b = first-inside (c .before .before .before .before .before .before .args .log .now) (c .before .before .before .before .before .before .args .predicate) (c .before .before .before .before .before .before .args .arguments .now) _ (rowCount (c .before .before .before .before .before .before .args .log .now)) 0 (sym (c .before .before .before .search .ensures) ∙ c .before .found .given .1) in
     omega arith
 
 add-is : tie.Need-add-is
 unfolding rowCount
 add-is c =
-    let b = first-inside (c .before .before .before .before .before .args .log .now) (c .before .before .before .before .before .args .predicate) (c .before .before .before .before .before .args .arguments .now) _ (rowCount (c .before .before .before .before .before .args .log .now)) 0 (sym (c .before .before .before .search .ensures) ∙ c .before .found .given .1) in
+    let b = first-inside (c .before .before .before .before .before .before .args .log .now) (c .before .before .before .before .before .before .args .predicate) (c .before .before .before .before .before .before .args .arguments .now) _ (rowCount (c .before .before .before .before .before .before .args .log .now)) 0 (sym (c .before .before .before .search .ensures) ∙ c .before .found .given .1) in
     omega arith
 
 is-requires : tie.Need-is-requires
@@ -49,24 +52,25 @@ is-requires-2 c κs = search needs
 
 returns : tie.Need-returns
 returns c = λ ns long filled.
-    sym (value-found (c .before .before .before .before .before .before .before .args .table .now) (c .before .before .before .before .before .before .before .args .log .now) (c .before .before .before .before .before .before .before .args .predicate) (c .before .before .before .before .before .before .before .pre .3) (c .before .before .before .before .before .before .before .args .arguments .now) ns (c .before .before .before .before .before .before .before .pre .1) (c .before .before .before .before .before .search .ensures) long filled ∙ by-row (c .before .before .before .before .before .before .before .args .table .now) (c .before .before .before .before .before .before .before .args .log .now) (c .before .before .before .before .before .before .before .args .predicate) _ true (c .before .before .before .found .given .1) (sym (c .before .is .ensures) ∙ c .if1 .taken))
+    sym (value-found (c .before .before .before .before .before .before .before .before .args .table .now) (c .before .before .before .before .before .before .before .before .args .log .now) (c .before .before .before .before .before .before .before .before .args .predicate) (c .before .before .before .before .before .before .before .before .pre .3) (c .before .before .before .before .before .before .before .before .args .arguments .now) ns (c .before .before .before .before .before .before .before .before .pre .1) (c .before .before .before .before .before .search .ensures) long filled ∙ by-row (c .before .before .before .before .before .before .before .before .args .table .now) (c .before .before .before .before .before .before .before .before .args .log .now) (c .before .before .before .before .before .before .before .before .args .predicate) _ true (c .before .before .before .found .given .1) (sym (c .before .is .ensures) ∙ c .if1 .taken))
 
 returns-2 : tie.Need-returns-2
 returns-2 c = λ ns long filled.
-    sym (value-found (c .before .before .before .before .before .before .before .args .table .now) (c .before .before .before .before .before .before .before .args .log .now) (c .before .before .before .before .before .before .before .args .predicate) (c .before .before .before .before .before .before .before .pre .3) (c .before .before .before .before .before .before .before .args .arguments .now) ns (c .before .before .before .before .before .before .before .pre .1) (c .before .before .before .before .before .search .ensures) long filled ∙ by-row (c .before .before .before .before .before .before .before .args .table .now) (c .before .before .before .before .before .before .before .args .log .now) (c .before .before .before .before .before .before .before .args .predicate) _ false (c .before .before .before .found .given .1) (sym (c .before .is .ensures) ∙ c .if1 .left))
+    sym (value-found (c .before .before .before .before .before .before .before .before .args .table .now) (c .before .before .before .before .before .before .before .before .args .log .now) (c .before .before .before .before .before .before .before .before .args .predicate) (c .before .before .before .before .before .before .before .before .pre .3) (c .before .before .before .before .before .before .before .before .args .arguments .now) ns (c .before .before .before .before .before .before .before .before .pre .1) (c .before .before .before .before .before .search .ensures) long filled ∙ by-row (c .before .before .before .before .before .before .before .before .args .table .now) (c .before .before .before .before .before .before .before .before .args .log .now) (c .before .before .before .before .before .before .before .before .args .predicate) _ false (c .before .before .before .found .given .1) (sym (c .before .is .ensures) ∙ c .if1 .left))
 
 returns-3 : tie.Need-returns-3
 returns-3 c = λ ns long filled.
-    sym (value-found (c .before .before .before .before .before .before .args .table .now) (c .before .before .before .before .before .before .args .log .now) (c .before .before .before .before .before .before .args .predicate) (c .before .before .before .before .before .before .pre .3) (c .before .before .before .before .before .before .args .arguments .now) ns (c .before .before .before .before .before .before .pre .1) (c .before .before .before .before .search .ensures) long filled ∙ by-complete (c .before .before .before .before .before .before .args .table .now) (c .before .before .before .before .before .before .args .log .now) (c .before .before .before .before .before .before .args .predicate) (c .before .before .enum-told .given .1) (sym (c .before .is2 .ensures) ∙ c .if2 .taken))
+    sym (value-found (c .before .before .before .before .before .before .before .args .table .now) (c .before .before .before .before .before .before .before .args .log .now) (c .before .before .before .before .before .before .before .args .predicate) (c .before .before .before .before .before .before .before .pre .3) (c .before .before .before .before .before .before .before .args .arguments .now) ns (c .before .before .before .before .before .before .before .pre .1) (c .before .before .before .before .search .ensures) long filled ∙ by-complete (c .before .before .before .before .before .before .before .args .table .now) (c .before .before .before .before .before .before .before .args .log .now) (c .before .before .before .before .before .before .before .args .predicate) (c .before .before .enum-told .given .1) (sym (c .before .is2 .ensures) ∙ c .if2 .taken))
 
 returns-4 : tie.Need-returns-4
 returns-4 c = λ ns long filled.
-    sym (value-found (c .before .before .before .before .before .before .args .table .now) (c .before .before .before .before .before .before .args .log .now) (c .before .before .before .before .before .before .args .predicate) (c .before .before .before .before .before .before .pre .3) (c .before .before .before .before .before .before .args .arguments .now) ns (c .before .before .before .before .before .before .pre .1) (c .before .before .before .before .search .ensures) long filled ∙ by-nothing (c .before .before .before .before .before .before .args .table .now) (c .before .before .before .before .before .before .args .log .now) (c .before .before .before .before .before .before .args .predicate) (c .before .before .enum-told .given .1) (sym (c .before .is2 .ensures) ∙ c .if2 .left))
+    sym (value-found (c .before .before .before .before .before .before .before .args .table .now) (c .before .before .before .before .before .before .before .args .log .now) (c .before .before .before .before .before .before .before .args .predicate) (c .before .before .before .before .before .before .before .pre .3) (c .before .before .before .before .before .before .before .args .arguments .now) ns (c .before .before .before .before .before .before .before .pre .1) (c .before .before .before .before .search .ensures) long filled ∙ by-nothing (c .before .before .before .before .before .before .before .args .table .now) (c .before .before .before .before .before .before .before .args .log .now) (c .before .before .before .before .before .before .before .args .predicate) (c .before .before .enum-told .given .1) (sym (c .before .is2 .ensures) ∙ c .if2 .left))
 
 pub value-of-spec : {M : Type 1} → statement M
 value-of-spec =
     tie.close
     (tie.spec
+    of-atom-requires
     search-requires
     enum-known-found
     mul-is
