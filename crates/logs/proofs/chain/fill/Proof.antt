@@ -32,7 +32,7 @@ key-in :
     (c : tie.After-shared-slice-known Inv-loop μ-loop) →
     getD (c .before .before .before .args .keys .now) ((length (c .before .before .before .args .keys .now)) - c .before .before .loop .link) 0 < (c .before .before .before .args .heads)
 key-in c =
-    let t : c .before .before .loop .link ≤ (length (c .before .before .before .args .keys .now)) = c .before .loop-test .taken in
+    let t : c .before .before .loop .link ≤ (length (c .before .before .before .args .keys .now)) = omega arith in
     let first : 1 ≤ c .before .before .loop .link = c .before .before .loop .inv .0 in
     key-small (c .before .before .before .args .keys .now) (c .before .before .before .args .heads) (c .before .before .before .args .links .now) (c .before .before .before .pre) ((length (c .before .before .before .args .keys .now)) - c .before .before .loop .link) ((length (c .before .before .before .args .keys .now)) + 1 - c .before .before .loop .link) ((length (c .before .before .before .args .keys .now)) - ((length (c .before .before .before .args .keys .now)) - c .before .before .loop .link)) (c .before .before .loop .links) (omega arith) (omega arith) (c .before .before .loop .inv .2) refl
 
@@ -84,7 +84,7 @@ loop-less c = omega arith
 
 loop-again : tie.Need-loop-again Inv-loop μ-loop
 loop-again c =
-    let t : c .before .before .before .loop .link ≤ (length (c .before .before .before .before .args .keys .now)) = c .before .before .loop-test .taken in
+    let t : c .before .before .before .loop .link ≤ (length (c .before .before .before .before .args .keys .now)) = omega arith in
     let first : 1 ≤ c .before .before .before .loop .link = c .before .before .before .loop .inv .0 in
     let from : (length (c .before .before .before .before .args .keys .now)) - c .before .before .before .loop .link ≡ (length (c .before .before .before .before .args .keys .now)) + 1 - (c .before .before .before .loop .link + 1) = omega arith in (
       omega arith,

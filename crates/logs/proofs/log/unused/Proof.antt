@@ -43,11 +43,11 @@ loop-again : tie.Need-loop-again Inv-loop μ-loop
 loop-again c = (
   omega arith,
   c .before .before .loop .inv .1
-      ∙ unused-turn (c .before .before .before .args .log .now) (c .before .before .before .args .row) (c .before .before .before .pre) (c .before .before .before .args .n) (c .before .before .loop .i) (c .before .before .loop .clean) (c .before .loop-test .taken) (c .zero .ensures),
+      ∙ unused-turn (c .before .before .before .args .log .now) (c .before .before .before .args .row) (c .before .before .before .pre) (c .before .before .before .args .n) (c .before .before .loop .i) (c .before .before .loop .clean) (omega arith) (c .zero .ensures),
 )
 
 returns : tie.Need-returns Inv-loop μ-loop
-returns c = sym (c .before .loop .inv .1 ∙ unused-last (c .before .before .args .log .now) (c .before .before .args .row) (c .before .before .pre) (c .before .before .args .n) (c .before .loop .i) (c .before .loop .clean) (c .loop-test .left))
+returns c = sym (c .before .loop .inv .1 ∙ unused-last (c .before .before .args .log .now) (c .before .before .args .row) (c .before .before .pre) (c .before .before .args .n) (c .before .loop .i) (c .before .loop .clean) (omega arith))
 
 pub unused-spec : {M : Type 1} → statement M
 unused-spec =
