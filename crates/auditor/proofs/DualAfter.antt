@@ -18,9 +18,10 @@ use Rattle.policies.specs.Node.{asTag, There, Sized}
 use Rattle.policies.specs.declared.node.Tag.{Tag}
 use Rattle.policies.specs.declared.node.Tag.the-variants.{Plain, Atom, Compare, Join, Quantifier, Some, Unused}
 use Rattle.policies.proofs.node.Tag.{the-type}
-use Rattle.auditor.specs.Dual.{Grown, Tree-at, kept}
-use Rattle.auditor.proofs.DualTrees.{Row, row-first, row-one, row-children, glue, mine, children, tree-tag, tree-size}
-use Rattle.auditor.proofs.DualBehind.{Ahead, ahead, ahead-there}
+use Rattle.preorder.specs.Grown.{Grown, Tree-at}
+use Rattle.preorder.specs.Rows.{Row, row-first, row-one, row-children, glue, mine, children, tree-tag, tree-own}
+use Rattle.preorder.specs.Ahead.{Ahead, ahead, ahead-there}
+use Rattle.auditor.specs.Dual.{kept}
 
 -- a tag whose node keeps its own words and no more
 unfoldable simple : T.Tag → Bool
@@ -129,10 +130,7 @@ module _ (words : Words) (at : ℕ) (tag : Tag) (told : asTag tag ≡ T.tagOf (w
     node-fits there = rw (o [] L.Role.formula 0) (node-there there [] L.Role.formula 0)
 
     own-mine : (t : Tree) (next : ℕ) → Grown words at t next → own ≡ suc (length (mine t))
-    own-mine t next g =
-        o [] L.Role.formula 0
-        ∙ ap (λ (k : T.Tag). Rattle.model.specs.Reading.own [] words k L.Role.formula 0 at .size) (told ∙ tree-tag words at next t g)
-        ∙ tree-size words at next t g [] L.Role.formula 0
+    own-mine t next g = tree-own words at next t g (asTag tag) told own o
 
     -- a quantifier: its restriction stands behind its own words
     pub restriction-there : isQuantifier (asTag tag) ≡ true → Tree-at words at → Tree-at words (at + own)

@@ -1,76 +1,63 @@
--- A buffer filled from an index on: with zeros, and with words.
-use Prim.Native.Nat.{ℕ, _+_, _-_, _≤_, _<_}
+-- A buffer whose words from an index on become zeros, and one at whose front words are copied.
+use Prim.Native.Nat.{ℕ, suc, _+_, _-_, _≤_, _<_}
 use native.Mathlib.Omega.{arith}
-use native.Mathlib.Numerals.{add-one}
-use mathlib.Core.Path.{_≡_, refl, sym, ap, ap₂, _∙_}
-use mathlib.Core.List.{_++_, append-nil}
-use lib.ListN.{length, take, drop, set, getD, length-replicate, getD-replicate, drop-of-length-le}
-use lib.Seq.{paste, paste-zero, paste-suc, length-paste, take-length}
-use lib.IntN.{ℤ, pos}
+use mathlib.Core.Path.{_≡_, ap, _∙_, subst}
+use mathlib.Core.List.{[], _∷_, _++_, append-nil}
+use lib.ListN.{length, take, drop, set, length-replicate, drop-of-length-le}
+use lib.Seq.{take-length}
+use lib.IntN.{pos}
 use Rattle.model.specs.Words.{Words}
 use Rattle.model.specs.Calls.{zeros}
+use Rattle.preorder.specs.Laying.{laid, laid-word, laid-front, Filled, fill-start, fill-long, fill-more, fill-end}
 
--- the words of a list pasted into a buffer at an index, k of them so far
-pub record Pasted (old : Words) (at : ℕ) (new : Words) (k : ℕ) (buffer : Words) : Type 0 where
-  pub is : buffer ≡ paste old at new k
-  pub some : k ≤ length new
-  pub room : at + length new ≤ length old
-  pub long : length buffer ≡ length old
-
-pub paste-start : (old : Words) (at : ℕ) (new : Words) → at + length new ≤ length old → Pasted old at new 0 old
-paste-start old at new h = record { is = paste-zero old at new; some = omega arith; room = h; long = refl }
-
--- one more
-pub paste-more :
-    (old : Words) (at : ℕ) (new : Words) (k : ℕ) (buffer : Words) →
-    Pasted old at new k buffer →
-    k < length new →
-    (i j : ℕ) (z : ℤ) →
-    i ≡ at + k →
-    j ≡ k + 1 →
-    z ≡ getD new k (pos 0) →
-    Pasted old at new j (set buffer i z)
-paste-more old at new k buffer p h i j z e f g =
-    let is : set buffer i z ≡ paste old at new j
-    = ap (λ (b : Words). set b i z) (p .is)
-    ∙ ap₂ (λ (m : ℕ) (x : ℤ). set (paste old at new k) m x) e g
-    ∙ paste-suc old at new k (pos 0) (omega (arith, p .room)) h
-    ∙ ap (paste old at new) (sym (f ∙ add-one k)) in
-    record {
-      is = is;
-      some = omega arith;
-      room = p .room;
-      long = ap length is ∙ length-paste old at new j (omega (arith, p .room)) (omega arith);
-    }
-
--- all of them
-pub paste-done :
-    (old : Words) (at : ℕ) (new : Words) (k : ℕ) (buffer : Words) →
-    Pasted old at new k buffer →
-    length new ≤ k →
-    buffer ≡ take at old ++ new ++ drop (at + length new) old
-paste-done old at new k buffer p h =
-    let e : k ≡ length new = omega (arith, p .some) in
-    p .is ∙ ap (paste old at new) e ∙ rw take-length
-
--- zeros up to the end
-pub length-zeros : (n : ℕ) → length (zeros n) ≡ n
+length-zeros : (n : ℕ) → length (zeros n) ≡ n
 unfolding zeros
 length-zeros n = length-replicate n (pos 0)
 
-pub zeros-at : (n k : ℕ) → k < n → pos 0 ≡ getD (zeros n) k (pos 0)
-unfolding zeros
-zeros-at n k h = sym (getD-replicate n k (pos 0) (pos 0) h)
+module _ (old : Words) (from : ℕ) where
+  -- the words from `from` up to an index are zero
+  abbrev pub Clearing : ℕ → Words → Type 0
+  Clearing i buffer = (from ≤ i) × (i ≤ length old) × Filled old from (zeros (length old - from)) (zeros (length old - i)) (i - from) buffer
 
-pub zeros-done :
-    (old : Words) (at k : ℕ) (buffer : Words) →
-    Pasted old at (zeros (length old - at)) k buffer →
-    at ≤ length old →
-    length old ≤ at + k →
-    buffer ≡ take at old ++ zeros (length old - at)
-zeros-done old at k buffer p h g =
-    let n = length-zeros (length old - at) in
-    paste-done old at (zeros (length old - at)) k buffer p (omega (arith, n))
-    ∙ ap (λ (l : Words). take at old ++ zeros (length old - at) ++ l)
-    (drop-of-length-le old {i = at + length (zeros (length old - at))} (omega (arith, n)))
-    ∙ append-nil _
+  pub clear-start : from ≤ length old → Clearing from old
+  clear-start h =
+      let none : 0 ≡ from - from = omega arith in (
+        omega arith,
+        h,
+        subst (λ (k : ℕ). Filled old from (zeros (length old - from)) (zeros (length old - from)) k old) none
+            (fill-start old from (zeros (length old - from)) (omega (arith, length-zeros (length old - from)))),
+      )
+
+  module _ (i : ℕ) (buffer : Words) (w : Clearing i buffer) where
+    pub clear-long : length buffer ≡ length old
+    clear-long = fill-long old from _ _ _ buffer (w .2)
+
+    -- one more
+    pub clear-more : i < length old → Clearing (i + 1) (set buffer i (pos 0))
+    unfolding zeros
+    clear-more h =
+        let next : length old - i ≡ suc (length old - (i + 1)) = omega arith in (
+          omega (arith, w .0),
+          omega arith,
+          fill-more old from _ _ _ buffer (w .2) (pos 0 ∷ []) (zeros (length old - (i + 1))) (ap zeros next) i (i + 1 - from) _
+              (omega (arith, w .0))
+              (omega (arith, w .0))
+              (laid-word buffer i (pos 0) (omega (arith, clear-long))),
+        )
+
+    -- all of them
+    pub clear-end : length old ≤ i → buffer ≡ take from old ++ zeros (length old - from)
+    unfolding zeros laid
+    clear-end h =
+        let new = zeros (length old - from) in
+        let none : length old - i ≡ 0 = omega arith in
+        fill-end old from _ _ _ buffer (w .2) (ap zeros none)
+        ∙ ap (λ (l : Words). take from old ++ new ++ l) (drop-of-length-le old {i = from + length new} (omega (arith, length-zeros (length old - from), w .0, w .1)))
+        ∙ append-nil (take from old ++ new)
+
+-- words copied to the front
+pub copied-front :
+    (words old buffer : Words) →
+    buffer ≡ laid old 0 (take (length words) (drop 0 words)) →
+    buffer ≡ words ++ drop (length words) old
+copied-front words old buffer e = e ∙ ap (laid old 0) (take-length words) ∙ laid-front old words

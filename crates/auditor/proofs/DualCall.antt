@@ -21,7 +21,7 @@ use Rattle.model.specs.Calls.{zeros, filled, result, askPolicy, write, checkPol
 use Rattle.laws.specs.Dual.{dual-size}
 use Rattle.laws.specs.Calls.Policy.{accepted-asked}
 use Rattle.laws.specs.Reading.Encoded.{read-length}
-use Rattle.auditor.specs.Dual.{Tupled}
+use Rattle.preorder.specs.Grown.{Tupled}
 use Rattle.auditor.proofs.DualFormed.{accepted-written}
 
 -- what an answer says of the questions

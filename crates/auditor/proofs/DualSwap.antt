@@ -16,9 +16,11 @@ use Rattle.model.specs.Calls.{zeros}
 use Rattle.laws.specs.Dual.{dual-size}
 use Rattle.laws.specs.Words.Standing.{Stands, stands-whole, code}
 use Rattle.laws.specs.Reading.Parts.{root}
-use Rattle.auditor.specs.Dual.{Tupled, Grown, Tree-at, kept, formulas, paired}
-use Rattle.auditor.proofs.DualTrees.{Row, row-one, row-none, row-few, row-inner, row-kept, glue, glue-words, glue-count, glue-dual, inner, dual-words, tree-formulas}
-use Rattle.auditor.proofs.DualBehind.{Ahead, ahead, ahead-is, ahead-tree, ahead-tag, ahead-word}
+use Rattle.preorder.specs.Grown.{Tupled, Grown, Tree-at}
+use Rattle.preorder.specs.Rows.{Row, row-one, row-none, row-few, glue, glue-words, glue-count}
+use Rattle.preorder.specs.Ahead.{Ahead, ahead, ahead-is, ahead-tree, ahead-tag, ahead-word}
+use Rattle.auditor.specs.Dual.{kept, formulas, paired}
+use Rattle.auditor.proofs.DualTrees.{row-inner, row-kept, glue-dual, inner, dual-words, tree-formulas}
 
 pub record Halfway (words tail : Words) (tree : Tree) (left at : ℕ) (buffer : Words) : Type 0 where
   pub done : Words

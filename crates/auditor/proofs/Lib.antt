@@ -2,7 +2,6 @@
 pub mod Calls
 pub mod DualBuffer
 pub mod DualTrees
-pub mod DualBehind
 pub mod DualAfter
 pub mod DualSwap
 pub mod DualFormed

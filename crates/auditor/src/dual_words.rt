@@ -2,6 +2,8 @@
 // that are still to be passed does.
 use policies::node;
 use policies::node::Tag;
+use preorder::putting::copy_words;
+use preorder::walk::behind;
 use tables::words;
 ghost use mathlib.Core.Path.{_≡_};
 ghost use mathlib.Core.List.{_++_};
@@ -15,6 +17,7 @@ ghost use Rattle.model.specs.Calls.{zeros};
 ghost use Rattle.model.specs.Dual as M;
 ghost use Rattle.laws.specs.Words.Standing.{code};
 ghost use Rattle.policies.specs.Node.{asTag};
+ghost use Rattle.preorder.specs.Grown as G;
 ghost use Rattle.auditor.specs.Dual as D;
 
 // Words from an index on become zero.
@@ -29,33 +32,6 @@ pub fn clear(buffer: &mut [i32], from: usize)
     }
 }
 
-// The words stand at the front of the buffer.
-fn copy(words: &[i32], buffer: &mut [i32])
-    requires { ⌜ length (now words) ≤ length (now buffer) ⌝ }
-    ensures { λ _. ⌜
-        now (buffer .exit) ≡ now (words .entry) ++ drop (length (now (words .entry))) (now (buffer .entry))
-        ⌝ }
-{
-    let mut i = 0;
-    while i < words.len() {
-        buffer[i] = words[i];
-        i += 1;
-    }
-}
-
-// How many trees follow the own words of a node.
-fn below(words: &[i32], tag: Tag, at: usize) -> usize
-    requires { ⌜ at < length (now words) ⌝ }
-    ensures { λ r. ⌜ r ≡ D.below (now (words .entry)) (asTag tag) at ⌝ }
-{
-    match tag {
-        Tag::Join(_) => words::value(words, at + 1),
-        Tag::Quantifier(_) => 2,
-        Tag::Some => 1,
-        _ => 0,
-    }
-}
-
 // How many formulas follow the words that the dual of a node keeps.
 fn formulas(words: &[i32], tag: Tag, at: usize) -> usize
     requires { ⌜ at < length (now words) ⌝ }
@@ -66,23 +42,6 @@ fn formulas(words: &[i32], tag: Tag, at: usize) -> usize
         Tag::Quantifier(_) => 1,
         _ => 0,
     }
-}
-
-// The index behind the tree at an index.
-fn behind(words: &[i32], at: usize) -> usize
-    requires { ⌜ D.Tree-at (now words) at ⌝ }
-    ensures { λ r. ⌜ ((tree : Tree) (next : ℕ) → D.Grown (now (words .entry)) at tree next → r ≡ next) ⌝ }
-{
-    let mut left = 1;
-    let mut next = at;
-    while 0 < left {
-        let tag = node::tag_at(words, next);
-        let more = below(words, tag, next);
-        let own = node::size(words, tag, next);
-        left = left - 1 + more;
-        next += own;
-    }
-    next
 }
 
 // The word of the tag of the dual: the other one of a pair.
@@ -102,9 +61,9 @@ fn pair(tag: Tag) -> i32
 
 // The index behind the words of a node that its dual keeps: of a quantifier, its restriction is kept too.
 fn formula_after(words: &[i32], tag: Tag, at: usize) -> usize
-    requires { ⌜ D.Tree-at (now words) at × (asTag tag ≡ T.tagOf (W.word (now words) at)) ⌝ }
+    requires { ⌜ G.Tree-at (now words) at × (asTag tag ≡ T.tagOf (W.word (now words) at)) ⌝ }
     ensures { λ r. ⌜
-        ((tree : Tree) (next : ℕ) → D.Grown (now (words .entry)) at tree next → r ≡ at + suc (length (D.kept tree)))
+        ((tree : Tree) (next : ℕ) → G.Grown (now (words .entry)) at tree next → r ≡ at + suc (length (D.kept tree)))
         ⌝ }
 {
     match tag {
@@ -124,11 +83,11 @@ fn formula_after(words: &[i32], tag: Tag, at: usize) -> usize
 fn swap(words: &[i32], buffer: &mut [i32])
     requires { ⌜
         (now buffer ≡ now words ++ drop (length (now words)) (now buffer))
-        × ((tree : Tree) × D.Tupled tree × (encode tree ≡ now words))
+        × ((tree : Tree) × G.Tupled tree × (encode tree ≡ now words))
         ⌝ }
     ensures { λ _. ⌜
         ((tree : Tree) →
-        D.Tupled tree →
+        G.Tupled tree →
         encode tree ≡ now (words .entry) →
         now (buffer .exit) ≡ encode (M.dual tree) ++ drop (length (now (words .entry))) (now (buffer .entry)))
         ⌝ }
@@ -149,17 +108,17 @@ fn swap(words: &[i32], buffer: &mut [i32])
 pub fn write(words: &[i32], buffer: &mut [i32])
     requires { ⌜
         (length (now words) ≤ length (now buffer))
-        × ((tree : Tree) × D.Tupled tree × (encode tree ≡ now words))
+        × ((tree : Tree) × G.Tupled tree × (encode tree ≡ now words))
         ⌝ }
     ensures { λ _. ⌜
         ((tree : Tree) →
-        D.Tupled tree →
+        G.Tupled tree →
         encode tree ≡ now (words .entry) →
         now (buffer .exit)
         ≡ encode (M.dual tree) ++ zeros (length (now (buffer .entry)) - length (now (words .entry))))
         ⌝ }
 {
-    copy(words, buffer);
+    copy_words(words, 0, words.len(), buffer, 0);
     swap(words, buffer);
     clear(buffer, words.len());
 }

@@ -47,13 +47,13 @@ module _ (table words : Words) (above scope : ℕ) where
   Stand at ts end = Nodes table words restriction above scope at ts end
 
   -- the first of the trees left, and the others behind it
-  first-left : (at n i : ℕ) (rest : Trees) (end : ℕ) → count rest + i ≡ n → i < n → Stand at rest end → (t : Tree) × (us : Trees) × (rest ≡ cons t us)
+  pub first-left : (at n i : ℕ) (rest : Trees) (end : ℕ) → count rest + i ≡ n → i < n → Stand at rest end → (t : Tree) × (us : Trees) × (rest ≡ cons t us)
   unfolding count
   first-left at n i nil end e h s = absurd (omega arith)
   first-left at n i (cons t us) end e h s = (t, us, refl)
 
   -- none is left: the index reached is that behind
-  none-left : (at : ℕ) (rest : Trees) (end : ℕ) → Stand at rest end → count rest ≤ 0 → (rest ≡ nil) × (end ≡ at)
+  pub none-left : (at : ℕ) (rest : Trees) (end : ℕ) → Stand at rest end → count rest ≤ 0 → (rest ≡ nil) × (end ≡ at)
   unfolding count encodeAll
   none-left at nil end s h = (refl, omega (arith, s .stands .ends))
   none-left at (cons t us) end s h = absurd (omega arith)

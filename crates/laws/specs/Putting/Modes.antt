@@ -243,13 +243,13 @@ append-length :
 append-length xs xs′ ys ys′ p q = length-append xs ys ∙ ap₂ (λ (m n : ℕ). m + n) p q ∙ sym (length-append xs′ ys′)
 
 -- a term has two words
-encodeTerm-length : (t : Term) → length (encodeTerm t) ≡ 2
+pub encodeTerm-length : (t : Term) → length (encodeTerm t) ≡ 2
 unfolding encodeTerm
 encodeTerm-length (constant k) = refl
 encodeTerm-length (variable x) = refl
 
 -- and so have all terms
-terms-length : (ts : List Term) → length (gather encodeTerm ts) ≡ 2 * length ts
+pub terms-length : (ts : List Term) → length (gather encodeTerm ts) ≡ 2 * length ts
 unfolding gather
 terms-length [] = refl
 terms-length (t ∷ ts) =
@@ -261,7 +261,7 @@ terms-length (t ∷ ts) =
 mutual
   unfolding put encode
 
-  put-length : (t : Tree) (ρ : List ℤ) → length (encode (put t ρ)) ≡ length (encode t)
+  pub put-length : (t : Tree) (ρ : List ℤ) → length (encode (put t ρ)) ≡ length (encode t)
   put-length (plain b) ρ = refl
   put-length (atom b p ts) ρ =
       ap (λ (n : ℕ). suc (suc (suc n)))

@@ -1,0 +1,137 @@
+-- What a leaf of a restriction keeps, by its tag: from what the code reads of its words to what its tree says.
+use Prim.Native.Nat.{ℕ, _+_, _-_, _^_, _≤_, _<_}
+use mathlib.Core.Path.{_≡_, refl, sym, ap, ap₂, _∙_, subst}
+use mathlib.Core.Bool.{Bool, true, false}
+use mathlib.Core.List.{List, [], _∷_, _++_}
+use lib.ListN.{length, replicate, length-map}
+use lib.IntN.{ℤ, pos}
+use types.Run.{OneOf, miss}
+use denote.Enum.Declared as D
+use Rattle.model.specs.Words.{Words, word, value, same, predicateLimit}
+use Rattle.model.specs.Lists.{all}
+use Rattle.model.specs.Table.{predicates, arity}
+use Rattle.model.specs.Log.{rows, valueIn}
+use Rattle.model.specs.Tag as T
+use Rattle.model.specs.Tree.{Term, Tree, atom}
+use Rattle.model.specs.Level.{restriction}
+use Rattle.model.specs.Reading.{places, termAt, inScope}
+use Rattle.model.specs.Truth.{sumAtMost}
+use Rattle.model.specs.Listing.{Environment, look, numberIn, numbersIn, isFalse}
+use Rattle.laws.specs.Reading.Formed.{Formed}
+use Rattle.laws.specs.Reading.Nodes.{Node}
+use Rattle.laws.specs.Reading.Parts.{atom-parts, compare-parts}
+use Rattle.logs.specs.Search.{asValue}
+use Rattle.logs.specs.declared.value.Value.{Value}
+use Rattle.logs.specs.declared.value.Value.the-variants.{True, False, Open}
+use Rattle.logs.proofs.value.Value.{the-type as value-type}
+use Rattle.policies.specs.declared.node.Tag.{Tag}
+use Rattle.policies.specs.declared.node.Tag.the-variants.{Plain, Atom, Compare, Join, Quantifier, Some, Unused}
+use Rattle.policies.specs.Node.{asTag}
+use Rattle.policies.specs.Mode.{HereAtom, termsAt}
+use Rattle.policies.proofs.node.Tag.{the-type}
+use Rattle.policies.proofs.ModeAtoms.{atom-words}
+use Rattle.policies.proofs.ModeWalk.{has, here-atom, here-compare}
+use Rattle.listing.specs.declared.environment.Environment.{Environment as Held}
+use Rattle.listing.specs.Environment.{Holds}
+use Rattle.listing.specs.Keeping.{keepsOf, RestrictionAt, TellsFalse, TellsKept}
+use Rattle.listing.proofs.TermLaws.{sum-same}
+
+-- as many numbers as terms
+numbers-count : (e : Environment) (ts : List Term) → length (numbersIn e ts) ≡ length ts
+unfolding numbersIn
+numbers-count e ts = length-map ts (λ t. numberIn (look e t))
+
+-- what the walk of an atom asks, and that of a comparison
+module _
+    (table words : Words) (at : ℕ) (tag : Tag) (told : asTag tag ≡ T.tagOf (word words at))
+    (few : predicates table ≤ predicateLimit) (here : RestrictionAt table words at) (long : length words < 2 ^ 64) where
+  pub keeping-atom : (b : Bool) → tag ≡ Atom b → HereAtom table words at
+  keeping-atom b is = here-atom table words (here .0) (here .1) at few (here .2) b (ap asTag (sym is) ∙ told) (here .3) long
+
+  pub keeping-compare : (b : Bool) → tag ≡ Compare b → (at + 6 < 2 ^ 64) × ((t : Words) → all (inScope t words 16) (places (at + 2) 2) ≡ true)
+  keeping-compare b is = here-compare table words (here .0) (here .1) at few (here .2) b (ap asTag (sym is) ∙ told) (here .3) long
+
+-- the answer, by the value found
+pub answer-false : (found : Value) → found ≡ False → isFalse (asValue found) ≡ true
+unfolding isFalse
+answer-false found is = ap (λ (v : Value). isFalse (asValue v)) is
+
+pub answer-other : (found : Value) → OneOf (0 ∷ 2 ∷ []) (D.tagOf value-type found) → isFalse (asValue found) ≡ false
+unfolding isFalse
+answer-other True k = refl
+answer-other False k = absurd (miss (0 ∷ 2 ∷ []) 1 tt k)
+answer-other Open k = refl
+
+module _ (table words log : Words) (held : Held) (at : ℕ) where
+  -- the atom at an index, of the predicate and the number of terms that are read there, and its value
+  pub false-value :
+      (p n : ℕ) (arguments : List ℤ) (found : Value) →
+      p ≡ value words (at + 1) →
+      n ≡ value words (at + 2) →
+      ((e : Environment) (table : Words) → Holds held e → arguments ≡ numbersIn e (termsAt table words (at + 3) n) ++ replicate (6 - n) (pos 0)) →
+      ((ns : List ℤ) → length ns ≡ arity table p → arguments ≡ ns ++ replicate (6 - length ns) (pos 0) → asValue found ≡ valueIn table (rows log) p ns) →
+      (r : Bool) →
+      isFalse (asValue found) ≡ r →
+      TellsFalse table words log held at r
+  unfolding Formed
+  false-value p n arguments found is-p is-n told known r answer e above scope b q ts next holds node =
+      let a = atom-words table words scope at next q ts (atom-parts table words restriction above scope at next b q ts node) in
+      let ns = numbersIn e ts in
+      let same-p : p ≡ q = is-p ∙ a .predicate in
+      let few : n ≡ length ns = is-n ∙ a .number ∙ sym (numbers-count e ts) in
+      let all : length ns ≡ arity table p = numbers-count e ts ∙ sym (node .formed .1) ∙ ap (arity table) (sym same-p) in
+      let terms : termsAt table words (at + 3) n ≡ ts = ap (termsAt table words (at + 3)) is-n ∙ a .terms in
+      let numbers = told e table holds ∙ ap₂ (λ (us : List Term) (k : ℕ). numbersIn e us ++ replicate (6 - k) (pos 0)) terms few in
+      sym answer ∙ ap isFalse (known ns all numbers ∙ ap (λ (k : ℕ). valueIn table (rows log) k ns) same-p)
+
+  module _ (tag : Tag) (told : asTag tag ≡ T.tagOf (word words at)) where
+    -- true or false
+    pub keeps-plain : (b : Bool) → tag ≡ Plain b → TellsKept table words log held at b
+    unfolding keepsOf
+    keeps-plain b is e above scope c next holds node =
+        let tree = has table words restriction above scope at (T.Tag.plain b) (ap asTag (sym is) ∙ told) c next node in
+        sym (ap (λ (t : Tree). keepsOf table (rows log) t e) tree)
+
+    -- an atom
+    pub keeps-atom : (b r : Bool) → tag ≡ Atom b → TellsFalse table words log held at r → TellsKept table words log held at r
+    unfolding keepsOf
+    keeps-atom b r is known e above scope c next holds node =
+        let (p, ts, tree) = has table words restriction above scope at (T.Tag.atom b) (ap asTag (sym is) ∙ told) c next node in
+        known e above scope b p ts next holds (subst (λ (t : Tree). Node table words restriction above scope at t next) tree node)
+        ∙ sym (ap (λ (t : Tree). keepsOf table (rows log) t e) tree)
+
+    -- a comparison
+    pub keeps-compare :
+        (b r : Bool) →
+        tag ≡ Compare b →
+        ((e : Environment) (table : Words) →
+        Holds held e →
+        r ≡ sumAtMost (word words (at + 1)) (numberIn (look e (termAt table words (at + 2)))) (numberIn (look e (termAt table words (at + 4))))) →
+        TellsKept table words log held at (same b r)
+    unfolding keepsOf
+    keeps-compare b r is known e above scope c next holds node =
+        let (d, x, y, tree) = has table words restriction above scope at (T.Tag.compare b) (ap asTag (sym is) ∙ told) c next node in
+        let a = compare-parts table words restriction above scope at next b d x y (subst (λ (t : Tree). Node table words restriction above scope at t next) tree node) in
+        let number : Term → ℤ = λ t. numberIn (look e t) in
+        ap (same b) (known e table holds ∙ sum-same (a .number) (ap number (a .left .term)) (ap number (a .right .term)))
+        ∙ sym (ap (λ (t : Tree). keepsOf table (rows log) t e) tree)
+
+  -- every other tag
+  pub keeps-none :
+      (tag : Tag) → asTag tag ≡ T.tagOf (word words at) → OneOf (3 ∷ 4 ∷ 5 ∷ 6 ∷ []) (D.tagOf the-type tag) →
+      TellsKept table words log held at false
+  unfolding keepsOf
+  keeps-none (Plain b) told k e above scope c next holds node = absurd (miss (3 ∷ 4 ∷ 5 ∷ 6 ∷ []) 0 tt k)
+  keeps-none (Atom b) told k e above scope c next holds node = absurd (miss (3 ∷ 4 ∷ 5 ∷ 6 ∷ []) 1 tt k)
+  keeps-none (Compare b) told k e above scope c next holds node = absurd (miss (3 ∷ 4 ∷ 5 ∷ 6 ∷ []) 2 tt k)
+  keeps-none (Join b) told k e above scope c next holds node =
+      let (ts, tree) = has table words restriction above scope at (T.Tag.join b) told c next node in
+      sym (ap (λ (t : Tree). keepsOf table (rows log) t e) tree)
+  keeps-none (Quantifier b) told k e above scope c next holds node =
+      let (v, excluded, d, f, tree) = has table words restriction above scope at (T.Tag.quantifier b) told c next node in
+      sym (ap (λ (t : Tree). keepsOf table (rows log) t e) tree)
+  keeps-none Some told k e above scope c next holds node =
+      let (d, tree) = has table words restriction above scope at T.Tag.some told c next node in
+      sym (ap (λ (t : Tree). keepsOf table (rows log) t e) tree)
+  keeps-none Unused told k e above scope c next holds node =
+      absurd (has table words restriction above scope at T.Tag.unused told c next node)

@@ -1,0 +1,84 @@
+-- `listing::keeping::is_false` meets its contract: the arguments are the numbers of the atom's terms, with zeros behind, and the
+-- value is that of the atom.
+use Prim.Native.Nat.{ℕ, _+_, _*_, _^_, _≤_, _<_}
+use mathlib.Core.Path.{_≡_, sym, subst}
+use mathlib.Core.Bool.{Bool, true, false}
+use borrow.Author.Needs.{needs}
+use Rattle.model.specs.Words.{Words}
+use Rattle.model.specs.Lists.{all}
+use Rattle.model.specs.Reading.{places, inScope}
+use Rattle.model.specs.Listing.{isFalse}
+use Rattle.logs.specs.Search.{asValue}
+use Rattle.listing.specs.Keeping.{TellsFalse}
+use Rattle.listing.proofs.KeepLaws.{answer-false, answer-other, false-value}
+use Rattle.listing.proofs.keeping.is_false.Statement.{statement}
+use Rattle.listing.proofs.keeping.is_false.Tie as tie
+
+add-value : tie.Need-add-value
+add-value c = search needs
+
+value-requires : tie.Need-value-requires
+value-requires c κs = search needs
+
+add-value-2 : tie.Need-add-value-2
+add-value-2 c = search needs
+
+value-requires-2 : tie.Need-value-requires-2
+value-requires-2 c κs = search needs
+
+add-arguments : tie.Need-add-arguments
+add-arguments c = search needs
+
+arguments-requires : tie.Need-arguments-requires
+arguments-requires c κs =
+    let s = c .before .before .before in
+    let n = sym (c .value2 .ensures) in
+    let here = s .pre .2 in (
+      subst (λ (k : ℕ). k ≤ 6) n (here .1),
+      subst (λ (k : ℕ). s .args .at + 3 + 2 * k < 2 ^ 64) n (here .2),
+      subst (λ (k : ℕ). (t : Words) → all (inScope t (s .args .words .now) 16) (places (s .args .at + 3) k) ≡ true) n (here .3),
+    )
+
+slice-aggregate-value-of : tie.Need-slice-aggregate-value-of
+slice-aggregate-value-of c = search needs
+
+value-of-requires : tie.Need-value-of-requires
+value-of-requires c κs = search needs
+
+enum-told : tie.Need-enum-told
+enum-told c = search needs
+
+-- the answer to the value found
+told :
+    (c : tie.After-value-of) (r : Bool) →
+    isFalse (asValue (c .value-of .result)) ≡ r →
+    let a = c .before .before .before .before .before .before .args in
+    TellsFalse (a .table .now) (a .words .now) (a .log .now) (a .environment) (a .at) r
+told c r answer =
+    let n = c .before .before .before in
+    let a = n .before .before .before .args in
+    false-value (a .table .now) (a .words .now) (a .log .now) (a .environment) (a .at)
+    (n .before .value .result) (n .value2 .result) (c .before .before .arguments .result) (c .value-of .result)
+    (n .before .value .ensures) (n .value2 .ensures) (c .before .before .arguments .ensures) (c .value-of .ensures) r answer
+
+returns : tie.Need-returns
+returns c = told (c .before .before) true (answer-false (c .before .before .value-of .result) (c .enum-told .given .1))
+
+returns-2 : tie.Need-returns-2
+returns-2 c = told (c .before) false (answer-other (c .before .value-of .result) (c .match .keys2))
+
+pub is-false-spec : {M : Type 1} → statement M
+is-false-spec =
+    tie.close
+    (tie.spec
+    add-value
+    value-requires
+    add-value-2
+    value-requires-2
+    add-arguments
+    arguments-requires
+    slice-aggregate-value-of
+    value-of-requires
+    enum-told
+    returns
+    returns-2)

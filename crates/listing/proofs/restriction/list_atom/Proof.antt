@@ -1,0 +1,267 @@
+-- `listing::restriction::list_atom` meets its contract. The invariant: what the environments before the i-th gave stands from the
+-- first free place on. The measure is the number of environments left.
+use Prim.Native.Nat.{ℕ, _+_, _*_, _-_, _≤_, _<_}
+use native.Mathlib.Omega.{arith}
+use mathlib.Core.Path.{_≡_, refl, sym, ap, ap₂, _∙_, subst}
+use mathlib.Core.Bool.{true}
+use mathlib.Core.List.{List, []}
+use lib.ListN.{length}
+use borrow.Author.Needs.{needs}
+use Rattle.model.specs.Words.{Words, value}
+use Rattle.model.specs.Lists.{all, gather}
+use Rattle.model.specs.Reading.{places, inScope}
+use Rattle.model.specs.Log.{rows}
+use Rattle.model.specs.Listing.{Environment, matches}
+use Rattle.policies.specs.Mode.{termsAt}
+use Rattle.listing.specs.declared.restriction.Added.{Added}
+use Rattle.listing.specs.Environment.{Holds}
+use Rattle.listing.specs.Listed.{environmentOf}
+use Rattle.listing.specs.Restrictions as R
+use Rattle.listing.proofs.MapLaws.{Mapping, map-start, map-read, map-step}
+use Rattle.listing.proofs.MapRoom.{adds-places, map-ran-out, map-stood, at-list}
+use Rattle.listing.proofs.restriction.list_atom.Statement.{statement}
+use Rattle.listing.proofs.restriction.list_atom.Tie as tie
+use Rattle.listing.proofs.restriction.list_atom.Reads as reads
+use Rattle.listing.proofs.restriction.list_atom.Lts as lts
+use Rattle.listing.proofs.environment.Environment.read.Reads as read-reads
+use Rattle.listing.proofs.restriction.Room.filled.Reads as filled-reads
+use Rattle.listing.proofs.restriction.match_rows.Reads as match-rows-reads
+use Rattle.tables.proofs.words.value.Reads as value-reads
+
+abbrev Inv-loop : tie.InvT-loop
+Inv-loop words log trues scratch₀ room at predicate n base left made₀ i₀ scratch made i =
+    (i ≤ room .count)
+    × (made ≤ room .limit - room .used)
+    × (length scratch ≡ length scratch₀)
+    × ((es : List Environment) (table : Words) →
+    R.Holding room scratch₀ es →
+    Mapping (λ e. matches (rows log) predicate (termsAt table words (at + 3) n) e) es i (room .base) made scratch₀ scratch)
+
+abbrev μ-loop : tie.MeasureT-loop
+μ-loop words log trues scratch₀ room at predicate n base left made₀ i₀ scratch made i = room .count - i
+
+add-value : tie.Need-add-value Inv-loop μ-loop
+add-value c = omega (arith, c .before .pre .1 .2)
+
+value-requires : tie.Need-value-requires Inv-loop μ-loop
+value-requires c κs = tt
+
+add-value-2 : tie.Need-add-value-2 Inv-loop μ-loop
+add-value-2 c = omega (arith, c .before .before .pre .1 .2)
+
+value-requires-2 : tie.Need-value-requires-2 Inv-loop μ-loop
+value-requires-2 c κs = tt
+
+sub-left : tie.Need-sub-left Inv-loop μ-loop
+sub-left c = omega (arith, c .before .before .before .before .pre .2 .within)
+
+loop-holds : tie.Need-loop-holds Inv-loop μ-loop
+loop-holds c = (omega arith, omega arith, refl, λ es table h. map-start (λ e. matches (rows (c .before .before .before .before .args .log .now)) (c .before .before .value .result) (termsAt table (c .before .before .before .before .args .words .now) (c .before .before .before .before .args .at + 3) (c .before .value2 .result)) e) es (c .before .before .before .before .args .room .base) (c .before .before .before .before .args .scratch .now))
+
+add-read : tie.Need-add-read Inv-loop μ-loop
+add-read c =
+    let roomy = c .before .before .before .before .before .before .before .before .before .pre .2 in
+    let b1 = roomy .before in
+    let b2 = roomy .counted in
+    let b3 = roomy .within in
+    let b4 = roomy .there in
+    let m = c .before .before .before .before .loop .inv .1 in
+    let l = c .before .before .before .before .loop .inv .2 in
+    omega arith
+
+read-requires : tie.Need-read-requires Inv-loop μ-loop
+read-requires c κs =
+    let roomy = c .before .before .before .before .before .before .before .before .before .pre .2 in
+    let b1 = roomy .before in
+    let b2 = roomy .counted in
+    let b3 = roomy .within in
+    let b4 = roomy .there in
+    let m = c .before .before .before .before .loop .inv .1 in
+    let l = c .before .before .before .before .loop .inv .2 in
+    omega arith
+
+add-match-rows : tie.Need-add-match-rows Inv-loop μ-loop
+add-match-rows c = omega (arith, c .before .before .before .before .before .before .before .before .before .before .pre .1 .2)
+
+add-match-rows-2 : tie.Need-add-match-rows-2 Inv-loop μ-loop
+add-match-rows-2 c =
+    let roomy = c .before .before .before .before .before .before .before .before .before .before .before .pre .2 in
+    let b1 = roomy .before in
+    let b2 = roomy .counted in
+    let b3 = roomy .within in
+    let b4 = roomy .there in
+    let m = c .before .before .before .before .before .before .loop .inv .1 in
+    let l = c .before .before .before .before .before .before .loop .inv .2 in
+    omega arith
+
+sub-match-rows : tie.Need-sub-match-rows Inv-loop μ-loop
+sub-match-rows c =
+    let roomy = c .before .before .before .before .before .before .before .before .before .before .before .pre .2 in
+    let b1 = roomy .before in
+    let b2 = roomy .counted in
+    let b3 = roomy .within in
+    let b4 = roomy .there in
+    let m = c .before .before .before .before .before .before .loop .inv .1 in
+    let l = c .before .before .before .before .before .before .loop .inv .2 in
+    omega arith
+
+held-here :
+    (c : tie.After-read Inv-loop μ-loop) →
+    (es : List Environment) (table : Words) → R.Holding (c .before .before .before .before .before .before .before .before .before .before .args .room) (c .before .before .before .before .before .before .before .before .before .before .args .scratch .now) es → Holds (c .read .result) (environmentOf es (c .before .before .before .before .before .loop .i))
+held-here c = λ es table h.
+    let roomy = c .before .before .before .before .before .before .before .before .before .before .pre .2 in
+    let b1 = roomy .before in
+    let n = h .long in
+    c .read .ensures (environmentOf es (c .before .before .before .before .before .loop .i)) (map-read (λ e. matches (rows (c .before .before .before .before .before .before .before .before .before .before .args .log .now)) (c .before .before .before .before .before .before .before .before .value .result) (termsAt table (c .before .before .before .before .before .before .before .before .before .before .args .words .now) (c .before .before .before .before .before .before .before .before .before .before .args .at + 3) (c .before .before .before .before .before .before .before .value2 .result)) e) es (c .before .before .before .before .before .loop .i) (c .before .before .before .before .before .before .before .before .before .before .args .room .base) (c .before .before .before .before .before .loop .made) (c .before .before .before .before .before .before .before .before .before .before .args .scratch .now) (c .before .before .before .before .before .loop .scratch) (c .before .before .before .before .before .loop .inv .3 es table h) (c .before .before .before .before .before .before .before .before .before .before .args .room .from) (omega arith) (h .listed) (omega arith))
+
+match-rows-requires : tie.Need-match-rows-requires Inv-loop μ-loop
+match-rows-requires c κs =
+    let roomy = c .before .before .before .before .before .before .before .before .before .before .before .pre .2 in
+    let b1 = roomy .before in
+    let b2 = roomy .counted in
+    let b3 = roomy .within in
+    let b4 = roomy .there in
+    let m = c .before .before .before .before .before .before .loop .inv .1 in
+    let l = c .before .before .before .before .before .before .loop .inv .2 in
+    let few = c .before .before .before .before .before .before .before .before .before .before .before .pre .1 .1 in
+    let (es, h) = c .before .before .before .before .before .before .before .before .before .before .before .pre .3 in
+    let n = c .before .before .before .before .before .before .before .before .value2 .ensures in
+    let p = c .before .before .before .before .before .before .before .before .before .value .ensures in
+    let long = c .before .before .before .before .before .before .before .before .before .before .before .pre .1 .2 in (
+      omega (arith, few),
+      omega (arith, long),
+      (λ t. subst (λ (k : ℕ). all (inScope t (c .before .before .before .before .before .before .before .before .before .before .before .args .words .now) 16) (places (c .before .before .before .before .before .before .before .before .before .before .before .args .at + 3) k) ≡ true) (sym n) (c .before .before .before .before .before .before .before .before .before .before .before .pre .1 .3 t)),
+      c .before .before .before .before .before .before .before .before .before .before .before .pre .0,
+      omega (arith, c .before .before .before .before .before .before .before .before .before .before .before .pre .1 .0),
+      omega arith,
+      (environmentOf es (c .before .before .before .before .before .before .loop .i), held-here (c .before) es [] h),
+    )
+
+enum-known-added : tie.Need-enum-known-added Inv-loop μ-loop
+enum-known-added c = search needs
+
+enum-told : tie.Need-enum-told Inv-loop μ-loop
+enum-told c = search needs
+
+same-length : tie.Need-same-length Inv-loop μ-loop
+same-length c = c .before .before .before .match-rows .kept .1 .1 .1 .1 .1 .1 .1 .0 ∙ c .before .before .before .before .before .before .before .before .before .before .loop .inv .2
+
+returns : tie.Need-returns Inv-loop μ-loop
+returns c = λ es table h.
+    let roomy = c .before .before .before .before .before .before .before .before .before .before .before .before .before .before .before .pre .2 in
+    let b1 = roomy .before in
+    let b2 = roomy .counted in
+    let b3 = roomy .within in
+    let b4 = roomy .there in
+    let m = c .before .before .before .before .before .before .before .before .before .before .loop .inv .1 in
+    let l = c .before .before .before .before .before .before .before .before .before .before .loop .inv .2 in
+    at-list (ap₂ (λ (p n : ℕ). gather (matches (rows (c .before .before .before .before .before .before .before .before .before .before .before .before .before .before .before .args .log .now)) p (termsAt table (c .before .before .before .before .before .before .before .before .before .before .before .before .before .before .before .args .words .now) (c .before .before .before .before .before .before .before .before .before .before .before .before .before .before .before .args .at + 3) n)) es) (c .before .before .before .before .before .before .before .before .before .before .before .before .before .value .ensures) (c .before .before .before .before .before .before .before .before .before .before .before .before .value2 .ensures))
+    (map-ran-out (λ e. matches (rows (c .before .before .before .before .before .before .before .before .before .before .before .before .before .before .before .args .log .now)) (c .before .before .before .before .before .before .before .before .before .before .before .before .before .value .result) (termsAt table (c .before .before .before .before .before .before .before .before .before .before .before .before .before .before .before .args .words .now) (c .before .before .before .before .before .before .before .before .before .before .before .before .before .before .before .args .at + 3) (c .before .before .before .before .before .before .before .before .before .before .before .before .value2 .result)) e) es (c .before .before .before .before .before .before .before .before .before .before .loop .i) (c .before .before .before .before .before .before .before .before .before .before .before .before .before .before .before .args .room) (c .before .before .before .before .before .before .before .before .before .before .loop .made) (c .before .before .before .before .before .before .before .before .before .before .before .before .before .before .before .args .scratch .now) (c .before .before .before .before .before .before .before .before .before .before .loop .scratch) (c .before .before .before .before .before .before .before .before .before .before .loop .inv .3 es table h) m h (omega arith) (c .enum-told .given .1) (c .before .before .before .match-rows .kept .1 .1 .1 .1 .1 .1 .1 .0 ∙ c .before .before .before .before .before .before .before .before .before .before .loop .inv .2) (c .before .before .before .match-rows .ensures (environmentOf es (c .before .before .before .before .before .before .before .before .before .before .loop .i)) table (held-here (c .before .before .before .before .before) es table h)) _)
+
+add-made : tie.Need-add-made Inv-loop μ-loop
+add-made c =
+    let roomy = c .before .before .before .before .before .before .before .before .before .before .before .before .before .before .before .before .pre .2 in
+    let b1 = roomy .before in
+    let b2 = roomy .counted in
+    let b3 = roomy .within in
+    let b4 = roomy .there in
+    let m = c .before .before .before .before .before .before .before .before .before .before .before .loop .inv .1 in
+    let l = c .before .before .before .before .before .before .before .before .before .before .before .loop .inv .2 in
+    let (es, h) = c .before .before .before .before .before .before .before .before .before .before .before .before .before .before .before .before .pre .3 in
+    let table : Words = [] in
+    let few = adds-places (c .before .added .given .1) (c .before .before .before .before .match-rows .ensures (environmentOf es (c .before .before .before .before .before .before .before .before .before .before .before .loop .i)) table (held-here (c .before .before .before .before .before .before) es table h)) .few in
+    omega arith
+
+add-i : tie.Need-add-i Inv-loop μ-loop
+add-i c = omega arith
+
+loop-less : tie.Need-loop-less Inv-loop μ-loop
+loop-less c = omega arith
+
+loop-again : tie.Need-loop-again Inv-loop μ-loop
+loop-again c =
+    let roomy = c .before .before .before .before .before .before .before .before .before .before .before .before .before .before .before .before .pre .2 in
+    let b1 = roomy .before in
+    let b2 = roomy .counted in
+    let b3 = roomy .within in
+    let b4 = roomy .there in
+    let m = c .before .before .before .before .before .before .before .before .before .before .before .loop .inv .1 in
+    let l = c .before .before .before .before .before .before .before .before .before .before .before .loop .inv .2 in
+    let (es₀, h₀) = c .before .before .before .before .before .before .before .before .before .before .before .before .before .before .before .before .pre .3 in
+    let few = adds-places (c .before .added .given .1) (c .before .before .before .before .match-rows .ensures (environmentOf es₀ (c .before .before .before .before .before .before .before .before .before .before .before .loop .i)) [] (held-here (c .before .before .before .before .before .before) es₀ [] h₀)) .few in (
+      omega arith,
+      omega arith,
+      c .before .before .before .before .match-rows .kept .1 .1 .1 .1 .1 .1 .1 .0 ∙ c .before .before .before .before .before .before .before .before .before .before .before .loop .inv .2,
+      λ es table h.
+          let adds = (c .before .before .before .before .match-rows .ensures (environmentOf es (c .before .before .before .before .before .before .before .before .before .before .before .loop .i)) table (held-here (c .before .before .before .before .before .before) es table h)) in
+          let filled = adds-places (c .before .added .given .1) adds in
+          map-step (λ e. matches (rows (c .before .before .before .before .before .before .before .before .before .before .before .before .before .before .before .before .args .log .now)) (c .before .before .before .before .before .before .before .before .before .before .before .before .before .before .value .result) (termsAt table (c .before .before .before .before .before .before .before .before .before .before .before .before .before .before .before .before .args .words .now) (c .before .before .before .before .before .before .before .before .before .before .before .before .before .before .before .before .args .at + 3) (c .before .before .before .before .before .before .before .before .before .before .before .before .before .value2 .result)) e) es (c .before .before .before .before .before .before .before .before .before .before .before .loop .i) (c .before .before .before .before .before .before .before .before .before .before .before .before .before .before .before .before .args .room .base) (c .before .before .before .before .before .before .before .before .before .before .before .loop .made) (c .before .before .before .before .before .before .before .before .before .before .before .before .before .before .before .before .args .scratch .now) (c .before .before .before .before .before .before .before .before .before .before .before .loop .scratch) (c .before .before .before .before .before .before .before .before .before .before .before .loop .inv .3 es table h) _ _ (omega (arith, h .long)) (filled .count) (filled .listed) (adds .front),
+    )
+
+filled-requires : tie.Need-filled-requires Inv-loop μ-loop
+filled-requires c κs =
+    let roomy = c .before .before .before .before .before .before .before .pre .2 in
+    let b1 = roomy .before in
+    let b2 = roomy .counted in
+    let b3 = roomy .within in
+    let b4 = roomy .there in
+    let m = c .before .before .loop .inv .1 in
+    let l = c .before .before .loop .inv .2 in
+    (b2, omega arith)
+
+add-t16 : tie.Need-add-t16 Inv-loop μ-loop
+add-t16 c = omega (arith, c .before .before .before .before .before .before .before .before .pre .1 .2, c .before .before .before .before .before .value2 .ensures)
+
+mul-t26 : tie.Need-mul-t26 Inv-loop μ-loop
+mul-t26 c = omega (arith, c .before .before .before .before .before .before .before .before .pre .1 .2, c .before .before .before .before .before .value2 .ensures)
+
+add-t27 : tie.Need-add-t27 Inv-loop μ-loop
+add-t27 c = omega (arith, c .before .before .before .before .before .before .before .before .pre .1 .2, c .before .before .before .before .before .value2 .ensures)
+
+same-length-2 : tie.Need-same-length-2 Inv-loop μ-loop
+same-length-2 c = c .before .before .before .loop .inv .2
+
+returns-2 : tie.Need-returns-2 Inv-loop μ-loop
+returns-2 c = λ es table h.
+    let roomy = c .before .before .before .before .before .before .before .before .pre .2 in
+    let b1 = roomy .before in
+    let b2 = roomy .counted in
+    let b3 = roomy .within in
+    let b4 = roomy .there in
+    let m = c .before .before .before .loop .inv .1 in
+    let l = c .before .before .before .loop .inv .2 in
+    at-list (ap₂ (λ (p n : ℕ). gather (matches (rows (c .before .before .before .before .before .before .before .before .args .log .now)) p (termsAt table (c .before .before .before .before .before .before .before .before .args .words .now) (c .before .before .before .before .before .before .before .before .args .at + 3) n)) es) (c .before .before .before .before .before .before .value .ensures) (c .before .before .before .before .before .value2 .ensures))
+    (map-stood (λ e. matches (rows (c .before .before .before .before .before .before .before .before .args .log .now)) (c .before .before .before .before .before .before .value .result) (termsAt table (c .before .before .before .before .before .before .before .before .args .words .now) (c .before .before .before .before .before .before .before .before .args .at + 3) (c .before .before .before .before .before .value2 .result)) e) es (c .before .before .before .loop .i) (c .before .before .before .before .before .before .before .before .args .room) (c .before .before .before .loop .made) (c .before .before .before .before .before .before .before .before .args .scratch .now) (c .before .before .before .loop .scratch) (c .before .before .before .loop .inv .3 es table h) m h roomy (omega arith) l (c .filled .ensures) (ap (λ (k : ℕ). c .before .before .before .before .before .before .before .before .args .at + 3 + 2 * k) (c .before .before .before .before .before .value2 .ensures)))
+
+pub list-atom-spec : {M : Type 1} → statement M
+list-atom-spec =
+    tie.close
+    (tie.spec
+    Inv-loop
+    μ-loop
+    add-value
+    value-requires
+    add-value-2
+    value-requires-2
+    sub-left
+    loop-holds
+    add-read
+    read-requires
+    add-match-rows
+    add-match-rows-2
+    sub-match-rows
+    match-rows-requires
+    enum-known-added
+    enum-told
+    same-length
+    returns
+    add-made
+    add-i
+    loop-less
+    loop-again
+    filled-requires
+    add-t16
+    mul-t26
+    add-t27
+    same-length-2
+    returns-2)

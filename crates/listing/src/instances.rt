@@ -1,0 +1,89 @@
+// The instances of a quantifier: the tuples of a list of environments that are not excluded, each once.
+use crate::environment::Environment;
+ghost use mathlib.Core.Path.{_≡_};
+ghost use mathlib.Core.List.{_++_};
+ghost use Prim.Native.Nat.{ℕ, _+_, _*_, _≤_, _<_};
+ghost use lib.ListN.{length, take, drop};
+ghost use Rattle.model.specs.Words.{equalAll, member};
+ghost use Rattle.listing.specs.Environment.{placeAt};
+ghost use Rattle.listing.specs.Listed.{spaced};
+ghost use Rattle.listing.specs.Instances.{Chosen};
+
+// Whether n words of one slice from an index on are those of another from an index on.
+fn equal_words(a: &[i32], at: usize, b: &[i32], from: usize, n: usize) -> bool
+    requires { ⌜ (at + n ≤ length (now a)) × (from + n ≤ length (now b)) ⌝ }
+    ensures { λ r. ⌜ r ≡ equalAll (take n (drop at (now (a .entry)))) (take n (drop from (now (b .entry)))) ⌝ }
+{
+    let mut i = 0;
+    while i < n {
+        if a[at + i] != b[from + i] {
+            return false;
+        }
+        i += 1;
+    }
+    true
+}
+
+// Whether the tuple of v words at an index is one of m tuples, the first at `from`, each `step` words behind the one before.
+fn stands(a: &[i32], at: usize, b: &[i32], from: usize, step: usize, m: usize, v: usize) -> bool
+    requires { ⌜ (at + v ≤ length (now a)) × ((i : ℕ) → i < m → from + step * i + v ≤ length (now b)) ⌝ }
+    ensures { λ r. ⌜ r ≡ member (take v (drop at (now (a .entry)))) (spaced (now (b .entry)) v from step m) ⌝ }
+{
+    let mut i = 0;
+    while i < m {
+        if equal_words(a, at, b, from + step * i, v) {
+            return true;
+        }
+        i += 1;
+    }
+    false
+}
+
+// A place of scratch is copied to one that stands not behind it.
+pub fn copy_place(scratch: &mut [i32], source: usize, target: usize)
+    requires { ⌜ (target ≤ source) × (17 * source + 17 ≤ length (now scratch)) ⌝ }
+    ensures { λ r. ⌜ now (scratch .exit) ≡ take (17 * target) (now (scratch .entry)) ++ (placeAt (now (scratch .entry)) source ++ drop (17 * target + 17) (now (scratch .entry))) ⌝ }
+{
+    if source == target {
+        return;
+    }
+    let mut i = 0;
+    while i < Environment::WORDS {
+        scratch[Environment::WORDS * target + i] = scratch[Environment::WORDS * source + i];
+        i += 1;
+    }
+}
+
+// Of the `count` places from `first` on those of the instances go to the front, and their number is given: the tuples of the
+// v variables from `scope` on that are not among the m excluded ones, each once.
+pub fn instances(
+    words: &[i32],
+    from: usize,
+    m: usize,
+    v: usize,
+    scope: usize,
+    scratch: &mut [i32],
+    first: usize,
+    count: usize,
+) -> usize
+    requires { ⌜ (scope + v ≤ 16) × (17 * (first + count) ≤ length (now scratch)) × (from + v * m ≤ length (now words)) ⌝ }
+    ensures { λ r. ⌜ Chosen (now (words .entry)) from m v scope (now (scratch .entry)) (now (scratch .exit)) first count r ⌝ }
+{
+    let start = Environment::WORDS * first + scope;
+    let mut found = 0;
+    let mut i = 0;
+    while i < count {
+        let place = first + i;
+        let at = Environment::WORDS * place + scope;
+        i += 1;
+        if stands(scratch, at, words, from, v, m, v) {
+            continue;
+        }
+        if stands(scratch, at, scratch, start, Environment::WORDS, found, v) {
+            continue;
+        }
+        copy_place(scratch, place, first + found);
+        found += 1;
+    }
+    found
+}

@@ -1,0 +1,72 @@
+// Which environments a leaf of a restriction keeps.
+use crate::environment::Environment;
+use crate::terms;
+use logs::value;
+use logs::value::Value;
+use policies::node::Tag;
+use tables::words;
+ghost use mathlib.Core.Path.{_≡_};
+ghost use Prim.Native.Nat.{_≤_};
+ghost use Rattle.model.specs.Words.{word, predicateLimit};
+ghost use Rattle.model.specs.Tag.{tagOf};
+ghost use Rattle.model.specs.Answer.{passed};
+ghost use Rattle.model.specs.Table.{predicates};
+ghost use Rattle.model.specs.Log.{rowCount, askLog};
+ghost use Rattle.logs.specs.Chain.{Chained};
+ghost use Rattle.logs.specs.Key.{rowKey, atomKeys};
+ghost use Rattle.policies.specs.Node.{asTag};
+ghost use Rattle.policies.specs.Mode.{HereAtom};
+ghost use Rattle.listing.specs.Keeping.{RestrictionAt, TellsFalse, TellsKept};
+
+// Whether the ground atom at an index is known to be false.
+fn is_false(
+    table: &[i32],
+    words: &[i32],
+    log: &[i32],
+    atoms: &[u16],
+    environment: Environment,
+    at: usize,
+) -> bool
+    requires { ⌜
+        (askLog (now table) (now log) ≡ passed tt)
+        × Chained (rowKey (now log)) atomKeys (rowCount (now log)) (now atoms)
+        × HereAtom (now table) (now words) at
+        ⌝ }
+    ensures { λ r. ⌜ TellsFalse (now (table .entry)) (now (words .entry)) (now (log .entry)) environment at r ⌝ }
+{
+    let predicate = words::value(words, at + 1);
+    let n = words::value(words, at + 2);
+    let numbers = terms::arguments(environment, words, at + 3, n);
+    let found = value::value_of(table, log, atoms, predicate, &numbers);
+    match found {
+        Value::False => true,
+        _ => false,
+    }
+}
+
+// Whether the leaf of a restriction at an index, whose tag is given, keeps an environment.
+pub fn keeps(
+    table: &[i32],
+    words: &[i32],
+    log: &[i32],
+    atoms: &[u16],
+    environment: Environment,
+    tag: Tag,
+    at: usize,
+) -> bool
+    requires { ⌜
+        (predicates (now table) ≤ predicateLimit)
+        × (askLog (now table) (now log) ≡ passed tt)
+        × Chained (rowKey (now log)) atomKeys (rowCount (now log)) (now atoms)
+        × (asTag tag ≡ tagOf (word (now words) at))
+        × RestrictionAt (now table) (now words) at
+        ⌝ }
+    ensures { λ r. ⌜ TellsKept (now (table .entry)) (now (words .entry)) (now (log .entry)) environment at r ⌝ }
+{
+    match tag {
+        Tag::Plain(b) => b,
+        Tag::Compare(b) => b == terms::compare(environment, words, at),
+        Tag::Atom(_) => is_false(table, words, log, atoms, environment, at),
+        _ => false,
+    }
+}

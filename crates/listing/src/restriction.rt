@@ -1,0 +1,507 @@
+// The listing of a restriction: each node makes of the list handed to it a list of its own, in the places of scratch.
+use crate::environment::Environment;
+use crate::keeping;
+use crate::lists;
+use crate::matching;
+use logs::key;
+use policies::node;
+use policies::node::Tag;
+use tables::words;
+ghost use mathlib.Core.Path.{_≡_};
+ghost use mathlib.Core.Bool.{Bool, true, false};
+ghost use mathlib.Core.List.{List};
+ghost use Prim.Native.Nat.{ℕ, _+_, _*_, _^_, _≤_, _<_};
+ghost use lib.ListN.{length, take};
+ghost use Rattle.model.specs.Words as W;
+ghost use Rattle.model.specs.Lists.{all};
+ghost use Rattle.model.specs.Log.{rowCount, rows};
+ghost use Rattle.model.specs.Reading.{places, inScope};
+ghost use Rattle.model.specs.Listing as M;
+ghost use Rattle.logs.specs.Chain.{Chained};
+ghost use Rattle.logs.specs.Key.{trueKey, predicateKeys};
+ghost use Rattle.model.specs.Tag as T;
+ghost use Rattle.model.specs.Level as L;
+ghost use Rattle.policies.specs.Mode.{termsAt, Here, HereAll};
+ghost use Rattle.policies.specs.Node.{asTag};
+ghost use Rattle.listing.specs.Environment.{Holds};
+ghost use Rattle.listing.specs.Keeping.{RestrictionAt};
+ghost use Rattle.listing.specs.Restrictions as R;
+
+// The list handed to a node, the first place behind all lists that are still read, the places counted so far, and how many
+// there are. Document 01 counts a place for each entry of each list; a list that is read no more makes room for the next.
+pub struct Room {
+    pub from: usize,
+    pub count: usize,
+    pub base: usize,
+    pub used: usize,
+    pub limit: usize,
+}
+
+impl Room {
+    // The room after a list of so many entries was made in its first free places.
+    fn filled(self, made: usize) -> Room
+        requires { ⌜ (self .base ≤ self .used) × (self .used + made ≤ self .limit) ⌝ }
+        ensures { λ r. ⌜ r ≡ R.filled self made ⌝ }
+    {
+        Room {
+            from: self.base,
+            count: made,
+            base: self.base + made,
+            used: self.used + made,
+            limit: self.limit,
+        }
+    }
+
+    // The room after a second list of the same entries was counted.
+    fn counted(self) -> Room
+        requires { ⌜ self .used + self .count ≤ self .limit ⌝ }
+        ensures { λ r. ⌜ r ≡ R.counted self ⌝ }
+    {
+        Room {
+            from: self.from,
+            count: self.count,
+            base: self.base,
+            used: self.used + self.count,
+            limit: self.limit,
+        }
+    }
+
+    // The room for the next branch, once a branch's list stands in the first free places.
+    fn behind(self, to: Room) -> Room
+        requires { ⌜ self .base + to .count ≤ self .limit ⌝ }
+        ensures { λ r. ⌜ r ≡ R.behind self to ⌝ }
+    {
+        Room {
+            from: self.from,
+            count: self.count,
+            base: self.base + to.count,
+            used: to.used,
+            limit: self.limit,
+        }
+    }
+
+    // The room with the lists of all branches as one list.
+    fn joined(self, base: usize, made: usize) -> Room
+        requires { ⌜ self .used + made ≤ self .limit ⌝ }
+        ensures { λ r. ⌜ r ≡ R.joined self base made ⌝ }
+    {
+        Room {
+            from: base,
+            count: made,
+            base: self.base,
+            used: self.used + made,
+            limit: self.limit,
+        }
+    }
+}
+
+// The places ran out; or the room with the list made, and the index behind the node.
+pub enum Made {
+    Short,
+    List(Room, usize),
+}
+
+// How many places were filled, or that they ran out.
+pub enum Added {
+    Short,
+    Places(usize),
+}
+
+// The environments that the true rows of a predicate make of one environment, in row order, from a place on: at most so many.
+fn match_rows(
+    environment: Environment,
+    words: &[i32],
+    first: usize,
+    n: usize,
+    log: &[i32],
+    trues: &[u16],
+    predicate: usize,
+    scratch: &mut [i32],
+    base: usize,
+    left: usize,
+) -> Added
+    requires { ⌜
+        (n ≤ 6)
+        × (first + 2 * n < 2 ^ 64)
+        × ((table : W.Words) → all (inScope table (now words) 16) (places first n) ≡ true)
+        × Chained (trueKey (now log)) predicateKeys (rowCount (now log)) (now trues)
+        × (predicate < 256)
+        × (17 * (base + left) ≤ length (now scratch))
+        × ((e : M.Environment) × Holds environment e)
+        ⌝ }
+    ensures { λ r. ⌜
+        ((e : M.Environment) (table : W.Words) →
+        Holds environment e →
+        R.Adds
+        (M.matches (rows (now (log .entry))) predicate (termsAt table (now (words .entry)) first n) e)
+        base
+        left
+        (now (scratch .entry))
+        (now (scratch .exit))
+        r)
+        ⌝ }
+{
+    let rows = log.len() / 8;
+    let mut made = 0;
+    let mut link = trues[predicate] as usize;
+    while link != 0 {
+        let row = rows - link;
+        link = trues[key::PREDICATE_KEYS + row] as usize;
+        let matched = matching::fit_row(environment, words, first, n, log, row);
+        let fits = matched.fits;
+        if fits {
+            if left <= made {
+                return Added::Short;
+            }
+            let next = matched.environment;
+            next.write(scratch, base + made);
+            made += 1;
+        }
+    }
+    Added::Places(made)
+}
+
+// An atom of tag 2 makes of each environment in turn those that the true rows of its predicate make.
+fn list_atom(
+    words: &[i32],
+    log: &[i32],
+    trues: &[u16],
+    scratch: &mut [i32],
+    room: Room,
+    at: usize,
+) -> Made
+    requires { ⌜
+        Chained (trueKey (now log)) predicateKeys (rowCount (now log)) (now trues)
+        × R.AtomAt (now words) at
+        × R.Roomy room (now scratch)
+        × ((es : List M.Environment) × R.Holding room (now scratch) es)
+        ⌝ }
+    ensures { λ r. ⌜
+        ((es : List M.Environment) (table : W.Words) →
+        R.Holding room (now (scratch .entry)) es →
+        R.MakesAtom table (now (words .entry)) (now (log .entry)) at es room (now (scratch .entry)) (now (scratch .exit)) r)
+        ⌝ }
+{
+    let predicate = words::value(words, at + 1);
+    let n = words::value(words, at + 2);
+    let base = room.base;
+    let left = room.limit - room.used;
+    let mut made = 0;
+    let mut i = 0;
+    while i < room.count {
+        let environment = Environment::read(scratch, room.from + i);
+        let added = match_rows(
+            environment,
+            words,
+            at + 3,
+            n,
+            log,
+            trues,
+            predicate,
+            scratch,
+            base + made,
+            left - made,
+        );
+        let Added::Places(more) = added else {
+            return Made::Short;
+        };
+        made += more;
+        i += 1;
+    }
+    Made::List(room.filled(made), at + 3 + 2 * n)
+}
+
+// A leaf that is no atom of tag 2 keeps the environments in which it is true.
+fn list_kept(
+    table: &[i32],
+    words: &[i32],
+    log: &[i32],
+    atoms: &[u16],
+    scratch: &mut [i32],
+    room: Room,
+    tag: Tag,
+    at: usize,
+) -> Made
+    requires { ⌜
+        R.Looks (now table) (now log) (now atoms)
+        × RestrictionAt (now table) (now words) at
+        × (asTag tag ≡ T.tagOf (W.word (now words) at))
+        × R.Roomy room (now scratch)
+        × ((es : List M.Environment) × R.Holding room (now scratch) es)
+        ⌝ }
+    ensures { λ r. ⌜
+        ((es : List M.Environment) →
+        R.Holding room (now (scratch .entry)) es →
+        R.MakesKept (now (table .entry)) (now (words .entry)) (now (log .entry)) at es room (now (scratch .entry)) (now (scratch .exit)) r)
+        ⌝ }
+{
+    let left = room.limit - room.used;
+    let mut made = 0;
+    let mut i = 0;
+    while i < room.count {
+        let source = room.from + i;
+        let environment = Environment::read(scratch, source);
+        i += 1;
+        if !keeping::keeps(table, words, log, atoms, environment, tag, at) {
+            continue;
+        }
+        if left <= made {
+            return Made::Short;
+        }
+        environment.write(scratch, room.base + made);
+        made += 1;
+    }
+    let own = node::size(words, tag, at);
+    Made::List(room.filled(made), at + own)
+}
+
+// The children of an all-of: each child's list is handed to the next, and the last one's is the all-of's too.
+fn list_all(
+    table: &[i32],
+    words: &[i32],
+    log: &[i32],
+    atoms: &[u16],
+    trues: &[u16],
+    scratch: &mut [i32],
+    room: Room,
+    above: usize,
+    scope: usize,
+    n: usize,
+    at: usize,
+) -> Made
+    requires { ⌜
+        R.Chains (now table) (now log) (now atoms) (now trues)
+        × (above ≤ 64)
+        × (scope ≤ 16)
+        × (1 ≤ n)
+        × HereAll (now table) (now words) L.Role.restriction above scope n at
+        × R.Roomy room (now scratch)
+        × ((es : List M.Environment) × R.Holding room (now scratch) es)
+        ⌝ }
+    ensures { λ r. ⌜
+        ((es : List M.Environment) →
+        R.Holding room (now (scratch .entry)) es →
+        R.MakesJoin true (now (table .entry)) (now (words .entry)) (now (log .entry)) above scope n at es room (now (scratch .entry)) (now (scratch .exit)) r)
+        ⌝ }
+{
+    let mut handed = room;
+    let mut next = at;
+    let mut i = 0;
+    while i < n {
+        let child = list(
+            table,
+            words,
+            log,
+            atoms,
+            trues,
+            scratch,
+            handed,
+            above,
+            scope,
+            next,
+        );
+        let Made::List(to, behind) = child else {
+            return Made::Short;
+        };
+        handed = to;
+        next = behind;
+        i += 1;
+    }
+    if handed.limit - handed.used < handed.count {
+        return Made::Short;
+    }
+    Made::List(handed.counted(), next)
+}
+
+// The branches of an any-of: each is handed the same list, and their lists are moved one behind another.
+fn list_any(
+    table: &[i32],
+    words: &[i32],
+    log: &[i32],
+    atoms: &[u16],
+    trues: &[u16],
+    scratch: &mut [i32],
+    room: Room,
+    above: usize,
+    scope: usize,
+    n: usize,
+    at: usize,
+) -> Made
+    requires { ⌜
+        R.Chains (now table) (now log) (now atoms) (now trues)
+        × (above ≤ 64)
+        × (scope ≤ 16)
+        × (1 ≤ n)
+        × HereAll (now table) (now words) L.Role.restriction above scope n at
+        × R.Roomy room (now scratch)
+        × ((es : List M.Environment) × R.Holding room (now scratch) es)
+        ⌝ }
+    ensures { λ r. ⌜
+        ((es : List M.Environment) →
+        R.Holding room (now (scratch .entry)) es →
+        R.MakesJoin false (now (table .entry)) (now (words .entry)) (now (log .entry)) above scope n at es room (now (scratch .entry)) (now (scratch .exit)) r)
+        ⌝ }
+{
+    let mut branch = room;
+    let mut next = at;
+    let mut i = 0;
+    while i < n {
+        let child = list(
+            table,
+            words,
+            log,
+            atoms,
+            trues,
+            scratch,
+            branch,
+            above,
+            scope,
+            next,
+        );
+        let Made::List(to, behind) = child else {
+            return Made::Short;
+        };
+        lists::move_list(scratch, to.from, to.count, branch.base);
+        branch = branch.behind(to);
+        next = behind;
+        i += 1;
+    }
+    let made = branch.base - room.base;
+    if branch.limit - branch.used < made {
+        return Made::Short;
+    }
+    Made::List(branch.joined(room.base, made), next)
+}
+
+// "Some": its variable is dropped in each environment of its child's list.
+fn list_some(
+    table: &[i32],
+    words: &[i32],
+    log: &[i32],
+    atoms: &[u16],
+    trues: &[u16],
+    scratch: &mut [i32],
+    room: Room,
+    above: usize,
+    scope: usize,
+    at: usize,
+) -> Made
+    requires { ⌜
+        R.Chains (now table) (now log) (now atoms) (now trues)
+        × (above < 64)
+        × (scope < 16)
+        × Here (now table) (now words) L.Role.restriction (above + 1) (scope + 1) (at + 1)
+        × R.Roomy room (now scratch)
+        × ((es : List M.Environment) × R.Holding room (now scratch) es)
+        ⌝ }
+    ensures { λ r. ⌜
+        ((es : List M.Environment) →
+        R.Holding room (now (scratch .entry)) es →
+        R.MakesSome (now (table .entry)) (now (words .entry)) (now (log .entry)) above scope at es room (now (scratch .entry)) (now (scratch .exit)) r)
+        ⌝ }
+{
+    let child = list(
+        table,
+        words,
+        log,
+        atoms,
+        trues,
+        scratch,
+        room,
+        above + 1,
+        scope + 1,
+        at + 1,
+    );
+    let Made::List(to, next) = child else {
+        return Made::Short;
+    };
+    lists::release_all(scratch, to.from, to.count, scope);
+    if to.limit - to.used < to.count {
+        return Made::Short;
+    }
+    Made::List(to.counted(), next)
+}
+
+// The list that a restriction node makes of the list handed to it.
+pub fn list(
+    table: &[i32],
+    words: &[i32],
+    log: &[i32],
+    atoms: &[u16],
+    trues: &[u16],
+    scratch: &mut [i32],
+    room: Room,
+    above: usize,
+    scope: usize,
+    at: usize,
+) -> Made
+    requires { ⌜
+        R.Chains (now table) (now log) (now atoms) (now trues)
+        × (above ≤ 64)
+        × (scope ≤ 16)
+        × Here (now table) (now words) L.Role.restriction above scope at
+        × R.Roomy room (now scratch)
+        × ((es : List M.Environment) × R.Holding room (now scratch) es)
+        ⌝ }
+    ensures { λ r. ⌜
+        ((es : List M.Environment) →
+        R.Holding room (now (scratch .entry)) es →
+        R.MakesNode (now (table .entry)) (now (words .entry)) (now (log .entry)) above scope at es room (now (scratch .entry)) (now (scratch .exit)) r)
+        ⌝ }
+{
+    let tag = node::tag_at(words, at);
+    match tag {
+        Tag::Join(every) => {
+            let n = words::value(words, at + 1);
+            if every {
+                list_all(
+                    table,
+                    words,
+                    log,
+                    atoms,
+                    trues,
+                    scratch,
+                    room,
+                    above + 1,
+                    scope,
+                    n,
+                    at + 2,
+                )
+            } else {
+                list_any(
+                    table,
+                    words,
+                    log,
+                    atoms,
+                    trues,
+                    scratch,
+                    room,
+                    above + 1,
+                    scope,
+                    n,
+                    at + 2,
+                )
+            }
+        }
+        Tag::Some => list_some(
+            table,
+            words,
+            log,
+            atoms,
+            trues,
+            scratch,
+            room,
+            above,
+            scope,
+            at,
+        ),
+        Tag::Atom(holds) => {
+            if holds {
+                list_atom(words, log, trues, scratch, room, at)
+            } else {
+                list_kept(table, words, log, atoms, scratch, room, tag, at)
+            }
+        }
+        _ => list_kept(table, words, log, atoms, scratch, room, tag, at),
+    }
+}
