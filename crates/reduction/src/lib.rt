@@ -1,0 +1,4 @@
+// The reduction of a formula, in the room there is: answers of a walk, and the join rule in a buffer.
+pub mod answer;
+pub mod join;
+pub mod moving;
