@@ -22,8 +22,6 @@ use Rattle.laws.specs.Reading.Nodes.{Node}
 use Rattle.laws.specs.Reading.Parts.{atom-parts, compare-parts}
 use Rattle.logs.specs.Search.{asValue}
 use Rattle.logs.specs.declared.value.Value.{Value}
-use Rattle.logs.specs.declared.value.Value.the-variants.{True, False, Open}
-use Rattle.logs.proofs.value.Value.{the-type as value-type}
 use Rattle.policies.specs.declared.node.Tag.{Tag}
 use Rattle.policies.specs.declared.node.Tag.the-variants.{Plain, Atom, Compare, Join, Quantifier, Some, Unused}
 use Rattle.policies.specs.Node.{asTag}
@@ -52,15 +50,8 @@ module _
   keeping-compare b is = here-compare table words (here .0) (here .1) at few (here .2) b (ap asTag (sym is) ∙ told) (here .3) long
 
 -- the answer, by the value found
-pub answer-false : (found : Value) → found ≡ False → isFalse (asValue found) ≡ true
-unfolding isFalse
-answer-false found is = ap (λ (v : Value). isFalse (asValue v)) is
-
-pub answer-other : (found : Value) → OneOf (0 ∷ 2 ∷ []) (D.tagOf value-type found) → isFalse (asValue found) ≡ false
-unfolding isFalse
-answer-other True k = refl
-answer-other False k = absurd (miss (0 ∷ 2 ∷ []) 1 tt k)
-answer-other Open k = refl
+pub answer : (found v : Value) → found ≡ v → isFalse (asValue found) ≡ isFalse (asValue v)
+answer found v is = ap (λ (w : Value). isFalse (asValue w)) is
 
 module _ (table words log : Words) (held : Held) (at : ℕ) where
   -- the atom at an index, of the predicate and the number of terms that are read there, and its value

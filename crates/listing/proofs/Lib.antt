@@ -14,3 +14,4 @@ pub mod KeepLaws
 pub mod LeafLaws
 pub mod KeptRoom
 pub mod WalkLaws
+pub mod ClosedLaws

@@ -23,3 +23,7 @@ sum-fits (negsuc a) (negsuc b) h k = record { sfits = omega (arith, h .sfits, k 
 -- what the machine reads back of a widened word is the word
 pub widened : (x : ℤ) → SFits w32 x → toZ w64 (ofZ w64 (toZ w32 (ofZ w32 x))) ≡ x
 widened x h = ap (λ (z : ℤ). toZ w64 (ofZ w64 z)) (toZ-ofZ h) ∙ toZ-ofZ (sfits-widen {w′ = w64} tt h)
+
+-- and it fits
+pub widens : (x : ℤ) → SFits w32 x → SFits w64 (toZ w32 (ofZ w32 x))
+widens x h = rw (toZ-ofZ h) (sfits-widen tt h)

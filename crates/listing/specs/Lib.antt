@@ -5,4 +5,5 @@ pub mod Lists
 pub mod Instances
 pub mod Matching
 pub mod Keeping
+pub mod Closing
 pub mod Restrictions

@@ -39,8 +39,9 @@ fn is_false(
     let numbers = terms::arguments(environment, words, at + 3, n);
     let found = value::value_of(table, log, atoms, predicate, &numbers);
     match found {
+        Value::True => false,
         Value::False => true,
-        _ => false,
+        Value::Open => false,
     }
 }
 

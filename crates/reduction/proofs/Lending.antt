@@ -93,3 +93,12 @@ adding {b} {ts} {need} {places} {n} {out} {j} {t} {part} {answer} s a w =
       words = λ k e. ap (take k) (lent-part out (j .words) part (s .within) (a .long)) ∙ a .words k e;
       wide = w;
     }
+
+-- an answer says the same of a walk that was lent other words of that length
+pub answers-from :
+    {places need : ℕ} {t : Tree} {before between after : Words} {r : Reduced} →
+    length between ≡ length before →
+    Answers places need t between after r →
+    Answers places need t before after r
+answers-from {places} {need} {t} e a =
+    record { is = a .is ∙ ap (λ (room : ℕ). told places need room t) e; long = a .long ∙ e; words = a .words }

@@ -62,12 +62,6 @@ module _ (b : Bool) where
       ap (append (parts b u)) (parts-more ts t) ∙ sym (append-three (parts b u) (partsAll b ts) (parts b t))
 
 -- the words of a join of parts
-header-few : (ts : Trees) → count ts ≤ 1 → header ts ≡ 0
-unfolding header count
-header-few nil h = refl
-header-few (cons t nil) h = refl
-header-few (cons t (cons u ts)) h = absurd (omega arith)
-
 header-two : (ts : Trees) → 2 ≤ count ts → header ts ≡ 2
 unfolding header count
 header-two nil h = absurd (omega arith)
@@ -146,7 +140,14 @@ sameKind b (quantifier a v excluded c f) = false
 sameKind b (some c) = false
 
 -- its first word tells
-other : (m n : ℕ) → eqb m 6 ≡ false → eqb m 7 ≡ false → eqb n 6 ≡ false → eqb n 7 ≡ false → (a b : Bool) → eqb (cond a m n) (cond b 6 7) ≡ false
+other :
+    (m n : ℕ) →
+    eqb m 6 ≡ false →
+    eqb m 7 ≡ false →
+    eqb n 6 ≡ false →
+    eqb n 7 ≡ false →
+    (a b : Bool) →
+    eqb (cond a m n) (cond b 6 7) ≡ false
 other m n p q r s true true = p
 other m n p q r s true false = q
 other m n p q r s false true = r

@@ -106,7 +106,8 @@ module _ (old : Words) (n : ℕ) (room : n + 2 ≤ length old) where
         omega (arith, w .0),
         long ∙ w .1,
         f
-            ∙ ap (λ (l : Words). set l (i + 2) z) (w .2 ∙ ap (λ (l : Words). l ++ rest) split ∙ append-snoc (take (i + 2) old) (getD old (i + 2) (pos 0)) rest)
+            ∙ ap (λ (l : Words). set l (i + 2) z)
+            (w .2 ∙ ap (λ (l : Words). l ++ rest) split ∙ append-snoc (take (i + 2) old) (getD old (i + 2) (pos 0)) rest)
             ∙ set-at (take (i + 2) old) (getD old (i + 2) (pos 0)) rest z (i + 2) (length-take-le (i + 2) old (omega (arith, w .0)))
             ∙ ap (λ (x : ℤ). take (i + 2) old ++ (x ∷ rest)) (s ∙ read)
             ∙ ap (λ (l : Words). take (i + 2) old ++ (l ++ drop (n + 2) old)) next,

@@ -75,13 +75,7 @@ impl Join {
         requires { ⌜ (length (now out) ≤ 1048576) × Adding (now out) self (R.Part k) ⌝ }
         ensures { λ r. ⌜ ((a : Adding (now (out .entry)) self (R.Part k)) → added a (now (out .exit)) r) ⌝ }
     {
-        if self.short {
-            return self;
-        }
-        if self.decided {
-            return self;
-        }
-        if self.long {
+        if self.short || self.decided || self.long {
             return self;
         }
         if is_join(out, self.words, self.kind) {
@@ -143,11 +137,12 @@ impl Join {
             Answers places need (joined b ts) (now (out .entry)) (now (out .exit)) r)
             ⌝ }
     {
+        let other = !self.kind;
         if self.short {
             return Reduced::Short;
         }
         if self.decided {
-            return Reduced::Plain(!self.kind);
+            return Reduced::Plain(other);
         }
         if self.long {
             return Reduced::Long;
@@ -158,10 +153,10 @@ impl Join {
         if self.parts == 1 {
             return Reduced::Part(self.words);
         }
-        if out.len() - self.words < 2 {
-            return Reduced::Long;
+        if 2 <= out.len() - self.words {
+            head(out, self.kind, self.parts, self.words);
+            return Reduced::Part(self.words + 2);
         }
-        head(out, self.kind, self.parts, self.words);
-        Reduced::Part(self.words + 2)
+        Reduced::Long
     }
 }

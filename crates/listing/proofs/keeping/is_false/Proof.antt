@@ -9,8 +9,9 @@ use Rattle.model.specs.Lists.{all}
 use Rattle.model.specs.Reading.{places, inScope}
 use Rattle.model.specs.Listing.{isFalse}
 use Rattle.logs.specs.Search.{asValue}
+use Rattle.logs.specs.declared.value.Value.the-variants.{True, False, Open}
 use Rattle.listing.specs.Keeping.{TellsFalse}
-use Rattle.listing.proofs.KeepLaws.{answer-false, answer-other, false-value}
+use Rattle.listing.proofs.KeepLaws.{answer, false-value}
 use Rattle.listing.proofs.keeping.is_false.Statement.{statement}
 use Rattle.listing.proofs.keeping.is_false.Tie as tie
 
@@ -48,6 +49,12 @@ value-of-requires c κs = search needs
 enum-told : tie.Need-enum-told
 enum-told c = search needs
 
+enum-told-2 : tie.Need-enum-told-2
+enum-told-2 c = search needs
+
+enum-told-3 : tie.Need-enum-told-3
+enum-told-3 c = search needs
+
 -- the answer to the value found
 told :
     (c : tie.After-value-of) (r : Bool) →
@@ -62,10 +69,16 @@ told c r answer =
     (n .before .value .ensures) (n .value2 .ensures) (c .before .before .arguments .ensures) (c .value-of .ensures) r answer
 
 returns : tie.Need-returns
-returns c = told (c .before .before) true (answer-false (c .before .before .value-of .result) (c .enum-told .given .1))
+unfolding isFalse
+returns c = told (c .before .before) false (answer (c .before .before .value-of .result) True (c .enum-told .given .1))
 
 returns-2 : tie.Need-returns-2
-returns-2 c = told (c .before) false (answer-other (c .before .value-of .result) (c .match .keys2))
+unfolding isFalse
+returns-2 c = told (c .before .before) true (answer (c .before .before .value-of .result) False (c .enum-told2 .given .1))
+
+returns-3 : tie.Need-returns-3
+unfolding isFalse
+returns-3 c = told (c .before .before) false (answer (c .before .before .value-of .result) Open (c .enum-told3 .given .1))
 
 pub is-false-spec : {M : Type 1} → statement M
 is-false-spec =
@@ -80,5 +93,8 @@ is-false-spec =
     slice-aggregate-value-of
     value-of-requires
     enum-told
+    enum-told-2
+    enum-told-3
     returns
-    returns-2)
+    returns-2
+    returns-3)

@@ -2,23 +2,23 @@
 use mathlib.Core.Path.{ap₂, _∙_}
 use lib.IntN.{ℤ, _+ℤ_}
 use lib.Signed.{leZ}
-use mir.Facts.{toZ-ofZ, sfits-widen}
+use mir.Facts.{toZ-ofZ}
 use Rattle.model.specs.Truth.{sumAtMost}
-use Rattle.listing.proofs.Sums.{sum-fits, widened}
+use Rattle.listing.proofs.Sums.{sum-fits, widened, widens}
 use Rattle.listing.proofs.terms.at_most.Statement.{statement}
 use Rattle.listing.proofs.terms.at_most.Tie as tie
 
 cast-result : tie.Need-cast-result
-cast-result c = rw (toZ-ofZ (c .fits .x)) (sfits-widen tt (c .fits .x))
+cast-result c = widens (c .args .x) (c .fits .x)
 
 cast-result-2 : tie.Need-cast-result-2
-cast-result-2 c = rw (toZ-ofZ (c .fits .d)) (sfits-widen tt (c .fits .d))
+cast-result-2 c = widens (c .args .d) (c .fits .d)
 
 add-result : tie.Need-add-result
 add-result c = rw (widened (c .args .x) (c .fits .x), widened (c .args .d) (c .fits .d)) (sum-fits (c .args .x) (c .args .d) (c .fits .x) (c .fits .d))
 
 cast-result-3 : tie.Need-cast-result-3
-cast-result-3 c = rw (toZ-ofZ (c .fits .y)) (sfits-widen tt (c .fits .y))
+cast-result-3 c = widens (c .args .y) (c .fits .y)
 
 returns : tie.Need-returns
 unfolding sumAtMost
