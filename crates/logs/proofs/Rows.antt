@@ -7,8 +7,8 @@ use mathlib.Core.Path.{_≡_, refl, sym, ap, ap₂, _∙_}
 use mathlib.Core.Bool.{Bool, true, false, _&&_, _||_, cond}
 use mathlib.Core.List.{List, [], _∷_, List·Memᴰ, List·Memᴰ·head, List·Memᴰ·tail}
 use mathlib.Core.Logic.{⊎-elim}
-use lib.Dec.{eqb, ltb}
-use borrow.Author.Tests.{eqb-true, eqb-false, eq-eqb, ne-eqb, lt-ltb, le-ltb}
+use lib.Dec.{eqb, ltb, leb}
+use borrow.Author.Tests.{eqb-true, eqb-false, eq-eqb, ne-eqb, lt-ltb, le-ltb, le-leb, lt-leb}
 use Rattle.laws.specs.Words.Tests.{decide, and-left}
 use Rattle.laws.specs.Words.Standing.{atLeast-value}
 use lib.ListN.{length, getD, take, drop, drop-of-length-le, length-take, length-drop}
@@ -92,53 +92,65 @@ argument-word log r i h =
     ∙ getD-drop (8 * r) log (2 + i) (pos 0)
     ∙ ap (λ (k : ℕ). getD log k (pos 0)) (sym (add-assoc (8 * r) 2 i))
 
--- the arguments from one index on
-module _ (log : Words) (r : ℕ) (h : 8 * r + 8 ≤ length log) (i : ℕ) where
-  unused-cons : i < 6 → unusedFrom log r i ≡ (equal (word log (8 * r + 2 + i)) (pos 0) && unusedFrom log r (i + 1))
+-- the arguments of a row's words, from one index on
+argument-of : (row : Words) (i : ℕ) → getD (arguments row) i (pos 0) ≡ word row (2 + i)
+unfolding arguments word
+argument-of row i = getD-drop 2 row i (pos 0)
+
+module _ (row : Words) (h : length row ≡ 8) (i : ℕ) where
+  six : length (arguments row) ≡ 6
+  unfolding arguments
+  six = simp length-drop (omega arith)
+
+  unused-cons : i < 6 → unusedFrom row i ≡ (equal (word row (2 + i)) (pos 0) && unusedFrom row (i + 1))
   unfolding unusedFrom all
   unused-cons k =
-      rw (drop-cons (arguments (rowAt log r)) i (pos 0) (rw (row-six log r h) k), argument-word log r i k, add-one i) refl
+      rw (drop-cons (arguments row) i (pos 0) (rw six k), argument-of row i, add-one i) refl
 
-  unused-end : 6 ≤ i → unusedFrom log r i ≡ true
+  unused-end : 6 ≤ i → unusedFrom row i ≡ true
   unfolding unusedFrom all
-  unused-end k = rw (drop-of-length-le (arguments (rowAt log r)) {i = i} (rw (row-six log r h) k))
+  unused-end k = rw (drop-of-length-le (arguments row) {i = i} (rw six k))
 
--- the arguments from the n-th on, looked at from the first argument on: those before the n-th pass
-pub unused-start : (log : Words) (r n : ℕ) → unusedFrom log r n ≡ (true && unusedFrom log r (max n 0))
-unused-start log r n = let e : n ≡ max n 0 = omega arith in ap (unusedFrom log r) e
+-- the arguments from the n-th on, looked at from the first argument on: `used` is the index behind the last one so far that is
+-- not 0
+pub unused-start : (row : Words) (n : ℕ) → unusedFrom row n ≡ (leb 0 n && unusedFrom row (max n 0))
+unused-start row n = let e : n ≡ max n 0 = omega arith in rw (le-leb 0 n (omega arith)) (ap (unusedFrom row) e)
 
-module _ (log : Words) (r : ℕ) (h : 8 * r + 8 ≤ length log) (n i : ℕ) (clean : Bool) where
-  pub unused-turn :
+and-true : (a : Bool) → (a && true) ≡ a
+and-true true = refl
+and-true false = refl
+
+and-false : (a : Bool) → (a && false) ≡ false
+and-false true = refl
+and-false false = refl
+
+module _ (row : Words) (h : length row ≡ 8) (n i used : ℕ) where
+  pub unused-zero :
       i < 6 →
-      {empty : Bool} →
-      empty ≡ equal (word log (8 * r + 2 + i)) (pos 0) →
-      (clean && unusedFrom log r (max n i)) ≡ ((clean && (ltb i n || empty)) && unusedFrom log r (max n (i + 1)))
-  unused-turn k {empty} e =
+      equal (word row (2 + i)) (pos 0) ≡ true →
+      (leb used n && unusedFrom row (max n i)) ≡ (leb used n && unusedFrom row (max n (i + 1)))
+  unused-zero k e =
       ⊎-elim
-      (λ l.
-      let same : max n i ≡ max n (i + 1) = omega arith in
-      rw (lt-ltb i n l, same) (used clean (unusedFrom log r (max n (i + 1)))))
+      (λ l. let same : max n i ≡ max n (i + 1) = omega arith in rw same)
       (λ l.
       let here : max n i ≡ i = omega arith in
       let next : max n (i + 1) ≡ i + 1 = omega arith in
-      rw (le-ltb i n l, here, next, unused-cons log r h i k, e)
-      (and-assoc clean (equal (word log (8 * r + 2 + i)) (pos 0)) (unusedFrom log r (i + 1))))
+      rw (here, next, unused-cons row h i k, e))
       (side n i)
-    where
-      used : (a b : Bool) → (a && b) ≡ ((a && true) && b)
-      used true b = refl
-      used false b = refl
 
-      and-assoc : (a b c : Bool) → (a && (b && c)) ≡ ((a && b) && c)
-      and-assoc true b c = refl
-      and-assoc false b c = refl
+  pub unused-word :
+      i < 6 →
+      used ≤ i →
+      equal (word row (2 + i)) (pos 0) ≡ false →
+      (leb used n && unusedFrom row (max n i)) ≡ (leb (i + 1) n && unusedFrom row (max n (i + 1)))
+  unused-word k b e =
+      ⊎-elim
+      (λ l. let same : max n i ≡ max n (i + 1) = omega arith in rw (same, le-leb used n (omega arith), le-leb (i + 1) n (omega arith)))
+      (λ l. let here : max n i ≡ i = omega arith in rw (here, lt-leb (i + 1) n (omega arith), unused-cons row h i k, e) (and-false (leb used n)))
+      (side n i)
 
-  pub unused-last : 6 ≤ i → (clean && unusedFrom log r (max n i)) ≡ clean
-  unused-last k = rw (unused-end log r h (max n i) (omega arith)) (last clean)
-    where
-      last : (a : Bool) → (a && true) ≡ a
-      last true = refl
-      last false = refl
+  pub unused-last : 6 ≤ i → (leb used n && unusedFrom row (max n i)) ≡ leb used n
+  unused-last k = rw (unused-end row h (max n i) (omega arith)) (and-true (leb used n))
 
 -- equality of numbers and of lists is symmetric
 eqb-sym : (a b : ℕ) → eqb a b ≡ eqb b a
@@ -282,23 +294,24 @@ first-inside log p ns q (suc n) i e =
     (decide (holds p ns (rowAt log i)))
 
 -- question 9, test by test
-module _ (table log : Words) (r : ℕ) where
-  pub good-first : below (predicates table) (word log (8 * r)) ≡ false → false ≡ goodRow table (rowAt log r)
+module _ (table row : Words) where
+  pub good-first : below (predicates table) (word row 0) ≡ false → false ≡ goodRow table row
   unfolding goodRow
-  good-first e = rw (row-first log r, e)
+  good-first e = rw e
 
-  pub good-second : below (predicates table) (word log (8 * r)) ≡ true → within 0 1 (word log (8 * r + 1)) ≡ false → false ≡ goodRow table (rowAt log r)
+  pub good-second : below (predicates table) (word row 0) ≡ true → within 0 1 (word row 1) ≡ false → false ≡ goodRow table row
   unfolding goodRow
-  good-second e f = rw (row-first log r, row-word log r 1 (omega arith), e, f)
+  good-second e f = rw (e, f)
 
   pub good-third :
-      below (predicates table) (word log (8 * r)) ≡ true →
-      within 0 1 (word log (8 * r + 1)) ≡ true →
-      unusedFrom log r (arity table (value log (8 * r))) ≡ goodRow table (rowAt log r)
-  unfolding goodRow unusedFrom value
-  good-third e f = rw (row-first log r, row-word log r 1 (omega arith), e, f)
+      below (predicates table) (word row 0) ≡ true →
+      within 0 1 (word row 1) ≡ true →
+      unusedFrom row (arity table (value row 0)) ≡ goodRow table row
+  unfolding goodRow unusedFrom
+  good-third e f = rw (e, f)
 
-  -- the predicate of a good row is a number
+-- the predicate of a good row is a number
+module _ (table log : Words) (r : ℕ) where
   pub good-number : goodRow table (rowAt log r) ≡ true → atLeast 0 (word log (8 * r)) ≡ true
   unfolding goodRow below atLeast
   good-number e =

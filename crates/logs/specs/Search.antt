@@ -27,8 +27,8 @@ firstRow log p ns [] = Nothing
 firstRow log p ns (r ∷ rs) = cond (holds p ns (rowAt log r)) (At r) (firstRow log p ns rs)
 
 -- the arguments of a row from the n-th on are 0
-unfoldable pub unusedFrom : Words → ℕ → ℕ → Bool
-unusedFrom log row n = all (λ a. equal a (pos 0)) (drop n (arguments (rowAt log row)))
+unfoldable pub unusedFrom : Words → ℕ → Bool
+unusedFrom row n = all (λ a. equal a (pos 0)) (drop n (arguments row))
 
 -- an earlier row holds the atom of a row
 unfoldable pub repeatsAt : Words → ℕ → Bool

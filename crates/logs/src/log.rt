@@ -18,36 +18,37 @@ ghost use Rattle.tables.specs.Checked.{outcome};
 ghost use Rattle.logs.specs.Search.{askRows, repeatsAt, unusedFrom, Checks};
 
 // The arguments of a row from the n-th on are 0. All six are looked at, with no branch on the arity.
-fn unused(log: &[i32], row: usize, n: usize) -> bool
-    requires { ⌜ 8 * row + 8 ≤ length (now log) ⌝ }
-    ensures { λ r. ⌜ r ≡ unusedFrom (now (log .entry)) row n ⌝ }
+fn unused(row: &[i32], n: usize) -> bool
+    requires { ⌜ length (now row) ≡ 8 ⌝ }
+    ensures { λ r. ⌜ r ≡ unusedFrom (now (row .entry)) n ⌝ }
 {
-    let mut clean = true;
+    let mut used = 0;
     let mut i = 0;
     while i < 6 {
-        let empty = words::zero(log, 8 * row + 2 + i);
-        clean = clean & ((i < n) | empty);
+        if !words::zero(row, 2 + i) {
+            used = i + 1;
+        }
         i += 1;
     }
-    clean
+    used <= n
 }
 
-// Question 9 at a row.
-fn good_row(table: &[i32], log: &[i32], row: usize) -> bool
-    requires { ⌜ (length (now table) ≤ 768) × (8 * row + 8 ≤ length (now log)) ⌝ }
-    ensures { λ r. ⌜ r ≡ L.goodRow (now (table .entry)) (L.rowAt (now (log .entry)) row) ⌝ }
+// Question 9 of a row's words.
+fn good_row(table: &[i32], row: &[i32]) -> bool
+    requires { ⌜ (length (now table) ≤ 768) × (length (now row) ≡ 8) ⌝ }
+    ensures { λ r. ⌜ r ≡ L.goodRow (now (table .entry)) (now (row .entry)) ⌝ }
 {
-    let at = 8 * row;
-    if !words::below(log, at, table.len() / 3) {
+    if !words::below(row, 0, table.len() / 3) {
         return false;
     }
-    if !words::within(log, at + 1, 0, 1) {
+    if !words::within(row, 1, 0, 1) {
         return false;
     }
-    unused(log, row, table::arity(table, words::value(log, at)))
+    unused(row, table::arity(table, words::value(row, 0)))
 }
 
-// Question 10 at a row whose predicate is a number: the first row that holds its atom is an earlier one.
+// Question 10 at a row whose predicate is a number: the first row that holds its atom is an earlier one. A row that is the
+// first of its key needs no search.
 fn repeats(log: &[i32], keys: &[u16], links: &[u16], row: usize) -> bool
     requires { ⌜
         Keys rowKey (now log) (now keys)
@@ -59,6 +60,10 @@ fn repeats(log: &[i32], keys: &[u16], links: &[u16], row: usize) -> bool
 {
     let at = 8 * row;
     let start = keys[row] as usize;
+    let head = log.len() / 8 - links[start] as usize;
+    if head == row {
+        return false;
+    }
     let found = search::search(
         log,
         links,
@@ -84,7 +89,8 @@ fn check_rows(table: &[i32], log: &[i32], keys: &[u16], links: &[u16]) -> Checke
     let n = log.len() / 8;
     let mut row = 0;
     while row < n {
-        if !good_row(table, log, row) {
+        let at = 8 * row;
+        if !good_row(table, &log[at..at + 8]) {
             return Checked::Refused(Refusal::Row, row);
         }
         if repeats(log, keys, links, row) {

@@ -1,12 +1,12 @@
 -- `logs::log::check_rows` meets its contract. The loop's invariant: the rows passed are good and no row repeats, so the
 -- questions come to those at the rows left. The measure is their number.
-use Prim.Native.Nat.{ℕ, _-_, _/_, _≤_, _<_}
+use Prim.Native.Nat.{ℕ, _+_, _*_, _-_, _/_, _≤_, _<_}
 use native.Mathlib.Nat.{sub-zero}
 use native.Mathlib.Omega.{arith}
 use mathlib.Core.Path.{_≡_, refl, sym, ap, _∙_}
 use mathlib.Core.Bool.{true, false, not}
 use borrow.Author.Tests.{not-true, not-false}
-use lib.ListN.{length}
+use lib.ListN.{length, take, drop, length-take, length-drop}
 use Rattle.model.specs.declared.Refusal.the-variants.{Row, Repeat}
 use Rattle.model.specs.Words.{Words}
 use Rattle.model.specs.Lists.{span}
@@ -57,31 +57,57 @@ loop-holds c = (
   rows-start (c .before .before .args .table .now) (c .before .before .args .log .now) ∙ ap (λ (m : ℕ). inTurn (row-questions (c .before .before .args .table .now) (c .before .before .args .log .now)) (span 0 m)) (sym (sub-zero _)),
 )
 
+mul-at : tie.Need-mul-at Inv-loop μ-loop
+mul-at c = omega arith
+
+add-good-row : tie.Need-add-good-row Inv-loop μ-loop
+add-good-row c = omega arith
+
+mul-good-row : tie.Need-mul-good-row Inv-loop μ-loop
+mul-good-row c = omega arith
+
+sub-good-row : tie.Need-sub-good-row Inv-loop μ-loop
+sub-good-row c = omega arith
+
+part-good-row-start : tie.Need-part-good-row-start Inv-loop μ-loop
+part-good-row-start c = omega arith
+
+part-good-row-end : tie.Need-part-good-row-end Inv-loop μ-loop
+part-good-row-end c = omega arith
+
 good-row-requires : tie.Need-good-row-requires Inv-loop μ-loop
-good-row-requires c κs = (c .before .before .before .before .pre .0, omega arith)
+good-row-requires c κs = (c .before .before .before .before .before .pre .0, simp (length-take, length-drop) (omega arith))
+
+asked :
+    (c : tie.After-good-row Inv-loop μ-loop) →
+    goodRow (c .before .before .before .before .before .before .args .table .now) (rowAt (c .before .before .before .before .before .before .args .log .now) (c .before .before .before .loop .row)) ≡ c .good-row .result
+unfolding rowAt
+asked c =
+    let eight : (8 * c .before .before .before .loop .row + 8) - 8 * c .before .before .before .loop .row ≡ 8 = omega arith in
+    sym (c .good-row .ensures ∙ ap (λ (n : ℕ). goodRow (c .before .before .before .before .before .before .args .table .now) (take n (drop (8 * c .before .before .before .loop .row) (c .before .before .before .before .before .before .args .log .now)))) eight)
 
 returns : tie.Need-returns Inv-loop μ-loop
 returns c =
     sym
-    (c .before .before .before .loop .inv .1
-    ∙ turn-stop (row-questions (c .before .before .before .before .before .before .args .table .now) (c .before .before .before .before .before .before .args .log .now)) (c .before .before .before .loop .row) (length (c .before .before .before .before .before .before .args .log .now) / 8) (c .before .before .loop-test .taken)
-    (row-bad (c .before .before .before .before .before .before .args .table .now) (c .before .before .before .before .before .before .args .log .now) (c .before .before .before .loop .row) (sym (c .before .good-row .ensures) ∙ not-true _ (c .if1 .taken))))
+    (c .before .before .before .before .loop .inv .1
+    ∙ turn-stop (row-questions (c .before .before .before .before .before .before .before .args .table .now) (c .before .before .before .before .before .before .before .args .log .now)) (c .before .before .before .before .loop .row) (length (c .before .before .before .before .before .before .before .args .log .now) / 8) (c .before .before .before .loop-test .taken)
+    (row-bad (c .before .before .before .before .before .before .before .args .table .now) (c .before .before .before .before .before .before .before .args .log .now) (c .before .before .before .before .loop .row) (asked (c .before) ∙ not-true _ (c .if1 .taken))))
 
 is-good :
     (c : tie.Else1 Inv-loop μ-loop) →
-    goodRow (c .before .before .before .before .before .before .args .table .now) (rowAt (c .before .before .before .before .before .before .args .log .now) (c .before .before .before .loop .row)) ≡ true
-is-good c = sym (c .before .good-row .ensures) ∙ not-false _ (c .if1 .left)
+    goodRow (c .before .before .before .before .before .before .before .args .table .now) (rowAt (c .before .before .before .before .before .before .before .args .log .now) (c .before .before .before .before .loop .row)) ≡ true
+is-good c = asked (c .before) ∙ not-false _ (c .if1 .left)
 
 repeats-requires : tie.Need-repeats-requires Inv-loop μ-loop
 unfolding rowCount
-repeats-requires c κs = (c .before .before .before .before .before .before .pre .1, c .before .before .before .before .before .before .pre .2, c .before .before .loop-test .taken, good-number (c .before .before .before .before .before .before .args .table .now) (c .before .before .before .before .before .before .args .log .now) (c .before .before .before .loop .row) (is-good c))
+repeats-requires c κs = (c .before .before .before .before .before .before .before .pre .1, c .before .before .before .before .before .before .before .pre .2, c .before .before .before .loop-test .taken, good-number (c .before .before .before .before .before .before .before .args .table .now) (c .before .before .before .before .before .before .before .args .log .now) (c .before .before .before .before .loop .row) (is-good c))
 
 returns-2 : tie.Need-returns-2 Inv-loop μ-loop
 returns-2 c =
     sym
-    (c .before .before .before .before .before .loop .inv .1
-    ∙ turn-stop (row-questions (c .before .before .before .before .before .before .before .before .args .table .now) (c .before .before .before .before .before .before .before .before .args .log .now)) (c .before .before .before .before .before .loop .row) (length (c .before .before .before .before .before .before .before .before .args .log .now) / 8) (c .before .before .before .before .loop-test .taken)
-    (row-repeats (c .before .before .before .before .before .before .before .before .args .table .now) (c .before .before .before .before .before .before .before .before .args .log .now) (c .before .before .before .before .before .loop .row) (is-good (c .before .before)) (sym (c .before .repeats .ensures) ∙ c .if2 .taken)))
+    (c .before .before .before .before .before .before .loop .inv .1
+    ∙ turn-stop (row-questions (c .before .before .before .before .before .before .before .before .before .args .table .now) (c .before .before .before .before .before .before .before .before .before .args .log .now)) (c .before .before .before .before .before .before .loop .row) (length (c .before .before .before .before .before .before .before .before .before .args .log .now) / 8) (c .before .before .before .before .before .loop-test .taken)
+    (row-repeats (c .before .before .before .before .before .before .before .before .before .args .table .now) (c .before .before .before .before .before .before .before .before .before .args .log .now) (c .before .before .before .before .before .before .loop .row) (is-good (c .before .before)) (sym (c .before .repeats .ensures) ∙ c .if2 .taken)))
 
 add-row : tie.Need-add-row Inv-loop μ-loop
 add-row c = omega arith
@@ -92,9 +118,9 @@ loop-less c = omega arith
 loop-again : tie.Need-loop-again Inv-loop μ-loop
 loop-again c = (
   omega arith,
-  c .before .before .before .before .before .loop .inv .1
-      ∙ turn-step (row-questions (c .before .before .before .before .before .before .before .before .args .table .now) (c .before .before .before .before .before .before .before .before .args .log .now)) (c .before .before .before .before .before .loop .row) (length (c .before .before .before .before .before .before .before .before .args .log .now) / 8) (c .before .before .before .before .loop-test .taken)
-      (row-passed (c .before .before .before .before .before .before .before .before .args .table .now) (c .before .before .before .before .before .before .before .before .args .log .now) (c .before .before .before .before .before .loop .row) (is-good (c .before .before)) (sym (c .before .repeats .ensures) ∙ c .if2 .left)),
+  c .before .before .before .before .before .before .loop .inv .1
+      ∙ turn-step (row-questions (c .before .before .before .before .before .before .before .before .before .args .table .now) (c .before .before .before .before .before .before .before .before .before .args .log .now)) (c .before .before .before .before .before .before .loop .row) (length (c .before .before .before .before .before .before .before .before .before .args .log .now) / 8) (c .before .before .before .before .before .loop-test .taken)
+      (row-passed (c .before .before .before .before .before .before .before .before .before .args .table .now) (c .before .before .before .before .before .before .before .before .before .args .log .now) (c .before .before .before .before .before .before .loop .row) (is-good (c .before .before)) (sym (c .before .repeats .ensures) ∙ c .if2 .left)),
 )
 
 returns-3 : tie.Need-returns-3 Inv-loop μ-loop
@@ -108,6 +134,12 @@ check-rows-spec =
     Inv-loop
     μ-loop
     loop-holds
+    mul-at
+    add-good-row
+    mul-good-row
+    sub-good-row
+    part-good-row-start
+    part-good-row-end
     good-row-requires
     returns
     repeats-requires

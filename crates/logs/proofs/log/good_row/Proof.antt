@@ -13,9 +13,6 @@ use borrow.Author.Needs.{needs}
 use Rattle.logs.proofs.log.good_row.Statement.{statement}
 use Rattle.logs.proofs.log.good_row.Tie as tie
 
-mul-at : tie.Need-mul-at
-mul-at c = search needs
-
 below-requires : tie.Need-below-requires
 below-requires c κs = search needs
 
@@ -23,10 +20,7 @@ returns : tie.Need-returns
 unfolding predicates
 returns c =
     let a = c .before .before .args in
-    good-first (a .table .now) (a .log .now) (a .row) (sym (c .before .below .ensures) ∙ not-true _ (c .if1 .taken))
-
-add-within : tie.Need-add-within
-add-within c = search needs
+    good-first (a .table .now) (a .row .now) (sym (c .before .below .ensures) ∙ not-true _ (c .if1 .taken))
 
 within-requires : tie.Need-within-requires
 within-requires c κs = search needs
@@ -35,7 +29,7 @@ returns-2 : tie.Need-returns-2
 unfolding predicates
 returns-2 c =
     let a = c .before .before .before .before .args in
-    good-second (a .table .now) (a .log .now) (a .row)
+    good-second (a .table .now) (a .row .now)
     (sym (c .before .before .before .below .ensures) ∙ not-false _ (c .before .before .if1 .left))
     (sym (c .before .within .ensures) ∙ not-true _ (c .if2 .taken))
 
@@ -59,8 +53,8 @@ returns-3 c =
     let b = c .before .before .before .before .before .before in
     let a = b .before .args in
     c .unused .ensures
-    ∙ ap (unusedFrom (a .log .now) (a .row)) (c .before .arity .ensures ∙ ap (arity (a .table .now)) (c .before .before .value .ensures))
-    ∙ good-third (a .table .now) (a .log .now) (a .row)
+    ∙ ap (unusedFrom (a .row .now)) (c .before .arity .ensures ∙ ap (arity (a .table .now)) (c .before .before .value .ensures))
+    ∙ good-third (a .table .now) (a .row .now)
     (sym (b .below .ensures) ∙ not-false _ (c .before .before .before .before .before .if1 .left))
     (sym (c .before .before .before .before .within .ensures) ∙ not-false _ (c .before .before .before .if2 .left))
 
@@ -68,10 +62,8 @@ pub good-row-spec : {M : Type 1} → statement M
 good-row-spec =
     tie.close
     (tie.spec
-    mul-at
     below-requires
     returns
-    add-within
     within-requires
     returns-2
     value-requires
