@@ -7,3 +7,6 @@ pub mod Keeping
 pub mod Finishing
 pub mod Lending
 pub mod Children
+pub mod Answering
+pub mod GroundLaws
+pub mod LastLaws

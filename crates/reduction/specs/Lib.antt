@@ -1,2 +1,4 @@
 pub mod Answer
 pub mod Join
+pub mod Ground
+pub mod Last

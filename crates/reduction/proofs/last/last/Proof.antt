@@ -1,0 +1,136 @@
+-- `reduction::last::last` meets its contract: the front words and the two copies are laid one behind another, and are the words of
+-- the quantifier with the tuples found.
+use native.Mathlib.Omega.{arith}
+use lib.ListN.{length}
+use borrow.Author.Needs.{needs}
+use Rattle.reduction.proofs.LastLaws.{here-sizes, here-fronts, here-restriction, here-body, remains-long, remains-part}
+use borrow.Author.Needs.{needs}
+use Rattle.reduction.proofs.last.last.Statement.{statement}
+use Rattle.reduction.proofs.last.last.Tie as tie
+
+add-value : tie.Need-add-value
+add-value c = search needs
+
+value-requires : tie.Need-value-requires
+value-requires c κs = search needs
+
+add-value-2 : tie.Need-add-value-2
+add-value-2 c = search needs
+
+value-requires-2 : tie.Need-value-requires-2
+value-requires-2 c κs = search needs
+
+add-start : tie.Need-add-start
+add-start c = search needs
+
+mul-start : tie.Need-mul-start
+mul-start c =
+    let a = c .before .before .args in
+    let h = here-sizes (a .words .now) (a .scope) (a .at) (a .body) (a .next) (a .k) (c .before .value .result) (c .value2 .result) (c .before .value .ensures) (c .value2 .ensures) (c .before .before .pre .2) in
+    omega (arith, c .before .before .good, c .before .before .pre .1)
+
+add-start-2 : tie.Need-add-start-2
+add-start-2 c =
+    let a = c .before .before .args in
+    let h = here-sizes (a .words .now) (a .scope) (a .at) (a .body) (a .next) (a .k) (c .before .value .result) (c .value2 .result) (c .before .value .ensures) (c .value2 .ensures) (c .before .before .pre .2) in
+    omega (arith, c .before .before .good, c .before .before .pre .1)
+
+add-to : tie.Need-add-to
+add-to c =
+    let a = c .before .before .args in
+    let h = here-sizes (a .words .now) (a .scope) (a .at) (a .body) (a .next) (a .k) (c .before .value .result) (c .value2 .result) (c .before .value .ensures) (c .value2 .ensures) (c .before .before .pre .2) in
+    omega (arith, c .before .before .good, c .before .before .pre .1)
+
+mul-to : tie.Need-mul-to
+mul-to c =
+    let a = c .before .before .args in
+    let h = here-sizes (a .words .now) (a .scope) (a .at) (a .body) (a .next) (a .k) (c .before .value .result) (c .value2 .result) (c .before .value .ensures) (c .value2 .ensures) (c .before .before .pre .2) in
+    omega (arith, c .before .before .good, c .before .before .pre .1)
+
+add-to-2 : tie.Need-add-to-2
+add-to-2 c =
+    let a = c .before .before .args in
+    let h = here-sizes (a .words .now) (a .scope) (a .at) (a .body) (a .next) (a .k) (c .before .value .result) (c .value2 .result) (c .before .value .ensures) (c .value2 .ensures) (c .before .before .pre .2) in
+    omega (arith, c .before .before .good, c .before .before .pre .1)
+
+sub-size : tie.Need-sub-size
+sub-size c =
+    let a = c .before .before .args in
+    let h = here-sizes (a .words .now) (a .scope) (a .at) (a .body) (a .next) (a .k) (c .before .value .result) (c .value2 .result) (c .before .value .ensures) (c .value2 .ensures) (c .before .before .pre .2) in
+    omega (arith, c .before .before .good, c .before .before .pre .1)
+
+add-size : tie.Need-add-size
+add-size c =
+    let a = c .before .before .args in
+    let h = here-sizes (a .words .now) (a .scope) (a .at) (a .body) (a .next) (a .k) (c .before .value .result) (c .value2 .result) (c .before .value .ensures) (c .value2 .ensures) (c .before .before .pre .2) in
+    omega (arith, c .before .before .good, c .before .before .pre .1)
+
+returns : tie.Need-returns
+returns c =
+    let a = c .before .before .before .args in
+    remains-long (a .words .now) (a .scope) (a .at) (a .body) (a .next) (a .k) (c .before .before .value .result) (c .before .value2 .result) (c .before .before .value .ensures) (c .before .value2 .ensures) (a .scratch .now) (a .environment) (a .from) (c .before .before .before .pre .1) (a .out .now) (c .if1 .taken)
+
+front-requires : tie.Need-front-requires
+front-requires c κs =
+    let a = c .before .before .before .before .args in
+    here-fronts (a .words .now) (a .scope) (a .at) (a .body) (a .next) (a .k) (c .before .before .before .value .result) (c .before .before .value2 .result) (c .before .before .before .value .ensures) (c .before .before .value2 .ensures) (length (a .out .now)) (omega arith) (c .before .before .before .before .pre .2) (a .scratch .now) (a .from) (c .before .before .before .before .pre .1) (c .before .before .before .before .pre .0)
+
+copy-at-requires : tie.Need-copy-at-requires
+copy-at-requires c κs =
+    let a = c .before .before .before .before .before .before .before .args in
+    let h = here-sizes (a .words .now) (a .scope) (a .at) (a .body) (a .next) (a .k) (c .before .before .before .before .before .before .value .result) (c .before .before .before .before .before .value2 .result) (c .before .before .before .before .before .before .value .ensures) (c .before .before .before .before .before .value2 .ensures) (c .before .before .before .before .before .before .before .pre .2) in
+    (omega arith, here-restriction (a .words .now) (a .scope) (a .at) (a .body) (a .next) (a .k) (c .before .before .before .before .before .before .value .result) (c .before .before .before .before .before .value2 .result) (c .before .before .before .before .before .before .value .ensures) (c .before .before .before .before .before .value2 .ensures) _ (omega (arith, c .before .before .front .kept .1 .1 .1 .1 .1 .1 .0)) (c .before .before .before .before .before .before .before .pre .2))
+
+sub-copy-at : tie.Need-sub-copy-at
+sub-copy-at c =
+    let a = c .before .before .before .before .before .before .before .before .before .before .args in
+    let h = here-sizes (a .words .now) (a .scope) (a .at) (a .body) (a .next) (a .k) (c .before .before .before .before .before .before .before .before .before .value .result) (c .before .before .before .before .before .before .before .before .value2 .result) (c .before .before .before .before .before .before .before .before .before .value .ensures) (c .before .before .before .before .before .before .before .before .value2 .ensures) (c .before .before .before .before .before .before .before .before .before .before .pre .2) in
+    omega (arith, c .before .before .before .before .before .before .before .before .before .before .good, c .before .before .before .before .before .before .before .before .before .before .pre .1)
+
+add-copy-at : tie.Need-add-copy-at
+add-copy-at c =
+    let a = c .before .before .before .before .before .before .before .before .before .before .args in
+    let h = here-sizes (a .words .now) (a .scope) (a .at) (a .body) (a .next) (a .k) (c .before .before .before .before .before .before .before .before .before .value .result) (c .before .before .before .before .before .before .before .before .value2 .result) (c .before .before .before .before .before .before .before .before .before .value .ensures) (c .before .before .before .before .before .before .before .before .value2 .ensures) (c .before .before .before .before .before .before .before .before .before .before .pre .2) in
+    omega (arith, c .before .before .before .before .before .before .before .before .before .before .good, c .before .before .before .before .before .before .before .before .before .before .pre .1)
+
+copy-at-requires-2 : tie.Need-copy-at-requires-2
+copy-at-requires-2 c κs =
+    let a = c .before .before .before .before .before .before .before .before .before .before .args in
+    let h = here-sizes (a .words .now) (a .scope) (a .at) (a .body) (a .next) (a .k) (c .before .before .before .before .before .before .before .before .before .value .result) (c .before .before .before .before .before .before .before .before .value2 .result) (c .before .before .before .before .before .before .before .before .before .value .ensures) (c .before .before .before .before .before .before .before .before .value2 .ensures) (c .before .before .before .before .before .before .before .before .before .before .pre .2) in
+    (omega arith, here-body (a .words .now) (a .scope) (a .at) (a .body) (a .next) (a .k) (c .before .before .before .before .before .before .before .before .before .value .result) (c .before .before .before .before .before .before .before .before .value2 .result) (c .before .before .before .before .before .before .before .before .before .value .ensures) (c .before .before .before .before .before .before .before .before .value2 .ensures) _ (omega (arith, c .before .before .before .before .before .front .kept .1 .1 .1 .1 .1 .1 .0, c .before .before .copy-at .kept .1 .1 .1 .1 .0)) (c .before .before .before .before .before .before .before .before .before .before .pre .2))
+
+same-length : tie.Need-same-length
+same-length c = search needs
+
+returns-2 : tie.Need-returns-2
+returns-2 c =
+    let a = c .before .before .before .before .before .before .before .before .before .before .before .before .args in
+    remains-part (a .words .now) (a .scope) (a .at) (a .body) (a .next) (a .k) (c .before .before .before .before .before .before .before .before .before .before .before .value .result) (c .before .before .before .before .before .before .before .before .before .before .value2 .result) (c .before .before .before .before .before .before .before .before .before .before .before .value .ensures) (c .before .before .before .before .before .before .before .before .before .before .value2 .ensures) (a .scratch .now) (a .environment) (a .from) (c .before .before .before .before .before .before .before .before .before .before .before .before .pre .1) (a .out .now) _ _ _ (omega arith)
+    (c .before .before .before .before .before .before .before .front .kept .1 .1 .1 .1 .1 .1 .0) (omega (arith, c .before .before .before .before .before .before .before .front .kept .1 .1 .1 .1 .1 .1 .0, c .before .before .before .before .copy-at .kept .1 .1 .1 .1 .0))
+    (omega (arith, c .before .before .before .before .before .before .before .front .kept .1 .1 .1 .1 .1 .1 .0, c .before .before .before .before .copy-at .kept .1 .1 .1 .1 .0, c .before .copy-at2 .kept .1 .1 .1 .1 .0))
+    (c .before .before .before .before .before .before .before .front .ensures) (c .before .before .before .before .copy-at .ensures) (c .before .copy-at2 .ensures)
+
+pub last-spec : {M : Type 1} → statement M
+last-spec =
+    tie.close
+    (tie.spec
+    add-value
+    value-requires
+    add-value-2
+    value-requires-2
+    add-start
+    mul-start
+    add-start-2
+    add-to
+    mul-to
+    add-to-2
+    sub-size
+    add-size
+    returns
+    front-requires
+    copy-at-requires
+    sub-copy-at
+    add-copy-at
+    copy-at-requires-2
+    same-length
+    returns-2)

@@ -1,0 +1,79 @@
+-- The code's environment that binds the outer variables alone, and what is asked and said of ground atoms and comparisons.
+use Prim.Native.Nat.{ℕ, _≤_}
+use mathlib.Core.Path.{_≡_}
+use mathlib.Core.Bool.{Bool}
+use mathlib.Core.List.{List, map}
+use lib.ListN.{length}
+use lib.IntN.{ℤ}
+use Rattle.model.specs.Words.{Words, same, scopeLimit}
+use Rattle.model.specs.Tree.{Term, atom, compare}
+use Rattle.model.specs.Level.{Role}
+use Rattle.model.specs.Log.{rows, valueIn}
+use Rattle.model.specs.Truth.{numberOf, sumAtMost}
+use Rattle.model.specs.Listing.{outer}
+use Rattle.model.specs.Putting.{put}
+use Rattle.model.specs.Reduction.{reduce}
+use Rattle.laws.specs.Reading.Nodes.{Node}
+use Rattle.logs.specs.declared.value.Value.{Value}
+use Rattle.logs.specs.Search.{asValue}
+use Rattle.preorder.specs.Grown.{Grown}
+use Rattle.listing.specs.declared.environment.Environment.{Environment as Held}
+use Rattle.listing.specs.Environment.{Holds}
+use Rattle.reduction.specs.declared.answer.Reduced.{Reduced}
+use Rattle.reduction.specs.declared.answer.Reduced.the-variants.{Plain}
+use Rattle.reduction.specs.Answer.{Answers}
+
+-- the code's environment binds exactly the outer variables, so many, to the numbers ρ
+abbrev pub Outer : Held → ℕ → List ℤ → Type 0
+Outer held scope ρ = Holds held (outer ρ) × (length ρ ≡ scope)
+
+-- an atom stands at an index in some role; an atom's words stand there; a comparison, with sixteen variables or fewer in scope
+abbrev pub AtomAt : Words → Words → ℕ → Bool → ℕ → Type 0
+AtomAt table words scope b at =
+    (role : Role) × (above : ℕ) × (p : ℕ) × (ts : List Term) × (next : ℕ) × Node table words role above scope at (atom b p ts) next
+
+abbrev pub GrownAtom : Words → ℕ → Type 0
+GrownAtom words at = (b : Bool) × (p : ℕ) × (ts : List Term) × (next : ℕ) × Grown words at (atom b p ts) next
+
+abbrev pub CompareAt : Words → Bool → ℕ → Type 0
+CompareAt words b at =
+    (table : Words) × (role : Role) × (above : ℕ) × (scope : ℕ) × (scope ≤ scopeLimit)
+    × (d : ℤ) × (x : Term) × (y : Term) × (next : ℕ) × Node table words role above scope at (compare b d x y) next
+
+-- r is the value of the atom at an index
+abbrev pub Values : Words → Words → Words → Held → ℕ → Value → Type 0
+Values table words log held at r =
+    (ρ : List ℤ) (scope : ℕ) →
+    Outer held scope ρ →
+    (role : Role) (above : ℕ) (b : Bool) (p : ℕ) (ts : List Term) (next : ℕ) →
+    Node table words role above scope at (atom b p ts) next →
+    asValue r ≡ valueIn table (rows log) p (map (numberOf ρ) ts)
+
+-- r says that the atom at an index stays
+abbrev pub Stays : Words → Held → ℕ → ℕ → Words → Words → Reduced → Type 0
+Stays words held scope at before after r =
+    (ρ : List ℤ) →
+    Outer held scope ρ →
+    (b : Bool) (p : ℕ) (ts : List Term) (next : ℕ) →
+    Grown words at (atom b p ts) next →
+    (places : ℕ) →
+    Answers places 0 (put (atom b p ts) ρ) before after r
+
+-- r is the reduction of the atom at an index
+abbrev pub ReducesAtom : Words → Words → Words → Held → ℕ → Bool → ℕ → Words → Words → Reduced → Type 0
+ReducesAtom table words log held scope b at before after r =
+    (ρ : List ℤ) →
+    Outer held scope ρ →
+    (role : Role) (above p : ℕ) (ts : List Term) (next : ℕ) →
+    Node table words role above scope at (atom b p ts) next →
+    (places : ℕ) →
+    Answers places 0 (reduce table (rows log) (atom b p ts) ρ) before after r
+
+-- r is the reduction of the comparison at an index
+abbrev pub ReducesCompare : Words → Held → Bool → ℕ → Reduced → Type 0
+ReducesCompare words held b at r =
+    (ρ : List ℤ) (scope : ℕ) →
+    Outer held scope ρ →
+    (table : Words) (role : Role) (above : ℕ) (d : ℤ) (x y : Term) (next : ℕ) →
+    Node table words role above scope at (compare b d x y) next →
+    r ≡ Plain (same b (sumAtMost d (numberOf ρ x) (numberOf ρ y)))

@@ -1,0 +1,115 @@
+// The reduction of ground atoms and comparisons, all of whose variables are outer ones, and the environment of an instance.
+use crate::answer::Reduced;
+use listing::environment::Environment;
+use listing::terms;
+use logs::value;
+use logs::value::Value;
+use preorder::putting;
+use tables::words;
+ghost use mathlib.Core.List.{List, _++_};
+ghost use Prim.Native.Nat.{_+_, _*_, _≤_};
+ghost use lib.ListN.{length, take, drop};
+ghost use lib.IntN.{ℤ};
+ghost use Rattle.policies.specs.Mode.{HereAtom};
+ghost use Rattle.listing.specs.Restrictions.{Looks};
+ghost use Rattle.reduction.specs.Ground.{Outer, AtomAt, GrownAtom, CompareAt, Values, Stays, ReducesAtom, ReducesCompare};
+
+// The value of the ground atom at an index.
+fn value_at(
+    table: &[i32],
+    words: &[i32],
+    log: &[i32],
+    atoms: &[u16],
+    environment: Environment,
+    at: usize,
+) -> Value
+    requires { ⌜ Looks (now table) (now log) (now atoms) × HereAtom (now table) (now words) at ⌝ }
+    ensures { λ r. ⌜ Values (now (table .entry)) (now (words .entry)) (now (log .entry)) environment at r ⌝ }
+{
+    let predicate = words::value(words, at + 1);
+    let n = words::value(words, at + 2);
+    let numbers = terms::arguments(environment, words, at + 3, n);
+    value::value_of(table, log, atoms, predicate, &numbers)
+}
+
+// The atom at an index stays, with the outer numbers put in, if it fits.
+fn stay(
+    words: &[i32],
+    environment: Environment,
+    scope: usize,
+    at: usize,
+    out: &mut [i32],
+) -> Reduced
+    requires { ⌜ (scope ≤ 16) × GrownAtom (now words) at ⌝ }
+    ensures { λ r. ⌜ Stays (now (words .entry)) environment scope at (now (out .entry)) (now (out .exit)) r ⌝ }
+{
+    let size = 3 + 2 * words::value(words, at + 2);
+    if out.len() < size {
+        return Reduced::Long;
+    }
+    let numbers = environment.numbers;
+    putting::copy(numbers, scope, words, at, out);
+    Reduced::Part(size)
+}
+
+// The atom at an index, which holds or fails: plain if its value is known, else it stays.
+pub fn atom(
+    table: &[i32],
+    words: &[i32],
+    log: &[i32],
+    atoms: &[u16],
+    environment: Environment,
+    scope: usize,
+    holds: bool,
+    at: usize,
+    out: &mut [i32],
+) -> Reduced
+    requires { ⌜
+        Looks (now table) (now log) (now atoms)
+        × (scope ≤ 16)
+        × AtomAt (now table) (now words) scope holds at
+        ⌝ }
+    ensures { λ r. ⌜
+        ReducesAtom (now (table .entry)) (now (words .entry)) (now (log .entry)) environment scope holds at (now (out .entry)) (now (out .exit)) r
+        ⌝ }
+{
+    let found = value_at(table, words, log, atoms, environment, at);
+    match found {
+        Value::True => Reduced::Plain(holds),
+        Value::False => Reduced::Plain(!holds),
+        Value::Open => stay(words, environment, scope, at, out),
+    }
+}
+
+// The comparison at an index, which is to hold or to fail.
+pub fn compare(words: &[i32], environment: Environment, holds: bool, at: usize) -> Reduced
+    requires { ⌜ CompareAt (now words) holds at ⌝ }
+    ensures { λ r. ⌜ ReducesCompare (now (words .entry)) environment holds at r ⌝ }
+{
+    Reduced::Plain(holds == terms::compare(environment, words, at))
+}
+
+// The environment with v variables more, bound to the numbers of an instance in a place of scratch.
+pub fn instance(
+    environment: Environment,
+    scratch: &[i32],
+    place: usize,
+    scope: usize,
+    v: usize,
+) -> Environment
+    requires { ⌜ (scope + v ≤ 16) × (17 * place + 17 ≤ length (now scratch)) ⌝ }
+    ensures { λ r. ⌜
+        ((ρ : List ℤ) →
+        Outer environment scope ρ →
+        Outer r (scope + v) (ρ ++ take v (drop (17 * place + scope) (now (scratch .entry)))))
+        ⌝ }
+{
+    let from = Environment::WORDS * place + scope;
+    let mut bound = environment;
+    let mut i = 0;
+    while i < v {
+        bound = bound.bind(scope + i, scratch[from + i]);
+        i += 1;
+    }
+    bound
+}
