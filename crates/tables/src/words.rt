@@ -1,5 +1,5 @@
-// Words: reads of and tests on the signed numbers of a slice. All other code goes through these, and so never holds a
-// signed number itself. Past the end of a slice stands 0.
+// Words: reads of and tests on the signed numbers of a slice. The checks go through these, and so never hold a signed
+// number themselves. Past the end of a slice stands 0.
 ghost use mathlib.Core.Path.{_≡_};
 ghost use mathlib.Core.Bool.{_&&_};
 ghost use lib.IntN.{pos, natAbs};
