@@ -278,11 +278,11 @@ module _
   abbrev parts : QuantifierParts (q .table) words scope at next v excluded c f (q .above + quantifierCost (q .role) b) (at + 3 + v * length excluded)
   parts = quantifier-parts (q .table) words (q .role) (q .above) scope at next b v excluded c f (q .node)
 
-  reads-v : value words (at + 1) ≡ v
+  pub reads-v : value words (at + 1) ≡ v
   unfolding value
   reads-v = ap natAbs (parts .variables)
 
-  reads-m : value words (at + 2) ≡ length excluded
+  pub reads-m : value words (at + 2) ≡ length excluded
   unfolding value
   reads-m = ap natAbs (parts .number)
 

@@ -10,3 +10,9 @@ pub mod Children
 pub mod Answering
 pub mod GroundLaws
 pub mod LastLaws
+pub mod Concluding
+pub mod Preparing
+pub mod WalkChildren
+pub mod WalkNodes
+pub mod WalkInstances
+pub mod WalkQuantifier

@@ -2,3 +2,6 @@ pub mod Answer
 pub mod Join
 pub mod Ground
 pub mod Last
+pub mod Prepare
+pub mod Conclude
+pub mod Walk
