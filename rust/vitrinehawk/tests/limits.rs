@@ -161,3 +161,12 @@ fn the_longest_logs() {
     repeated[8 * 4095 + 7] = 1;
     assert_eq!(check_log(&FULL_LOG_TABLE, &repeated), refused(Refusal::Row, 4095));
 }
+
+/// The frame of the log check has 48 KiB of links and keys; the rest of a small stack is enough for everything else.
+#[test]
+fn the_longest_log_on_a_small_stack() {
+    let log = full_log(4096);
+    let small = std::thread::Builder::new().stack_size(64 << 10);
+    let checked = small.spawn(move || check_log(&FULL_LOG_TABLE, &log));
+    assert_eq!(checked.unwrap().join().unwrap(), Ok(4096));
+}
