@@ -14,8 +14,8 @@ use Rattle.model.specs.Putting.{put}
 use Rattle.model.specs.Joining.{append}
 use Rattle.model.specs.Reduction.{settle, closed, each, most, instances, reduce, reduceAll, need, needAll}
 use Rattle.laws.specs.Joining.{All, result-all}
-use Rattle.reduction.specs.Join.{Wide}
-use Rattle.reduction.proofs.Parts.{joined-wide}
+use Rattle.joining.specs.Join.{Wide}
+use Rattle.joining.proofs.Parts.{joined-wide}
 
 settle-wide : (v : Value) (b : Bool) (p : ℕ) (ts : List Term) (ρ : List ℤ) → Wide (settle v b (put (atom b p ts) ρ))
 unfolding settle put Wide

@@ -17,14 +17,14 @@ use Rattle.laws.specs.Reading.Parts.{quantifier-parts}
 use Rattle.listing.specs.declared.environment.Environment.{Environment}
 use Rattle.listing.specs.Keeping.{RestrictionAt}
 use Rattle.listing.specs.Closing.{TellsClosed}
-use Rattle.reduction.specs.declared.answer.Reduced.{Reduced}
-use Rattle.reduction.specs.declared.join.Join.{Join}
-use Rattle.reduction.specs.Answer.{Answers}
-use Rattle.reduction.specs.Join.{Joining, Wide, Adding, added}
+use Rattle.joining.specs.declared.answer.Reduced.{Reduced}
+use Rattle.joining.specs.declared.join.Join.{Join}
+use Rattle.joining.specs.Answer.{Answers}
+use Rattle.joining.specs.Join.{Joining, Wide, Adding, added}
 use Rattle.reduction.specs.Last.{QuantifierAt, HereQuantifier, Remains}
 use Rattle.reduction.specs.Conclude.{Concluding, lastPart, concluded}
-use Rattle.reduction.proofs.Parts.{append-none}
-use Rattle.reduction.proofs.Lending.{rest, lent, lent-long, adding, answers-from}
+use Rattle.joining.proofs.Parts.{append-none}
+use Rattle.joining.proofs.Lending.{rest, lent, lent-long, adding, answers-from}
 use Rattle.reduction.proofs.LastLaws.{Sizes, here-sizes, reads-v, reads-m}
 
 -- what finishing a join says

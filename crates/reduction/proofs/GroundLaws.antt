@@ -42,12 +42,12 @@ use Rattle.listing.specs.declared.environment.Environment.{Environment as Held}
 use Rattle.listing.specs.Environment.{numbersOf, Holds}
 use Rattle.listing.specs.Places.{numbers-length, number-at}
 use Rattle.listing.proofs.TermLaws.{sum-same}
-use Rattle.reduction.specs.declared.answer.Reduced.{Reduced}
-use Rattle.reduction.specs.declared.answer.Reduced.the-variants.{Plain, Long, Part}
-use Rattle.reduction.specs.Answer.{Answers}
+use Rattle.joining.specs.declared.answer.Reduced.{Reduced}
+use Rattle.joining.specs.declared.answer.Reduced.the-variants.{Plain, Long, Part}
+use Rattle.joining.specs.Answer.{Answers}
 use Rattle.reduction.specs.Ground.{Outer, AtomAt, GrownAtom, CompareAt, Values, Stays, ReducesAtom, ReducesCompare}
-use Rattle.reduction.proofs.Parts.{Solid}
-use Rattle.reduction.proofs.Answering.{answers-plain, answers-long, answers-part}
+use Rattle.joining.proofs.Parts.{Solid}
+use Rattle.joining.proofs.Answering.{answers-plain, answers-long, answers-part}
 
 -- an atom that is known to be true, or false
 same-true : (b : Bool) → same true b ≡ b

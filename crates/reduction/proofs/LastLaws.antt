@@ -27,12 +27,12 @@ use Rattle.preorder.specs.Laying.{laid, laid-long, laid-laid, laid-word, laid-f
 use Rattle.listing.specs.Instances.{Instanced, instance-count, instance-tuple}
 use Rattle.listing.specs.Lists.{gather-append}
 use Rattle.listing.specs.declared.environment.Environment.{Environment as Held}
-use Rattle.reduction.specs.declared.answer.Reduced.the-variants.{Long, Part}
+use Rattle.joining.specs.declared.answer.Reduced.the-variants.{Long, Part}
 use Rattle.reduction.specs.Last.{tupleWords, headWords, excludedWords, frontWords, Fronts, CopyRoom, QuantifierAt, HereQuantifier, Found, Remains}
-use Rattle.reduction.proofs.Parts.{Solid}
-use Rattle.reduction.proofs.Answering.{answers-long, answers-part}
+use Rattle.joining.proofs.Parts.{Solid}
+use Rattle.joining.proofs.Answering.{answers-long, answers-part}
 use Rattle.reduction.proofs.GroundLaws.{outer-numbers}
-use Rattle.reduction.proofs.Lending.{rest, rest-long, lent, lent-front, lent-part}
+use Rattle.joining.proofs.Lending.{rest, rest-long, lent, lent-front, lent-part}
 
 -- the words of tuples: how many
 tuples-long :

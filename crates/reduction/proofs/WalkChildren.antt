@@ -17,17 +17,17 @@ use Rattle.laws.specs.Reading.Nodes.{Node, Nodes}
 use Rattle.laws.specs.Reading.Parts.{first-parts, rest-parts}
 use Rattle.policies.specs.Mode.{Here, HereAll}
 use Rattle.listing.specs.declared.environment.Environment.{Environment}
-use Rattle.reduction.specs.declared.answer.Reduced.{Reduced}
-use Rattle.reduction.specs.declared.answer.Reduced.the-variants.{Short}
-use Rattle.reduction.specs.declared.join.Join.{Join}
+use Rattle.joining.specs.declared.answer.Reduced.{Reduced}
+use Rattle.joining.specs.declared.answer.Reduced.the-variants.{Short}
+use Rattle.joining.specs.declared.join.Join.{Join}
 use Rattle.reduction.specs.declared.walk.Walked.{Walked}
-use Rattle.reduction.specs.Answer.{told, Answers}
-use Rattle.reduction.specs.Join.{Joining, Adding, added}
+use Rattle.joining.specs.Answer.{told, Answers}
+use Rattle.joining.specs.Join.{Joining, Adding, added}
 use Rattle.reduction.specs.Ground.{Outer}
 use Rattle.reduction.specs.Walk.{ReducesNode, ReducesJoin}
-use Rattle.reduction.proofs.Parts.{append-none}
-use Rattle.reduction.proofs.Telling.{told-short, tell-short}
-use Rattle.reduction.proofs.Lending.{rest, lent, adding}
+use Rattle.joining.proofs.Parts.{append-none}
+use Rattle.joining.proofs.Telling.{told-short, tell-short}
+use Rattle.joining.proofs.Lending.{rest, lent, adding}
 use Rattle.reduction.proofs.Children.{reduce-wide, reduceAll-more, needAll-more}
 
 -- one tree of those left joins those passed

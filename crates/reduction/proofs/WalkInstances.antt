@@ -26,18 +26,18 @@ use Rattle.policies.specs.Mode.{Here}
 use Rattle.preorder.specs.Grown.{Grown, Tree-at}
 use Rattle.preorder.specs.Forming.{node-grown}
 use Rattle.listing.specs.declared.environment.Environment.{Environment}
-use Rattle.reduction.specs.declared.answer.Reduced.{Reduced}
-use Rattle.reduction.specs.declared.answer.Reduced.the-variants.{Short}
-use Rattle.reduction.specs.declared.join.Join.{Join}
+use Rattle.joining.specs.declared.answer.Reduced.{Reduced}
+use Rattle.joining.specs.declared.answer.Reduced.the-variants.{Short}
+use Rattle.joining.specs.declared.join.Join.{Join}
 use Rattle.reduction.specs.declared.walk.Walked.{Walked}
-use Rattle.reduction.specs.Answer.{Answers}
-use Rattle.reduction.specs.Join.{Joining, Adding, added}
+use Rattle.joining.specs.Answer.{Answers}
+use Rattle.joining.specs.Join.{Joining, Adding, added}
 use Rattle.reduction.specs.Ground.{Outer}
 use Rattle.reduction.specs.Last.{Found}
 use Rattle.reduction.specs.Walk.{ReducesNode, bodies, needs, Works}
-use Rattle.reduction.proofs.answer.Reduced.{the-type}
-use Rattle.reduction.proofs.Telling.{told-means}
-use Rattle.reduction.proofs.Lending.{rest, rest-long, lent, lent-long, lent-front, adding}
+use Rattle.joining.proofs.answer.Reduced.{the-type}
+use Rattle.joining.proofs.Telling.{told-means}
+use Rattle.joining.proofs.Lending.{rest, rest-long, lent, lent-long, lent-front, adding}
 use Rattle.reduction.proofs.Children.{each-more, most-more, reduce-wide}
 use Rattle.reduction.proofs.WalkChildren.{short-means}
 

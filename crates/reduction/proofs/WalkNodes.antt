@@ -19,12 +19,12 @@ use Rattle.policies.specs.Mode.{HereAll}
 use Rattle.policies.proofs.ModeWalk.{has}
 use Rattle.policies.proofs.ModeFormula.{Stood}
 use Rattle.listing.specs.declared.environment.Environment.{Environment}
-use Rattle.reduction.specs.declared.answer.Reduced.{Reduced}
-use Rattle.reduction.specs.declared.answer.Reduced.the-variants.{Plain}
+use Rattle.joining.specs.declared.answer.Reduced.{Reduced}
+use Rattle.joining.specs.declared.answer.Reduced.the-variants.{Plain}
 use Rattle.reduction.specs.declared.walk.Walked.{Walked}
 use Rattle.reduction.specs.Ground.{AtomAt, CompareAt, ReducesAtom, ReducesCompare}
 use Rattle.reduction.specs.Walk.{Reduces, ReducesNode, ReducesJoin, QuantifierAt, ReducesQuantifier}
-use Rattle.reduction.proofs.Answering.{answers-plain}
+use Rattle.joining.proofs.Answering.{answers-plain}
 use Rattle.reduction.proofs.GroundLaws.{compare-answers}
 
 -- a formula under an all-of or any-of is an operand of it

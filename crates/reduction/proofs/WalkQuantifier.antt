@@ -23,19 +23,19 @@ use Rattle.laws.specs.Reading.Nodes.{Node}
 use Rattle.laws.specs.Reading.Items.{tuples}
 use Rattle.laws.specs.Reading.Parts.{QuantifierParts, quantifier-parts}
 use Rattle.listing.specs.declared.environment.Environment.{Environment}
-use Rattle.reduction.specs.declared.answer.Reduced.{Reduced}
-use Rattle.reduction.specs.declared.answer.Reduced.the-variants.{Short}
+use Rattle.joining.specs.declared.answer.Reduced.{Reduced}
+use Rattle.joining.specs.declared.answer.Reduced.the-variants.{Short}
 use Rattle.reduction.specs.declared.prepare.Prepared.{Prepared}
 use Rattle.reduction.specs.declared.prepare.Prepared.the-variants as P
 use Rattle.reduction.specs.declared.walk.Walked.{Walked}
 use Rattle.reduction.specs.declared.walk.Worked.{Worked}
-use Rattle.reduction.specs.Answer.{settled, told, Answers}
+use Rattle.joining.specs.Answer.{settled, told, Answers}
 use Rattle.reduction.specs.Ground.{Outer}
 use Rattle.reduction.specs.Last.{Found}
 use Rattle.reduction.specs.Prepare.{Stood, Tells, instancesAt, listed}
 use Rattle.reduction.specs.Conclude.{Quantified, Concluding}
 use Rattle.reduction.specs.Walk.{Reduces, bodies, needs, Works}
-use Rattle.reduction.proofs.Lending.{answers-from}
+use Rattle.joining.proofs.Lending.{answers-from}
 use Rattle.reduction.proofs.WalkChildren.{answers-short}
 use Rattle.reduction.proofs.WalkInstances.{part-same}
 

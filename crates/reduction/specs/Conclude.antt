@@ -13,10 +13,10 @@ use Rattle.model.specs.Joining.{append, joined}
 use Rattle.model.specs.Reduction as M
 use Rattle.laws.specs.Reading.Nodes.{Node}
 use Rattle.listing.specs.declared.environment.Environment.{Environment}
-use Rattle.reduction.specs.declared.answer.Reduced.{Reduced}
-use Rattle.reduction.specs.declared.join.Join.{Join}
-use Rattle.reduction.specs.Answer.{Answers}
-use Rattle.reduction.specs.Join.{Joining}
+use Rattle.joining.specs.declared.answer.Reduced.{Reduced}
+use Rattle.joining.specs.declared.join.Join.{Join}
+use Rattle.joining.specs.Answer.{Answers}
+use Rattle.joining.specs.Join.{Joining}
 use Rattle.reduction.specs.Ground.{Outer}
 use Rattle.reduction.specs.Last.{Found}
 

@@ -19,9 +19,9 @@ use Rattle.logs.specs.Search.{asValue}
 use Rattle.preorder.specs.Grown.{Grown}
 use Rattle.listing.specs.declared.environment.Environment.{Environment as Held}
 use Rattle.listing.specs.Environment.{Holds}
-use Rattle.reduction.specs.declared.answer.Reduced.{Reduced}
-use Rattle.reduction.specs.declared.answer.Reduced.the-variants.{Plain}
-use Rattle.reduction.specs.Answer.{Answers}
+use Rattle.joining.specs.declared.answer.Reduced.{Reduced}
+use Rattle.joining.specs.declared.answer.Reduced.the-variants.{Plain}
+use Rattle.joining.specs.Answer.{Answers}
 
 -- the code's environment binds exactly the outer variables, so many, to the numbers ρ
 abbrev pub Outer : Held → ℕ → List ℤ → Type 0

@@ -12,8 +12,8 @@ use Rattle.model.specs.Putting.{put}
 use Rattle.laws.specs.Reading.Nodes.{Node}
 use Rattle.preorder.specs.Grown.{Grown}
 use Rattle.listing.specs.declared.environment.Environment.{Environment as Held}
-use Rattle.reduction.specs.declared.answer.Reduced.{Reduced}
-use Rattle.reduction.specs.Answer.{Answers}
+use Rattle.joining.specs.declared.answer.Reduced.{Reduced}
+use Rattle.joining.specs.Answer.{Answers}
 use Rattle.reduction.specs.Ground.{Outer}
 
 -- the words of n tuples of v numbers, the first at an index of scratch and each a place behind the one before

@@ -1,5 +1,3 @@
-pub mod Answer
-pub mod Join
 pub mod Ground
 pub mod Last
 pub mod Prepare

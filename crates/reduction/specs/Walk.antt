@@ -11,11 +11,11 @@ use Rattle.model.specs.Level.{Role, operand}
 use Rattle.model.specs.Reduction as M
 use Rattle.laws.specs.Reading.Nodes.{Node, Nodes}
 use Rattle.listing.specs.declared.environment.Environment.{Environment}
-use Rattle.reduction.specs.declared.answer.Reduced.the-variants.{Short}
+use Rattle.joining.specs.declared.answer.Reduced.the-variants.{Short}
 use Rattle.reduction.specs.declared.walk.Walked.{Walked}
 use Rattle.reduction.specs.declared.walk.Worked.{Worked}
-use Rattle.reduction.specs.Answer.{Answers}
-use Rattle.reduction.specs.Join.{Joining}
+use Rattle.joining.specs.Answer.{Answers}
+use Rattle.joining.specs.Join.{Joining}
 use Rattle.reduction.specs.Ground.{Outer}
 use Rattle.reduction.specs.Conclude.{Quantified}
 

@@ -1,7 +1,7 @@
 // What is left of a quantifier once its bodies are joined: the join, with the last part if the restriction is not closed.
-use crate::answer::Reduced;
-use crate::join::Join;
 use crate::last;
+use joining::answer::Reduced;
+use joining::join::Join;
 use listing::closing;
 use listing::environment::Environment;
 use tables::words;

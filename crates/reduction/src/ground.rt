@@ -1,5 +1,5 @@
 // The reduction of ground atoms and comparisons, all of whose variables are outer ones, and the environment of an instance.
-use crate::answer::Reduced;
+use joining::answer::Reduced;
 use listing::environment::Environment;
 use listing::terms;
 use logs::value;

@@ -1,6 +1,6 @@
 // The last part of a quantifier's reduction: the same quantifier with the instances put behind its excluded tuples, and its
 // restriction and body with the outer numbers put in.
-use crate::answer::Reduced;
+use joining::answer::Reduced;
 use listing::environment::Environment;
 use preorder::putting;
 use tables::words;

@@ -1,10 +1,10 @@
 // The reduction of a formula: the walk of formulas and the walk of instances call each other, a level down each time.
-use crate::answer::Reduced;
 use crate::conclude;
 use crate::ground;
-use crate::join::Join;
 use crate::prepare;
 use crate::prepare::Prepared;
+use joining::answer::Reduced;
+use joining::join::Join;
 use listing::environment::Environment;
 use policies::node;
 use policies::node::Role;

@@ -18,14 +18,14 @@ use Rattle.policies.specs.Node.{asTag, asRole}
 use Rattle.policies.specs.declared.node.Tag.{Tag}
 use Rattle.policies.specs.declared.node.Tag.the-variants.{Plain, Atom, Compare, Join, Quantifier, Some, Unused}
 use Rattle.policies.proofs.node.Tag.{the-type as tag-type}
-use Rattle.reduction.proofs.answer.Reduced.{the-type as reduced-type}
-use Rattle.reduction.specs.declared.answer.Reduced.{Reduced}
+use Rattle.joining.proofs.answer.Reduced.{the-type as reduced-type}
+use Rattle.joining.specs.declared.answer.Reduced.{Reduced}
 use Rattle.model.specs.Tag as T
 use mathlib.Core.Logic.{_⊎_, inl, inr, ⊎-elim}
 use Rattle.policies.proofs.ModeFormula.{Stood, formula-kind, level-fits, own-fits, next-in, level-in, level-down}
-use Rattle.reduction.specs.declared.answer.Reduced.the-variants as A
+use Rattle.joining.specs.declared.answer.Reduced.the-variants as A
 use Rattle.reduction.specs.Walk.{ReducesNode}
-use Rattle.reduction.proofs.Lending.{rest, rest-long, lent-long}
+use Rattle.joining.proofs.Lending.{rest, rest-long, lent-long}
 use Rattle.reduction.proofs.WalkChildren.{ChildrenSoFar, children-start, children-within, children-here, children-short, children-adding, children-next, children-state, children-end}
 use Rattle.reduction.proofs.WalkNodes.{node-plain, atom-here, node-atom, compare-here, node-compare, join-here, node-join, quantifier-here, node-quantifier, node-some, node-unused}
 use Rattle.reduction.proofs.WalkInstances.{ScratchKept, InstancesSoFar, instances-start, kept-start, kept-within, kept-lent, instance-place, instance-some, instances-adding, instances-next, instances-short, instances-within, instances-end, instances-none, instances-tree}
@@ -60,9 +60,9 @@ use Rattle.reduction.proofs.conclude.conclude.Reads as conclude-reads
 use Rattle.reduction.proofs.ground.atom.Reads as atom-reads
 use Rattle.reduction.proofs.ground.compare.Reads as compare-reads
 use Rattle.reduction.proofs.ground.instance.Reads as instance-reads
-use Rattle.reduction.proofs.join.Join.add.Reads as add-reads
-use Rattle.reduction.proofs.join.Join.finish.Reads as finish-reads
-use Rattle.reduction.proofs.join.Join.new.Reads as new-reads
+use Rattle.joining.proofs.join.Join.add.Reads as add-reads
+use Rattle.joining.proofs.join.Join.finish.Reads as finish-reads
+use Rattle.joining.proofs.join.Join.new.Reads as new-reads
 use Rattle.reduction.proofs.prepare.prepare.Reads as prepare-reads
 use Rattle.tables.proofs.words.value.Reads as value-reads
 use Rattle.reduction.proofs.walk.+children+formula+instances+quantifier.{statement}

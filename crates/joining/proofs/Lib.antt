@@ -1,0 +1,9 @@
+-- Laws that several proofs of this crate and of those above cite.
+pub mod Shifting
+pub mod Parts
+pub mod Telling
+pub mod Adding
+pub mod Keeping
+pub mod Finishing
+pub mod Lending
+pub mod Answering
