@@ -6,11 +6,10 @@ use native.Mathlib.Numerals.{add-one}
 use mathlib.Core.Path.{_≡_, refl, sym, ap, ap₂, _∙_, subst}
 use mathlib.Core.List.{List, [], _∷_, _++_, map, map-append, append-assoc}
 use lib.ListN.{length, take, drop, length-append, length-drop, length-map, take-append-drop}
-use lib.Seq.{take-at, drop-at, drop-drop, take-take, take-add, take-suc, take-all, length-take-le}
+use lib.Seq.{take-at, drop-drop, take-take, take-add, take-suc, take-all, length-take-le}
 use Rattle.model.specs.Words.{Words, placeWords}
 use Rattle.model.specs.Lists.{gather}
 use Rattle.model.specs.Listing.{free, Environment, release}
-use Rattle.laws.specs.Lists.Span.{drop-take}
 use Rattle.listing.specs.Environment.{placeOf, placeAt, put}
 use Rattle.listing.specs.Places.{place-length}
 use Rattle.listing.specs.Listed.{Listed, environmentOf, places-length, listed-none, listed-more, listed-kept, listed-at, laid-length, laid-front, laid-here, laid-behind}
@@ -58,7 +57,7 @@ module _ (ws : Words) (base : ℕ) (xs ys : List Environment) where
             ∙ sym (gather-append placeOf xs ys);
       }
 
-  -- the first of them, and the second
+  -- the first of them
   module _ (l : Listed ws base (xs ++ ys)) where
     both-stand : take (17 * length xs + 17 * length ys) (drop (17 * base) ws) ≡ gather placeOf xs ++ gather placeOf ys
     both-stand = ap (λ (k : ℕ). take k (drop (17 * base) ws)) (sym both-length) ∙ l .stands ∙ gather-append placeOf xs ys
@@ -72,28 +71,13 @@ module _ (ws : Words) (base : ℕ) (xs ys : List Environment) where
               ∙ take-at (gather placeOf xs) (gather placeOf ys) (17 * length xs) (places-length xs);
         }
 
-    pub listed-second : Listed ws (base + length xs) ys
-    listed-second =
-        record {
-          stands =
-              ap (take (17 * length ys)) (sym second)
-              ∙ sym (drop-take (17 * length xs) (17 * length ys) (drop (17 * base) ws))
-              ∙ ap (drop (17 * length xs)) both-stand
-              ∙ drop-at (gather placeOf xs) (gather placeOf ys) (17 * length xs) (places-length xs);
-        }
-
 module _ (ws : Words) (base : ℕ) (es : List Environment) (l : Listed ws base es) where
-  -- a front part of a list, and the rest
+  -- a front part of a list
   cut : (i : ℕ) → Listed ws base (take i es ++ drop i es)
   cut i = subst (Listed ws base) (sym (take-append-drop i es)) l
 
   pub listed-take : (i : ℕ) → Listed ws base (take i es)
   listed-take i = listed-first ws base (take i es) (drop i es) (cut i)
-
-  pub listed-drop : (i : ℕ) → i ≤ length es → Listed ws (base + i) (drop i es)
-  listed-drop i h =
-      subst (λ (k : ℕ). Listed ws (base + k) (drop i es)) (length-take-le i es h)
-      (listed-second ws base (take i es) (drop i es) (cut i))
 
   -- the list stands wherever its own words do
   pub listed-words :
@@ -133,10 +117,6 @@ module _ (before after : Words) (first count : ℕ) (o : Outside before after fi
   -- a list before the places keeps standing, and one behind them
   pub listed-before : (base : ℕ) (es : List Environment) → base + length es ≤ first → Listed before base es → Listed after base es
   listed-before base es h l = listed-kept before base after es l (outside-front (17 * (base + length es)) (omega arith))
-
-  pub listed-behind : (base : ℕ) (es : List Environment) → first + count ≤ base → Listed before base es → Listed after base es
-  listed-behind base es h l =
-      listed-words before base es l after base (ap (take (17 * length es)) (outside-behind (17 * base) (omega arith)))
 
   -- changes that follow, to more places
   pub outside-then :

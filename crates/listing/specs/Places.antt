@@ -7,7 +7,7 @@ use mathlib.Core.Logic.{⊎-elim}
 use mathlib.Core.Bool.{Bool, true, false, cond}
 use mathlib.Core.List.{List, [], _∷_, _++_, map, append-assoc}
 use lib.ListN.{length, getD, set, take, drop, length-append, length-drop, length-set, length-map, List·getD-append}
-use lib.Seq.{paste, getD-at, getD-set-same, getD-set-other, getD-take, getD-drop, ext-getD, take-at, drop-at, drop-append-le, drop-append-add, take-append-le, drop-drop, take-take, take-all, length-take-le, drop-cons, set-at}
+use lib.Seq.{paste, getD-at, getD-set-same, getD-set-other, getD-take, getD-drop, ext-getD, take-at, drop-at, take-take, take-all, length-take-le, drop-cons, set-at}
 use lib.Pow.{pow-mono}
 use lib.Dec.{eqb}
 use lib.IntN.{ℤ, pos, natAbs}
@@ -15,7 +15,7 @@ use borrow.Author.Tests.{eq-eqb, ne-eqb}
 use Rattle.model.specs.Words.{Words, word, value}
 use Rattle.model.specs.Lists.{span}
 use Rattle.model.specs.Listing.{Slot, bound, free, Environment, bind, release, numberIn}
-use Rattle.laws.specs.Lists.Span.{side, length-span, span-mem, drop-take, map-same}
+use Rattle.laws.specs.Lists.Span.{length-span, span-mem, map-same}
 use Rattle.laws.specs.Listing.Fitting.{bind-same, bind-other, release-same, release-other, same-or-not}
 use Rattle.listing.specs.declared.environment.Environment.{Environment as Held}
 use Rattle.listing.specs.Environment.{isBound, numbersOf, marksOf, bits, placeOf, placeAt, put, unbits, environmentAt, Holds}
@@ -186,34 +186,6 @@ module _ (scratch : Words) (place : ℕ) (e : Environment) (room : 17 * place + 
 
   pub put-here : placeAt (put scratch place e) place ≡ placeOf e
   put-here = ap (take 17) (drop-at (take (17 * place) scratch) _ (17 * place) front-length) ∙ take-at (placeOf e) _ 17 (place-length e)
-
-  put-before : (k : ℕ) → k < place → placeAt (put scratch place e) k ≡ placeAt scratch k
-  put-before k h =
-      let front = take (17 * place) scratch in
-      let cut : 17 * place ≡ 17 * k + 17 * (place - k) = omega arith in
-      ap (take 17) (drop-append-le (17 * k) front _ (omega (arith, front-length)))
-      ∙ take-append-le 17 (drop (17 * k) front) _ (rw (length-drop (17 * k) front, front-length) (omega arith))
-      ∙ ap (λ (n : ℕ). take 17 (drop (17 * k) (take n scratch))) cut
-      ∙ ap (take 17) (drop-take (17 * k) (17 * (place - k)) scratch)
-      ∙ take-take 17 (17 * (place - k)) (drop (17 * k) scratch) (omega arith)
-
-  put-behind : (k : ℕ) → place < k → placeAt (put scratch place e) k ≡ placeAt scratch k
-  put-behind k h =
-      let front = take (17 * place) scratch ++ placeOf e in
-      let rest = drop (17 * place + 17) scratch in
-      let m = 17 * (k - (place + 1)) in
-      let long : length front ≡ 17 * place + 17 = simp (length-append, front-length, place-length e) in
-      let near : 17 * k ≡ length front + m = omega arith in
-      let far : 17 * place + 17 + m ≡ 17 * k = omega arith in
-      ap (take 17)
-      (ap (drop (17 * k)) (sym (append-assoc (take (17 * place) scratch) (placeOf e) rest))
-      ∙ ap (λ (n : ℕ). drop n (front ++ rest)) near
-      ∙ drop-append-add front rest m
-      ∙ drop-drop m (17 * place + 17) scratch
-      ∙ ap (λ (n : ℕ). drop n scratch) far)
-
-  pub put-elsewhere : (k : ℕ) → (k ≡ place → ⊥) → placeAt (put scratch place e) k ≡ placeAt scratch k
-  put-elsewhere k q = ⊎-elim (put-before k) (λ l. put-behind k (omega arith)) (side place k)
 
 -- numbers and the marks in one word, put into scratch one behind another
 pub place-put :

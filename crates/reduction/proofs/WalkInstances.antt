@@ -19,7 +19,6 @@ use Rattle.model.specs.Tree.{Tree, Trees, nil, cons}
 use Rattle.model.specs.Level.{formula}
 use Rattle.model.specs.Joining.{append}
 use Rattle.model.specs.Reduction.{each, most, reduce, need}
-use Rattle.model.specs.Reading.{isFormula}
 use Rattle.laws.specs.Reading.Nodes.{Node}
 use Rattle.laws.specs.Lists.Span.{drop-take}
 use Rattle.policies.specs.Mode.{Here}
@@ -66,11 +65,6 @@ enough-means {places} {need} {t} {before} {after} {r} ok a =
 -- an answer of another variant
 pub not-short : (r : Reduced) → OneOf (1 ∷ 2 ∷ 3 ∷ []) (tagOf the-type r) → r ≡ Short → ⊥
 not-short r k e = miss (1 ∷ 2 ∷ 3 ∷ []) 0 tt (subst (λ (x : Reduced). OneOf (1 ∷ 2 ∷ 3 ∷ []) (tagOf the-type x)) e k)
-
--- a body is a formula
-pub body-formula : isFormula formula ≡ true
-unfolding isFormula
-body-formula = refl
 
 -- the places behind the first so many
 pub places-left : (n u : ℕ) → 17 * u ≤ n → (n - 17 * u) / 17 ≡ n / 17 - u
@@ -221,12 +215,6 @@ module _ (table words log : Words) (b : Bool) (level scope v body from k used : 
     -- the words so far are within the buffer
     pub instances-within : HereBody → SomeOuter held scope → SomeFound → j .words ≤ length out
     instances-within (f, end, node) (ρ, o) (found, s) = inv ρ found f end o s node .0 .within
-
-    -- and a child that is lent those behind them leaves its length
-    pub instances-long :
-        HereBody → SomeOuter held scope → SomeFound →
-        (part : Words) → length part ≡ length (rest out (j .words)) → length (lent out (j .words) part) ≡ length out
-    instances-long here some found part l = lent-long out (j .words) part (instances-within here some found) l
 
     -- no instance is left
     works :

@@ -18,17 +18,14 @@ use Rattle.policies.specs.Node.{asTag, asRole}
 use Rattle.policies.specs.declared.node.Tag.{Tag}
 use Rattle.policies.specs.declared.node.Tag.the-variants.{Plain, Atom, Compare, Join, Quantifier, Some, Unused}
 use Rattle.policies.proofs.node.Tag.{the-type as tag-type}
-use Rattle.joining.proofs.answer.Reduced.{the-type as reduced-type}
-use Rattle.joining.specs.declared.answer.Reduced.{Reduced}
 use Rattle.model.specs.Tag as T
 use mathlib.Core.Logic.{_⊎_, inl, inr, ⊎-elim}
 use Rattle.policies.proofs.ModeFormula.{Stood, formula-kind, level-fits, own-fits, next-in, level-in, level-down}
-use Rattle.joining.specs.declared.answer.Reduced.the-variants as A
 use Rattle.reduction.specs.Walk.{ReducesNode}
 use Rattle.joining.proofs.Lending.{rest, rest-long, lent-long}
 use Rattle.reduction.proofs.WalkChildren.{ChildrenSoFar, children-start, children-within, children-here, children-short, children-adding, children-next, children-state, children-end}
 use Rattle.reduction.proofs.WalkNodes.{node-plain, atom-here, node-atom, compare-here, node-compare, join-here, node-join, quantifier-here, node-quantifier, node-some, node-unused}
-use Rattle.reduction.proofs.WalkInstances.{ScratchKept, InstancesSoFar, instances-start, kept-start, kept-within, kept-lent, instance-place, instance-some, instances-adding, instances-next, instances-short, instances-within, instances-end, instances-none, instances-tree}
+use Rattle.reduction.proofs.WalkInstances.{not-short, ScratchKept, InstancesSoFar, instances-start, kept-start, kept-within, kept-lent, instance-place, instance-some, instances-adding, instances-next, instances-short, instances-within, instances-end, instances-none, instances-tree}
 use Rattle.reduction.proofs.WalkQuantifier.{quantifier-short, quantifier-whole, concluding, body-here, restriction-here, variables-few, first-within}
 use Rattle.model.specs.Words.{value}
 use Rattle.model.specs.Tree.{Tree}
@@ -102,13 +99,6 @@ instances-μ-loop table words log atoms trues scratch₀ out₀ environment kind
 operand-kind : (b : Bool) → isFormula (L.Role.operand b) ≡ true
 unfolding isFormula
 operand-kind b = refl
-
--- the answer that is left when the places did not run out
-not-short : (r : Reduced) → OneOf (1 ∷ 2 ∷ 3 ∷ []) (tagOf reduced-type r) → r ≡ A.Short → ⊥
-not-short A.Short k e = absurd (miss (1 ∷ 2 ∷ 3 ∷ []) 0 tt k)
-not-short (A.Plain b) k e = let z : _≡_ {A = ℕ} 0 1 = cc in absurd (omega arith)
-not-short A.Long k e = let z : _≡_ {A = ℕ} 0 1 = cc in absurd (omega arith)
-not-short (A.Part n) k e = let z : _≡_ {A = ℕ} 0 1 = cc in absurd (omega arith)
 
 -- the tags that no formula has
 other-tag : (tag : Tag) → OneOf (5 ∷ 6 ∷ []) (tagOf tag-type tag) → (asTag tag ≡ T.Tag.some) ⊎ (asTag tag ≡ T.Tag.unused)
