@@ -12,7 +12,7 @@ use Rattle.model.specs.Tree.{Tree, Trees, join, nil, cons}
 use Rattle.model.specs.Listing.{Environment, list, listAll, entries, entriesAll}
 use Rattle.listing.specs.declared.restriction.Room.{Room}
 use Rattle.listing.specs.declared.restriction.Made.the-variants as M
-use Rattle.listing.specs.Restrictions.{Roomy, Holding, Stood, Tells, Makes, MakesTree, counted}
+use Rattle.listing.specs.Restrictions.{Roomy, Holding, Stood, MakesTree, counted}
 
 -- words up to a place, given those up to a later one
 pub fewer : (before after : Words) (k n : ℕ) → k ≤ n → take n after ≡ take n before → take k after ≡ take k before

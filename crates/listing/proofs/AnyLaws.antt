@@ -1,7 +1,7 @@
 -- The branches of an any-of, one after another: the lists of those passed stand one behind another from the first free place on.
 use Prim.Native.Nat.{ℕ, _+_, _*_, _-_, _≤_, _<_}
 use native.Mathlib.Omega.{arith}
-use mathlib.Core.Path.{_≡_, refl, sym, ap, ap₂, _∙_, subst}
+use mathlib.Core.Path.{_≡_, refl, sym, ap, _∙_, subst}
 use mathlib.Core.Bool.{false}
 use mathlib.Core.List.{List, [], _++_, append-assoc, append-nil}
 use lib.ListN.{length, take, length-append}
@@ -13,7 +13,7 @@ use Rattle.listing.specs.declared.restriction.Room.{Room}
 use Rattle.listing.specs.declared.restriction.Made.the-variants as M
 use Rattle.listing.specs.Listed.{Listed, listed-none, listed-kept}
 use Rattle.listing.specs.Lists.{Moved, listed-append, outside-front}
-use Rattle.listing.specs.Restrictions.{Roomy, Holding, Stood, Makes, MakesTree, behind, joined}
+use Rattle.listing.specs.Restrictions.{Roomy, Holding, Stood, MakesTree, behind, joined}
 use Rattle.listing.proofs.AllLaws.{fewer}
 
 -- the branches `ts` of which `rest` are left, in the room for the next one

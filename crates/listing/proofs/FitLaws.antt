@@ -33,7 +33,7 @@ module _ (t : Term) (ts : List Term) (a : ℤ) (rest : List ℤ) (e : Environmen
   unfolding fit meet gather
   fit-same k q s = rw (q, s) (append-nil (fit ts rest e))
 
-  fit-other : (k : ℤ) → look e t ≡ bound k → equal k a ≡ false → fit (t ∷ ts) (a ∷ rest) e ≡ []
+  pub fit-other : (k : ℤ) → look e t ≡ bound k → equal k a ≡ false → fit (t ∷ ts) (a ∷ rest) e ≡ []
   unfolding fit meet gather
   fit-other k q s = rw (q, s)
 
@@ -42,7 +42,7 @@ module _ (t : Term) (ts : List Term) (a : ℤ) (rest : List ℤ) (e : Environmen
   fit-free x p q = rw (p, q) (append-nil (fit ts rest (bind e x a)))
 
 -- a slot by its mark
-marked : (s : Slot) → isBound s ≡ true → s ≡ bound (numberIn s)
+pub marked : (s : Slot) → isBound s ≡ true → s ≡ bound (numberIn s)
 unfolding isBound numberIn
 marked (bound k) q = refl
 marked free q = absurd (false≢true q)
@@ -53,7 +53,7 @@ unmarked (bound k) q = absurd (true≢false q)
 unmarked free q = refl
 
 -- the arguments of a row from number i on
-argument-next :
+pub argument-next :
     (log : Words) (row i : ℕ) →
     8 * row + 8 ≤ length log →
     i < 6 →

@@ -25,20 +25,20 @@ module _ (ws : Words) (at n : ℕ) where
   abbrev pub partFrom : ℕ → Words
   partFrom i = take (n - i) (drop (at + i) ws)
 
-  part-first : take n (drop at ws) ≡ partFrom 0
+  pub part-first : take n (drop at ws) ≡ partFrom 0
   part-first =
       let all : n ≡ n - 0 = omega arith in
       let here : at ≡ at + 0 = omega arith in
       ap₂ (λ (k j : ℕ). take k (drop j ws)) all here
 
-  part-next : (i : ℕ) → i < n → at + n ≤ length ws → partFrom i ≡ getD ws (at + i) (pos 0) ∷ partFrom (i + 1)
+  pub part-next : (i : ℕ) → i < n → at + n ≤ length ws → partFrom i ≡ getD ws (at + i) (pos 0) ∷ partFrom (i + 1)
   part-next i h l =
       let more : n - i ≡ suc (n - (i + 1)) = omega arith in
       let next : suc (at + i) ≡ at + (i + 1) = omega arith in
       ap₂ (λ (k : ℕ) (p : Words). take k p) more (drop-cons ws (at + i) (pos 0) (omega arith))
       ∙ ap (λ (j : ℕ). getD ws (at + i) (pos 0) ∷ take (n - (i + 1)) (drop j ws)) next
 
-  part-last : (i : ℕ) → n ≤ i → partFrom i ≡ []
+  pub part-last : (i : ℕ) → n ≤ i → partFrom i ≡ []
   part-last i h = let none : n - i ≡ 0 = omega arith in ap (λ (k : ℕ). take k (drop (at + i) ws)) none
 
 -- two parts are equal, from number i on
@@ -130,7 +130,7 @@ copy-same {A} d at from n e =
     ∙ ap (λ (l : List A). take at d ++ l) (sym (take-append-drop n (drop at d)) ∙ ap₂ (λ (k : ℕ) (l : List A). take n (drop k d) ++ l) (sym e) (drop-drop n at d))
 
 -- a disjunction with the last part put first
-or-none : (a : Bool) → a ≡ (a || false)
+pub or-none : (a : Bool) → a ≡ (a || false)
 or-none true = refl
 or-none false = refl
 
@@ -269,11 +269,11 @@ pub record Turn : Type 0 where
 
 module _ (t : Turn) where
   -- the next place
-  abbrev place : ℕ
+  abbrev pub place : ℕ
   place = t .first + t .i
 
   -- the next tuple's words
-  abbrev next : List ℤ
+  abbrev pub next : List ℤ
   next = take (t .v) (drop (17 * place + t .scope) (t .scratch))
 
   -- the walk goes on with so many found
@@ -295,6 +295,33 @@ module _ (t : Turn) where
 
     next-tuple : next ≡ tuple (t .scope) (t .v) (environmentOf es (t .i))
     next-tuple = tuple-here (t .scratch) place (environmentOf es (t .i)) (t .scope) (t .v) next-place (t .small)
+
+  -- the next place is copied behind those found
+  module _ (after : Words) (copy : after ≡ take (17 * (t .first + t .found)) (t .scratch) ++ (placeAt (t .scratch) place ++ drop (17 * (t .first + t .found) + 17) (t .scratch))) where
+    -- there is room for the place read and the place written
+    room-left : 17 * place + 17 ≤ length (t .scratch)
+    room-left = omega (arith, t .going .long, t .room, t .more)
+
+    target-room : 17 * (t .first + t .found) + 17 ≤ length (t .scratch)
+    target-room = omega (arith, room-left, t .going .few)
+
+    part-long : length (placeAt (t .scratch) place) ≡ 17
+    part-long = length-take-le 17 (drop (17 * place) (t .scratch)) (rw (length-drop (17 * place) (t .scratch)) (omega (arith, room-left)))
+
+    -- it stands there, and the words before and behind are kept
+    pub copied-here : placeAt after (t .first + t .found) ≡ placeAt (t .scratch) place
+    copied-here =
+        ap (λ (ws : Words). placeAt ws (t .first + t .found)) copy
+        ∙ laid-here (t .scratch) (placeAt (t .scratch) place) (17 * (t .first + t .found)) 17 part-long target-room
+
+    copied-long : length after ≡ length (t .scratch)
+    copied-long = ap length copy ∙ laid-length (t .scratch) (placeAt (t .scratch) place) (17 * (t .first + t .found)) 17 part-long target-room
+
+    pub copied-front : (k : ℕ) → k ≤ 17 * (t .first + t .found) → take k after ≡ take k (t .scratch)
+    copied-front k h = ap (take k) copy ∙ laid-front (t .scratch) (placeAt (t .scratch) place) (17 * (t .first + t .found)) 17 part-long target-room k h
+
+    copied-behind : (k : ℕ) → 17 * (t .first + t .found) + 17 ≤ k → drop k after ≡ drop k (t .scratch)
+    copied-behind k h = ap (drop k) copy ∙ laid-behind (t .scratch) (placeAt (t .scratch) place) (17 * (t .first + t .found)) 17 part-long target-room k h
 
   -- what the search among the excluded tuples and that among the tuples found say
   module _
@@ -320,7 +347,7 @@ module _ (t : Turn) where
         (told-too ∙ ap₂ member same among))
 
     -- the tuple is passed over
-    passed-over : (r || s) ≡ true → OnWith (t .scratch) (t .found)
+    pub passed-over : (r || s) ≡ true → OnWith (t .scratch) (t .found)
     passed-over q =
         record {
           few = omega (arith, t .going .few);
@@ -336,23 +363,6 @@ module _ (t : Turn) where
     module _
         (q : (r || s) ≡ false) (after : Words)
         (copy : after ≡ take (17 * (t .first + t .found)) (t .scratch) ++ (placeAt (t .scratch) place ++ drop (17 * (t .first + t .found) + 17) (t .scratch))) where
-      -- the words that are replaced
-      abbrev target : ℕ
-      target = 17 * (t .first + t .found)
-
-      -- there is room for the place read and the place written
-      room-left : 17 * place + 17 ≤ length (t .scratch)
-      room-left = omega (arith, t .going .long, t .room, t .more)
-
-      target-room : target + 17 ≤ length (t .scratch)
-      target-room = omega (arith, room-left, t .going .few)
-
-      part-long : length (placeAt (t .scratch) place) ≡ 17
-      part-long = length-take-le 17 (drop (17 * place) (t .scratch)) (rw (length-drop (17 * place) (t .scratch)) (omega (arith, room-left)))
-
-      kept-front : (k : ℕ) → k ≤ target → take k after ≡ take k (t .scratch)
-      kept-front k h = ap (take k) copy ∙ laid-front (t .scratch) (placeAt (t .scratch) place) target 17 part-long target-room k h
-
       -- one environment more is listed
       one-listed :
           (es : List Environment) → Listed (t .before) (t .first) es → length es ≡ t .count →
@@ -362,22 +372,16 @@ module _ (t : Turn) where
           let e = environmentOf es (t .i) in
           let there : t .first + length fs ≡ t .first + t .found = ap (λ (j : ℕ). t .first + j) few in
           listed-more after (t .first) fs e
-          (listed-kept (t .scratch) (t .first) after fs k (kept-front (17 * (t .first + length fs)) (omega arith)))
-          (ap (placeAt after) there
-          ∙ ap (λ (ws : Words). take 17 (drop target ws)) copy
-          ∙ laid-here (t .scratch) (placeAt (t .scratch) place) target 17 part-long target-room
-          ∙ next-place es l n)
+          (listed-kept (t .scratch) (t .first) after fs k (copied-front after copy (17 * (t .first + length fs)) (omega arith)))
+          (ap (placeAt after) there ∙ copied-here after copy ∙ next-place es l n)
 
-      one-more : OnWith after (t .found + 1)
+      pub one-more : OnWith after (t .found + 1)
       one-more =
           record {
             few = omega (arith, t .going .few);
-            long = ap length copy ∙ laid-length (t .scratch) (placeAt (t .scratch) place) target 17 part-long target-room ∙ t .going .long;
-            front = kept-front (17 * t .first) (omega arith) ∙ t .going .front;
-            rest =
-                ap (drop (17 * (t .first + (t .i + 1)))) copy
-                ∙ laid-behind (t .scratch) (placeAt (t .scratch) place) target 17 part-long target-room (17 * (t .first + (t .i + 1))) (omega (arith, t .going .few))
-                ∙ rest-on;
+            long = copied-long after copy ∙ t .going .long;
+            front = copied-front after copy (17 * t .first) (omega arith) ∙ t .going .front;
+            rest = copied-behind after copy (17 * (t .first + (t .i + 1))) (omega (arith, t .going .few)) ∙ rest-on;
             so-far = λ es l n.
                 let (fs, k, few, w) = t .going .so-far es l n in (
                   fs ++ environmentOf es (t .i) ∷ [],

@@ -2,24 +2,23 @@
 use Prim.Native.Nat.{ℕ, _+_, _*_, _-_, _≤_, _<_}
 use native.Mathlib.Omega.{arith}
 use native.Mathlib.Nat.{add-zero}
-use mathlib.Core.Path.{_≡_, refl, sym, ap, ap₂, _∙_, subst}
+use mathlib.Core.Path.{_≡_, refl, sym, ap, _∙_, subst}
 use mathlib.Core.Bool.{Bool, true, false, cond}
 use mathlib.Core.List.{List, [], _∷_}
-use lib.ListN.{length, take}
+use lib.ListN.{length}
 use Rattle.model.specs.Words.{Words}
-use Rattle.model.specs.Lists.{keep, gather}
+use Rattle.model.specs.Lists.{gather}
 use Rattle.model.specs.Log.{rows}
 use Rattle.model.specs.Tree.{Tree}
 use Rattle.model.specs.Listing.{Environment, list, entries}
 use Rattle.listing.specs.declared.restriction.Room.{Room}
-use Rattle.listing.specs.declared.restriction.Made.{Made}
 use Rattle.listing.specs.declared.restriction.Made.the-variants as M
 use Rattle.listing.specs.Environment.{placeOf, placeAt, put}
 use Rattle.listing.specs.Places.{place-length}
 use Rattle.listing.specs.Listed.{Listed, environmentOf, listed-none, listed-more}
 use Rattle.listing.specs.Lists.{outside-put, stands-put, outside-front}
 use Rattle.listing.specs.Keeping.{Leaf, keepsOf, list-leaf, entries-leaf}
-use Rattle.listing.specs.Restrictions.{Roomy, Holding, Stood, Makes, MakesTree, filled}
+use Rattle.listing.specs.Restrictions.{Roomy, Holding, MakesTree, filled}
 use Rattle.listing.proofs.MapLaws.{Mapping, map-step, map-short}
 use Rattle.listing.proofs.MapRoom.{map-stood, makes-same}
 use Rattle.listing.proofs.LeafLaws.{kept, keep-gather}

@@ -1,8 +1,7 @@
 -- A leaf of a restriction in its words: how many they are; and the environments that it keeps, as lists of one or none.
-use Prim.Native.Nat.{ℕ, suc, _+_, _*_, _≤_, _<_}
+use Prim.Native.Nat.{ℕ, suc, _+_}
 use native.Mathlib.Omega.{arith}
-use native.Mathlib.Nat.{add-zero}
-use mathlib.Core.Path.{_≡_, refl, sym, ap, _∙_, subst}
+use mathlib.Core.Path.{_≡_, refl, ap, _∙_}
 use mathlib.Core.Bool.{Bool, true, false, cond}
 use mathlib.Core.List.{List, [], _∷_, _++_}
 use lib.ListN.{length, length-append}
@@ -13,7 +12,6 @@ use Rattle.model.specs.Tree.{Tree, Trees, plain, atom, compare, join, quantifie
 use Rattle.model.specs.Reading.{own}
 use Rattle.model.specs.Level as L
 use Rattle.model.specs.Listing.{Environment}
-use Rattle.laws.specs.Reading.Nodes.{Node}
 use Rattle.policies.specs.Node.{There, Sized}
 use Rattle.preorder.specs.Grown.{Grown}
 use Rattle.preorder.specs.Rows.{mine, children, tree-words, tree-tag, tree-size, tree-own}

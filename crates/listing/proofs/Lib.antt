@@ -4,6 +4,9 @@ pub mod Sums
 pub mod TermLaws
 pub mod FitLaws
 pub mod InstanceLaws
+pub mod KeyLaws
+pub mod SeenLaws
+pub mod WayLaws
 pub mod RowLaws
 pub mod MapLaws
 pub mod MapRoom

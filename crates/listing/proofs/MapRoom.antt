@@ -13,7 +13,7 @@ use Rattle.listing.specs.declared.restriction.Made.{Made}
 use Rattle.listing.specs.declared.restriction.Made.the-variants as M
 use Rattle.listing.specs.declared.restriction.Added.{Added}
 use Rattle.listing.specs.declared.restriction.Added.the-variants as A
-use Rattle.listing.specs.Listed.{Listed, environmentOf}
+use Rattle.listing.specs.Listed.{environmentOf}
 use Rattle.listing.specs.Restrictions.{Roomy, Holding, Stood, Makes, Came, Filled, Adds, filled}
 use Rattle.listing.proofs.MapLaws.{Mapping, map-short, map-end}
 

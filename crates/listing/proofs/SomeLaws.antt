@@ -1,7 +1,7 @@
 -- The list of a "some": its child's list with the variable dropped in each environment, counted once more.
 use Prim.Native.Nat.{ℕ, _+_, _*_, _-_, _≤_, _<_}
 use native.Mathlib.Omega.{arith}
-use mathlib.Core.Path.{_≡_, sym, ap, _∙_, subst}
+use mathlib.Core.Path.{_≡_, sym, _∙_, subst}
 use mathlib.Core.List.{List, map}
 use lib.ListN.{length, take, length-map}
 use Rattle.model.specs.Words.{Words}

@@ -1,8 +1,8 @@
 -- The loops over the children of an all-of and the branches of an any-of: what is known after i of them, one more of them, the
 -- places run out, and the end. And from what comes of a node's parts to what comes of the node, by its tag.
-use Prim.Native.Nat.{ℕ, _+_, _*_, _-_, _≤_, _<_}
+use Prim.Native.Nat.{ℕ, _+_, _-_, _≤_, _<_}
 use native.Mathlib.Omega.{arith}
-use mathlib.Core.Path.{_≡_, refl, sym, ap, ap₂, _∙_, subst}
+use mathlib.Core.Path.{_≡_, sym, ap, ap₂, subst}
 use mathlib.Core.Bool.{Bool, true, false}
 use mathlib.Core.List.{List}
 use lib.ListN.{length}
@@ -16,7 +16,7 @@ use Rattle.model.specs.Level.{restriction, under}
 use Rattle.model.specs.Listing.{Environment, matches, list, entries}
 use Rattle.laws.specs.Reading.Nodes.{Node, Nodes}
 use Rattle.laws.specs.Reading.Parts.{atom-parts, join-parts, some-parts, first-parts, rest-parts}
-use Rattle.policies.specs.Mode.{Here, HereAll, termsAt}
+use Rattle.policies.specs.Mode.{Here, HereAll}
 use Rattle.policies.proofs.ModeAtoms.{atom-words}
 use Rattle.policies.proofs.ModeWalk.{has}
 use Rattle.policies.proofs.ModeLoops.{first-left, none-left}
@@ -25,7 +25,7 @@ use Rattle.listing.specs.declared.restriction.Made.{Made}
 use Rattle.listing.specs.declared.restriction.Made.the-variants as M
 use Rattle.listing.specs.Lists.{Moved}
 use Rattle.listing.specs.Keeping.{LeafTag, leaf-here}
-use Rattle.listing.specs.Restrictions.{Roomy, Holding, Stood, Makes, MakesAtom, MakesTree, MakesNode, MakesJoin, MakesSome, MakesKept, matched, counted, behind, joined}
+use Rattle.listing.specs.Restrictions.{Roomy, Holding, Makes, MakesAtom, MakesTree, MakesNode, MakesJoin, MakesSome, MakesKept, matched, counted, behind, joined}
 use Rattle.listing.proofs.MapRoom.{makes-same}
 use Rattle.listing.proofs.AllLaws.{AllFar, all-start, all-roomy, all-step, all-short, all-full, all-end}
 use Rattle.listing.proofs.AnyLaws.{AnyFar, any-start, any-roomy, any-holds, any-movable, any-step, any-short, any-full, any-end}

@@ -67,6 +67,16 @@ place-tuple e scope v h =
     ∙ place-number e (scope + x) (omega arith)
     ∙ sym (tuple-number scope v e x small))
 
+-- the words of a tuple are words of its place
+pub tuple-part : (scratch : Words) (place scope v : ℕ) → scope + v ≤ 16 → take v (drop (17 * place + scope) scratch) ≡ take v (drop scope (placeAt scratch place))
+tuple-part scratch place scope v h =
+    let part = drop (17 * place) scratch in
+    let cut : 17 ≡ scope + (17 - scope) = omega arith in
+    ap (take v) (sym (drop-drop scope (17 * place) scratch))
+    ∙ sym (take-take v (17 - scope) (drop scope part) (omega arith))
+    ∙ ap (take v) (sym (drop-take scope (17 - scope) part))
+    ∙ ap (λ (n : ℕ). take v (drop scope (take n part))) (sym cut)
+
 -- the words of a tuple, given the words of its place
 pub tuple-here :
     (scratch : Words) (place : ℕ) (e : Environment) (scope v : ℕ) →
@@ -74,14 +84,7 @@ pub tuple-here :
     scope + v ≤ 16 →
     take v (drop (17 * place + scope) scratch) ≡ tuple scope v e
 tuple-here scratch place e scope v here h =
-    let part = drop (17 * place) scratch in
-    let cut : 17 ≡ scope + (17 - scope) = omega arith in
-    ap (take v) (sym (drop-drop scope (17 * place) scratch))
-    ∙ sym (take-take v (17 - scope) (drop scope part) (omega arith))
-    ∙ ap (take v) (sym (drop-take scope (17 - scope) part))
-    ∙ ap (λ (n : ℕ). take v (drop scope (take n part))) (sym cut)
-    ∙ ap (λ (ws : Words). take v (drop scope ws)) here
-    ∙ place-tuple e scope v h
+    tuple-part scratch place scope v h ∙ ap (λ (ws : Words). take v (drop scope ws)) here ∙ place-tuple e scope v h
 
 module _ (scratch : Words) (first : ℕ) where
   -- no environment

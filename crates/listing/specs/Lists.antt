@@ -79,13 +79,6 @@ module _ (ws : Words) (base : ℕ) (es : List Environment) (l : Listed ws base e
   pub listed-take : (i : ℕ) → Listed ws base (take i es)
   listed-take i = listed-first ws base (take i es) (drop i es) (cut i)
 
-  -- the list stands wherever its own words do
-  pub listed-words :
-      (after : Words) (to : ℕ) →
-      take (17 * length es) (drop (17 * to) after) ≡ take (17 * length es) (drop (17 * base) ws) →
-      Listed after to es
-  listed-words after to same = record { stands = same ∙ l .stands }
-
 -- a list of one more than i, from its parts
 snoc-back : (es : List Environment) (i : ℕ) → length es ≡ i + 1 → take i es ++ environmentOf es i ∷ [] ≡ es
 snoc-back es i n =

@@ -95,6 +95,18 @@ module _ {held : Held} {e : Environment} (h : Holds held e) (x : ℕ) (l : x < 1
   pub held-mark : getD (held .marks) x false ≡ isBound (e x)
   held-mark = ap (λ (bs : List Bool). getD bs x false) (h .marks) ∙ mark-at e x l
 
+-- with one variable more bound
+pub held-bind :
+    {held : Held} {e : Environment} →
+    Holds held e →
+    (x : ℕ) (k : ℤ) →
+    Holds (record { numbers = set (held .numbers) x k; marks = set (held .marks) x true }) (bind e x k)
+held-bind {e = e} h x k =
+    record {
+      numbers = ap (λ (l : List ℤ). set l x k) (h .numbers) ∙ numbers-bind e x k;
+      marks = ap (λ (l : List Bool). set l x true) (h .marks) ∙ marks-bind e x k;
+    }
+
 -- a slot is known by its mark and its number
 slot-back : (s : Slot) → cond (isBound s) (bound (numberIn s)) free ≡ s
 unfolding isBound numberIn

@@ -15,7 +15,7 @@ use Rattle.model.specs.Listing.{Environment, matches, list, entries}
 use Rattle.laws.specs.Reading.Nodes.{Node, Nodes}
 use Rattle.policies.specs.Mode.{termsAt, HereAtom}
 use Rattle.logs.specs.Chain.{Chained}
-use Rattle.logs.specs.Key.{rowKey, atomKeys, trueKey, predicateKeys}
+use Rattle.logs.specs.Key.{rowKey, atomKeys, TrueRows}
 use Rattle.listing.specs.declared.restriction.Room.{Room}
 use Rattle.listing.specs.declared.restriction.Made.{Made}
 use Rattle.listing.specs.declared.restriction.Made.the-variants.{Short, List as Stands}
@@ -30,10 +30,10 @@ pub record Looks (table log : Words) (atoms : List ℕ) : Type 0 where
   pub accepted : askLog table log ≡ passed tt
   pub byAtom : Chained (rowKey log) atomKeys (rowCount log) atoms
 
--- and the true ones by their predicates
+-- and the true ones by their predicates, alone and with their first arguments
 pub record Chains (table log : Words) (atoms trues : List ℕ) : Type 0 where
   pub looks : Looks table log atoms
-  pub byPredicate : Chained (trueKey log) predicateKeys (rowCount log) trues
+  pub trueRows : TrueRows log trues
 
 -- a list stands before the first free place; no more places are taken than counted; and the places counted are within scratch
 pub record Roomy (room : Room) (scratch : Words) : Type 0 where
@@ -92,6 +92,10 @@ pub record Makes (made : List Environment) (cost next : ℕ) (room : Room) (befo
 -- the own words of an atom stand at an index, whatever the table
 abbrev pub AtomAt : Words → ℕ → Type 0
 AtomAt words at = HereAtom [] words at
+
+-- it has a term, and its terms are there
+abbrev pub TermsThere : Words → ℕ → Type 0
+TermsThere words at = (1 ≤ value words (at + 2)) × (at + 3 + 2 * value words (at + 2) ≤ length words)
 
 -- what the true rows of the predicate of the atom at an index make of environments, one after another
 abbrev pub matched : Words → Words → Words → ℕ → List Environment → List Environment

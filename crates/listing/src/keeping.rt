@@ -36,8 +36,10 @@ fn is_false(
 {
     let predicate = words::value(words, at + 1);
     let n = words::value(words, at + 2);
-    let numbers = terms::arguments(environment, words, at + 3, n);
-    let found = value::value_of(table, log, atoms, predicate, &numbers);
+    let numbers = environment.numbers;
+    let mut arguments = [0; 6];
+    terms::arguments(&numbers, words, at + 3, n, &mut arguments);
+    let found = value::value_of(table, log, atoms, predicate, &arguments);
     match found {
         Value::True => false,
         Value::False => true,

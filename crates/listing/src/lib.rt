@@ -6,4 +6,5 @@ pub mod keeping;
 pub mod lists;
 pub mod matching;
 pub mod restriction;
+pub mod seen;
 pub mod terms;

@@ -17,8 +17,8 @@ ghost use Rattle.listing.specs.Matching.{Fitted};
 
 // Whether a row fits, and the environment that it makes if it does.
 pub struct Matched {
-    pub fits: bool,
     pub environment: Environment,
+    pub fits: bool,
 }
 
 // A row that does not fit. Its environment says nothing.
@@ -26,8 +26,8 @@ fn unfit(environment: Environment) -> Matched
     ensures { λ r. ⌜ r .fits ≡ false ⌝ }
 {
     Matched {
-        fits: false,
         environment,
+        fits: false,
     }
 }
 
@@ -65,7 +65,7 @@ pub fn fit_row(
         }
     }
     Matched {
-        fits: true,
         environment: bound,
+        fits: true,
     }
 }

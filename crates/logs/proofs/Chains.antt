@@ -1,16 +1,14 @@
 -- Chains of rows by a key: the first row of a chain and the rest, by induction on the rows left; and one step of filling.
 use Prim.Native.Nat.{ℕ, zero, suc, _+_, _-_, _≤_, _<_}
-use native.Mathlib.Numerals.{add-one}
 use native.Mathlib.Omega.{arith}
 use mathlib.Core.Path.{_≡_, refl, sym, ap, _∙_, subst}
 use mathlib.Core.Logic.{_⊎_, inl, inr, ⊎-elim}
-use mathlib.Core.Bool.{Bool, true, false, cond}
 use mathlib.Core.List.{List, [], _∷_}
 use lib.ListN.{length, getD, set, length-set}
 use lib.Seq.{getD-set-same, getD-set-other}
 use lib.Dec.{eqb}
 use borrow.Author.Tests.{eqb-true, eqb-false, eq-eqb, ne-eqb}
-use Rattle.model.specs.Lists.{span, keep}
+use Rattle.model.specs.Lists.{keep}
 use Rattle.laws.specs.Words.Tests.{decide}
 use Rattle.laws.specs.Lists.Span.{side}
 use Rattle.tables.proofs.Loops.{span-step, span-end}

@@ -1,8 +1,7 @@
 -- The keys of rows: a row that holds an atom has the atom's key; and rows chained by keys that were written down.
 use Prim.Native.Nat.{ℕ, _+_, _*_, _-_, _/_, _%_, _^_, _≤_, _<_}
-use native.Mathlib.Nat.{sub-zero}
 use native.Mathlib.Omega.{arith}
-use mathlib.Core.Path.{_≡_, refl, sym, ap, ap₂, _∙_, subst}
+use mathlib.Core.Path.{_≡_, refl, sym, ap, _∙_, subst}
 use mathlib.Core.Logic.{⊎-elim}
 use mathlib.Core.Bool.{Bool, true, false, cond, _&&_}
 use mathlib.Core.List.{List, [], _∷_}
@@ -12,7 +11,7 @@ use lib.Dec.{eqb, ltb}
 use lib.IntN.{ℤ, pos, natAbs}
 use borrow.Author.Tests.{eqb-true, eqb-false, ne-eqb, ltb-true, ltb-false}
 use Rattle.model.specs.Words.{Words, word, value, equal, atLeast, below}
-use Rattle.model.specs.Lists.{span, keep}
+use Rattle.model.specs.Lists.{span}
 use Rattle.model.specs.Log.{rowCount, rowAt, arguments, saysTrue, holds}
 use Rattle.tables.specs.Offset.{fromLeast}
 use Rattle.laws.specs.Words.Tests.{decide, clash, equal-true}
@@ -20,7 +19,7 @@ use Rattle.laws.specs.Words.Standing.{below-value, below-pos}
 use Rattle.laws.specs.Log.{holds-value, holds-arguments}
 use Rattle.laws.specs.Lists.Span.{span-mem, keep-same}
 use Rattle.logs.specs.Chain.{chain, link, Chained, given, Ready}
-use Rattle.logs.specs.Key.{spread, atomKey, rowKey, trueKey, Keys}
+use Rattle.logs.specs.Key.{spread, atomKey, rowKey, trueKey, firstSpread, firstKey, Keys}
 use Rattle.logs.proofs.Rows.{row-first, row-six, row-word, row-part, argument-word, own-row}
 
 -- equal numbers are spread to the same key, which is below 16,384
@@ -116,13 +115,29 @@ true-key log p r few =
         (λ q. other ∙ sym q)
         (decide (equal z (pos p)))
 
-pub true-rows :
-    (log : Words) (p rows : ℕ) → p < 256 →
-    chain (trueKey log) p 0 rows ≡ keep (λ r. saysTrue (rowAt log r) && equal (word (rowAt log r) 0) (pos p)) (span 0 rows)
-unfolding chain
-true-rows log p rows few =
-    ap (λ (n : ℕ). keep (λ r. eqb (trueKey log r) p) (span 0 n)) (sub-zero rows)
-    ∙ keep-same _ _ (span 0 rows) (λ r m. true-key log p r few)
+-- the key of a row by its predicate and first argument
+pub spread-small : (p : ℕ) (z : ℤ) → firstSpread p z < 4096
+unfolding firstSpread
+spread-small p z = omega arith
+
+module _ (log : Words) (r : ℕ) where
+  pub first-not : equal (word log (8 * r + 1)) (pos 1) ≡ false → 4096 ≡ firstKey log r
+  unfolding firstKey
+  first-not e = rw (says log r ∙ e)
+
+  pub first-here :
+      equal (word log (8 * r + 1)) (pos 1) ≡ true →
+      firstSpread (value log (8 * r)) (word log (8 * r + 2)) ≡ firstKey log r
+  unfolding firstKey
+  first-here e = rw (says log r ∙ e)
+
+  pub first-small : firstKey log r < 4097
+  unfolding firstKey
+  first-small = go (saysTrue (rowAt log r))
+    where
+      go : (b : Bool) → cond b (firstSpread (value log (8 * r)) (word log (8 * r + 2))) 4096 < 4097
+      go true = omega (arith, spread-small (value log (8 * r)) (word log (8 * r + 2)))
+      go false = omega arith
 
 -- the keys of the first rows
 pub record Keying (f : ℕ → ℕ) (total row : ℕ) (keys : List ℕ) : Type 0 where
@@ -213,3 +228,7 @@ pub spread-of :
     ≡ spread p v
 unfolding spread
 spread-of p a b c d e f v h0 h1 h2 h3 h4 h5 = rw (h0, h1, h2, h3, h4, h5)
+
+pub first-of : (p x : ℕ) (z : ℤ) → x ≡ fromLeast z → (p % 256 * 331804471 + x % 4294967296 * 442291847) / 32768 % 4096 ≡ firstSpread p z
+unfolding firstSpread
+first-of p x z e = rw e refl

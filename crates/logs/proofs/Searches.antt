@@ -1,10 +1,9 @@
 -- The search along a chain: a row of another key can't hold the atom, so that the first row of the chain that holds it is the
 -- first of the whole log; and the search taken one row further.
-use Prim.Native.Nat.{ℕ, _+_, _*_, _-_, _/_, _≤_, _<_}
+use Prim.Native.Nat.{ℕ, _+_, _*_, _-_, _≤_, _<_}
 use native.Mathlib.Nat.{sub-zero}
 use native.Mathlib.Omega.{arith}
 use mathlib.Core.Path.{_≡_, refl, sym, ap, _∙_}
-use mathlib.Core.Logic.{⊎-elim}
 use mathlib.Core.Bool.{Bool, true, false, cond}
 use mathlib.Core.List.{List, [], _∷_, List·Memᴰ, List·Memᴰ·head, List·Memᴰ·tail}
 use lib.ListN.{length, getD, take, drop, length-take, length-drop}
@@ -14,9 +13,8 @@ use borrow.Author.Tests.{eq-eqb, le-ltb}
 use Rattle.model.specs.Words.{Words, word, value, atLeast}
 use Rattle.model.specs.Lists.{span, keep}
 use Rattle.model.specs.Log.{rowCount, rowAt, holds}
-use Rattle.laws.specs.Words.Tests.{decide, clash}
+use Rattle.laws.specs.Words.Tests.{clash}
 use Rattle.laws.specs.Lists.Span.{span-mem}
-use Rattle.logs.specs.declared.search.Found.{Found}
 use Rattle.logs.specs.declared.search.Found.the-variants.{At, Nothing}
 use Rattle.logs.specs.Search.{firstRow, repeatsAt}
 use Rattle.logs.specs.Chain.{chain, link, Chained}

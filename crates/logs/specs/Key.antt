@@ -3,10 +3,12 @@ use Prim.Native.Nat.{ℕ, _+_, _*_, _/_, _%_, _^_, _<_}
 use mathlib.Core.Path.{_≡_}
 use mathlib.Core.Bool.{cond, _&&_}
 use mathlib.Core.List.{List}
-use lib.ListN.{length, getD}
+use lib.ListN.{length, getD, drop}
+use lib.IntN.{ℤ}
 use Rattle.model.specs.Words.{Words, word, value, below, predicateLimit}
 use Rattle.model.specs.Log.{rowCount, rowAt, saysTrue}
 use Rattle.tables.specs.Offset.{fromLeast}
+use Rattle.logs.specs.Chain.{Chained}
 
 -- so many keys of atoms; one more key than there are predicates
 abbrev pub atomKeys : ℕ
@@ -40,7 +42,31 @@ unfoldable pub trueKey : Words → ℕ → ℕ
 trueKey log r =
     cond (saysTrue (rowAt log r) && below predicateLimit (word log (8 * r))) (value log (8 * r)) predicateLimit
 
+-- a predicate and a number as its first argument, spread over 4,096 keys
+unfoldable pub firstSpread : ℕ → ℤ → ℕ
+firstSpread p z = (p % 256 * 331804471 + fromLeast z % 2 ^ 32 * 442291847) / 2 ^ 15 % 4096
+
+-- the key of a row that says true, by its predicate and its first argument; all other rows share the last key
+abbrev pub firstKeys : ℕ
+firstKeys = 4097
+
+unfoldable pub firstKey : Words → ℕ → ℕ
+firstKey log r = cond (saysTrue (rowAt log r)) (firstSpread (value log (8 * r)) (word log (8 * r + 2))) 4096
+
 -- the keys of the rows of a log, by a key function, one behind another
 pub record Keys (key : Words → ℕ → ℕ) (log : Words) (keys : List ℕ) : Type 0 where
   pub long : length keys ≡ rowCount log
   pub keyed : (r : ℕ) → r < rowCount log → getD keys r 0 ≡ key log r
+
+-- so many links are those of the rows by predicate
+abbrev pub predicateLinks : ℕ
+predicateLinks = 4353
+
+-- the links from an index on
+unfoldable pub behind : ℕ → List ℕ → List ℕ
+behind n links = drop n links
+
+-- links by which the true rows of a log are chained twice: by predicate, and behind those links by predicate and first argument
+pub record TrueRows (log : Words) (links : List ℕ) : Type 0 where
+  pub byPredicate : Chained (trueKey log) predicateKeys (rowCount log) links
+  pub byFirst : Chained (firstKey log) firstKeys (rowCount log) (behind predicateLinks links)

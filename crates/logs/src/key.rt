@@ -4,6 +4,7 @@ use tables::words;
 ghost use mathlib.Core.Path.{_≡_};
 ghost use Prim.Native.Nat.{_+_, _*_, _≤_, _<_};
 ghost use lib.ListN.{length, replicate};
+ghost use Rattle.model.specs.Words as W;
 ghost use Rattle.model.specs.Log.{rowCount};
 ghost use Rattle.logs.specs.Key as K;
 ghost use Rattle.logs.specs.Chain.{Chained};
@@ -12,6 +13,12 @@ ghost use Rattle.logs.specs.Chain.{Chained};
 pub const ATOM_KEYS: usize = 16384;
 
 pub const PREDICATE_KEYS: usize = 257;
+
+// So many keys of a predicate with its first argument, with one key more for the rows that a listing passes over.
+pub const FIRST_KEYS: usize = 4097;
+
+// The links by predicate; those by first argument stand behind them.
+pub const PREDICATE_LINKS: usize = 4353;
 
 // The key of the atom of a predicate, whose six arguments stand at an index.
 pub fn of_atom(predicate: usize, words: &[i32], at: usize) -> usize
@@ -40,6 +47,27 @@ fn of_true(log: &[i32], row: usize) -> usize
         return 256;
     }
     words::value(log, 8 * row)
+}
+
+// The key of a predicate with the number at an index as its first argument.
+pub fn of_first(predicate: usize, words: &[i32], at: usize) -> usize
+    requires { ⌜ at < length (now words) ⌝ }
+    ensures { λ r. ⌜ r ≡ K.firstSpread predicate (W.word (now (words .entry)) at) ⌝ }
+{
+    let p = predicate % 256 * 331804471;
+    let a = words::offset(words, at) % 4294967296 * 442291847;
+    (p + a) / 32768 % 4096
+}
+
+// The key of a row that says true, by its predicate and its first argument; 4,096 of any other row.
+fn of_row(log: &[i32], row: usize) -> usize
+    requires { ⌜ 8 * row + 8 ≤ length (now log) ⌝ }
+    ensures { λ r. ⌜ r ≡ K.firstKey (now (log .entry)) row ⌝ }
+{
+    if !words::is(log, 8 * row + 1, 1) {
+        return 4096;
+    }
+    of_first(words::value(log, 8 * row), log, 8 * row + 2)
 }
 
 // The rows of a log, chained by their atoms; and their keys.
@@ -75,4 +103,21 @@ pub fn by_predicate(log: &[i32], keys: &mut [u16], links: &mut [u16])
         row += 1;
     }
     chain::fill(keys, links, PREDICATE_KEYS);
+}
+
+// The true rows of a log, chained by their predicates and first arguments.
+pub fn by_first(log: &[i32], keys: &mut [u16], links: &mut [u16])
+    requires { ⌜
+        (rowCount (now log) ≤ 4096) × (length (now keys) ≡ rowCount (now log)) × (now links ≡ replicate 8193 0)
+        ⌝ }
+    ensures { λ _. ⌜ Chained (K.firstKey (now (log .entry))) K.firstKeys (rowCount (now (log .entry))) (now (links .exit)) ⌝ }
+{
+    let rows = log.len() / 8;
+    let mut row = 0;
+    while row < rows {
+        let key = of_row(log, row);
+        keys[row] = key as u16;
+        row += 1;
+    }
+    chain::fill(keys, links, FIRST_KEYS);
 }

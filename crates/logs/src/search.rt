@@ -2,7 +2,6 @@
 use crate::key;
 use tables::words;
 ghost use mathlib.Core.Path.{_≡_};
-ghost use Prim.Native.Nat.{_≤_};
 ghost use lib.ListN.{length};
 ghost use Rattle.model.specs.Lists.{span};
 ghost use Rattle.model.specs.Log.{rowCount};

@@ -54,8 +54,9 @@ fn put_term(numbers: &[i32], words: &[i32], from: usize, out: &mut [i32], to: us
         out[to + 1] = numbers[x];
         return;
     }
+    let lowered = x - numbers.len();
     out[to] = 1;
-    out[to + 1] = (x - numbers.len()) as i32;
+    out[to + 1] = lowered as i32;
 }
 
 // The words of terms, with numbers put in.

@@ -26,10 +26,11 @@ use Rattle.laws.specs.Lists.Span.{order, side, map-same}
 use Rattle.laws.specs.Listing.Fitting.{bind-same, bind-other}
 use Rattle.laws.specs.Listing.Outer.{outer-bound, outer-free}
 use Rattle.laws.specs.Putting.Modes.{terms-length, put-length}
+use Rattle.laws.specs.Putting.Parts.{put-nil}
 use Rattle.laws.specs.Reading.Formed.{Formed}
 use Rattle.laws.specs.Reading.Nodes.{Node}
 use Rattle.laws.specs.Reading.Parts.{root, root-tag, atom-parts, compare-parts}
-use Rattle.laws.specs.Words.Standing.{three-stand}
+use Rattle.laws.specs.Words.Standing.{stands-taken, three-stand}
 use Rattle.logs.specs.declared.value.Value.{Value as Found}
 use Rattle.logs.specs.declared.value.Value.the-variants.{True, False, Open}
 use Rattle.logs.specs.Search.{asValue}
@@ -37,6 +38,7 @@ use Rattle.policies.specs.Mode.{HereAtom, termsAt}
 use Rattle.policies.proofs.ModeAtoms.{atom-words}
 use Rattle.policies.proofs.ModeWalk.{here-atom, here-compare}
 use Rattle.preorder.specs.Grown.{Grown, Room-at}
+use Rattle.preorder.specs.Laying.{laid}
 use Rattle.preorder.specs.Forming.{node-grown}
 use Rattle.listing.specs.declared.environment.Environment.{Environment as Held}
 use Rattle.listing.specs.Environment.{numbersOf, Holds}
@@ -267,6 +269,31 @@ module _ (words : Words) (at n : ℕ) (is : n ≡ value words (at + 2)) where
         answers-part (put t ρ) before after (3 + 2 * n) tt (omega arith) fits long
         (ap (take (3 + 2 * n)) is ∙ take-at (encode (put t ρ)) _ (3 + 2 * n) (omega arith))
         places
+
+    -- with no outer variable it is copied as it is
+    pub stays-closed :
+        (after : Words) →
+        scope ≡ 0 →
+        3 + 2 * n ≤ length before →
+        length after ≡ length before →
+        after ≡ laid before 0 (take (3 + 2 * n) (drop at words)) →
+        Stays words held scope at before after (Part (3 + 2 * n))
+    unfolding put Solid laid
+    stays-closed after none fits long copied ρ o b p ts next g places =
+        let t = atom b p ts in
+        let size = atom-size b p ts next g in
+        let same = put-length t ρ in
+        let own : take (3 + 2 * n) (drop at words) ≡ encode (put t ρ)
+        = ap (λ (k : ℕ). take k (drop at words)) size
+        ∙ stands-taken words (encode t) (g .stands)
+        ∙ ap encode (sym (put-nil t) ∙ ap (put t) (sym (no-numbers ρ (o .1 ∙ none)))) in
+        answers-part (put t ρ) before after (3 + 2 * n) tt (omega arith) fits long
+        (ap (take (3 + 2 * n)) (copied ∙ ap (λ (l : Words). l ++ drop (0 + length l) before) own) ∙ take-at (encode (put t ρ)) _ (3 + 2 * n) (omega arith))
+        places
+      where
+        no-numbers : (σ : List ℤ) → length σ ≡ 0 → σ ≡ []
+        no-numbers [] h = refl
+        no-numbers (z ∷ σ) h = absurd (omega arith)
 
 -- the reduction of an atom, by its value
 module _

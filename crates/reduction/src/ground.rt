@@ -28,8 +28,10 @@ fn value_at(
 {
     let predicate = words::value(words, at + 1);
     let n = words::value(words, at + 2);
-    let numbers = terms::arguments(environment, words, at + 3, n);
-    value::value_of(table, log, atoms, predicate, &numbers)
+    let numbers = environment.numbers;
+    let mut arguments = [0; 6];
+    terms::arguments(&numbers, words, at + 3, n, &mut arguments);
+    value::value_of(table, log, atoms, predicate, &arguments)
 }
 
 // The atom at an index stays, with the outer numbers put in, if it fits.
@@ -46,6 +48,10 @@ fn stay(
     let size = 3 + 2 * words::value(words, at + 2);
     if out.len() < size {
         return Reduced::Long;
+    }
+    if scope == 0 {
+        putting::copy_words(words, at, size, out, 0);
+        return Reduced::Part(size);
     }
     let numbers = environment.numbers;
     putting::copy(numbers, scope, words, at, out);
@@ -108,7 +114,9 @@ pub fn instance(
     let mut bound = environment;
     let mut i = 0;
     while i < v {
-        bound = bound.bind(scope + i, scratch[from + i]);
+        let x = scope + i;
+        bound.numbers[x] = scratch[from + i];
+        bound.marks[x] = true;
         i += 1;
     }
     bound

@@ -71,9 +71,10 @@ fn front(
 {
     let v = words::value(words, at + 1);
     let m = words::value(words, at + 2);
+    let behind = 3 + v * m;
     head(words, at, k, out);
     putting::copy_words(words, at + 3, v * m, out, 3);
-    tuples(scratch, scope, v, from, k, out, 3 + v * m);
+    tuples(scratch, scope, v, from, k, out, behind);
 }
 
 // A copy of the tree at an index, with the outer numbers put in, stands at another.

@@ -159,9 +159,9 @@ fn instances(
             scope + v,
             body,
         );
-        let answer = child.answer;
-        join = join.add(out, answer);
-        if let Reduced::Short = answer {
+        let reduced = child.answer;
+        join = join.add(out, reduced);
+        if let Reduced::Short = reduced {
             return Worked { join, next };
         }
         next = child.next;

@@ -5,7 +5,7 @@ use Prim.Native.Nat.{ℕ, _+_, _*_, _-_, _≤_, _<_}
 use native.Mathlib.Omega.{arith}
 use mathlib.Core.Path.{_≡_, refl, sym, ap, _∙_, subst}
 use mathlib.Core.Bool.{true, false}
-use mathlib.Core.List.{List, [], _∷_}
+use mathlib.Core.List.{[], _∷_}
 use types.Run.{OneOf, miss}
 use denote.Enum.Declared.{tagOf}
 use lib.ListN.{length}
@@ -20,6 +20,7 @@ use Rattle.policies.proofs.node.Tag.{the-type as tag-type}
 use Rattle.policies.proofs.ModeWalk.{here-atom, here-join, here-some, low, inside, inside-all}
 use Rattle.listing.specs.Keeping.{LeafTag}
 use Rattle.listing.specs.Restrictions.{MakesTree}
+use Rattle.listing.proofs.WayLaws.{terms-there}
 use Rattle.listing.proofs.WalkLaws.{AllSoFar, all-first, all-asks, all-next, all-stop, all-numbers, all-more, all-last}
 use Rattle.listing.proofs.WalkLaws.{AnySoFar, any-first, any-asks, any-moves, any-next, any-stop, any-numbers, any-more, any-last}
 use Rattle.listing.proofs.WalkLaws.{from-atom, from-kept, from-join, from-some}
@@ -218,10 +219,11 @@ module _ (t : ℕ) where
 
   list-list-atom-requires : list-lts.Need-list-atom-requires list-calls list-at list.Post
   list-list-atom-requires c κs = (
-    c .before .before .before .before .before .before .before .before .pre .1 .0 .byPredicate,
+    c .before .before .before .before .before .before .before .before .pre .1 .0 .trueRows,
     here-atom (c .before .before .before .before .before .before .before .before .args .table .now) (c .before .before .before .before .before .before .before .before .args .words .now) (c .before .before .before .before .before .before .before .before .args .above) (c .before .before .before .before .before .before .before .before .args .scope) (c .before .before .before .before .before .before .before .before .args .at) (c .before .before .before .before .before .before .before .before .pre .1 .0 .looks .few) (c .before .before .before .before .before .before .before .before .pre .1 .2) _ (ap asTag (sym (c .before .before .before .tag2 .given .1)) ∙ c .before .before .before .before .before .tag-at .ensures) (c .before .before .before .before .before .before .before .before .pre .1 .3) (omega (arith, c .before .before .before .before .before .before .before .before .good .1 .0)),
     c .before .before .before .before .before .before .before .before .pre .1 .4,
     c .before .before .before .before .before .before .before .before .pre .1 .5,
+    terms-there (c .before .before .before .before .before .before .before .before .args .table .now) (c .before .before .before .before .before .before .before .before .args .words .now) (c .before .before .before .before .before .before .before .before .args .above) (c .before .before .before .before .before .before .before .before .args .scope) (c .before .before .before .before .before .before .before .before .args .at) _ (ap asTag (sym (c .before .before .before .tag2 .given .1)) ∙ c .before .before .before .before .before .tag-at .ensures) (c .before .before .before .before .before .before .before .before .pre .1 .3),
   )
 
   list-list-kept-requires : list-lts.Need-list-kept-requires list-calls list-at list.Post

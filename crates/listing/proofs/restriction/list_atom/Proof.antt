@@ -1,6 +1,6 @@
 -- `listing::restriction::list_atom` meets its contract. The invariant: what the environments before the i-th gave stands from the
 -- first free place on. The measure is the number of environments left.
-use Prim.Native.Nat.{ℕ, _+_, _*_, _-_, _≤_, _<_}
+use Prim.Native.Nat.{ℕ, _+_, _*_, _-_, _≤_}
 use native.Mathlib.Omega.{arith}
 use mathlib.Core.Path.{_≡_, refl, sym, ap, ap₂, _∙_, subst}
 use mathlib.Core.Bool.{true}
@@ -13,7 +13,6 @@ use Rattle.model.specs.Reading.{places, inScope}
 use Rattle.model.specs.Log.{rows}
 use Rattle.model.specs.Listing.{Environment, matches}
 use Rattle.policies.specs.Mode.{termsAt}
-use Rattle.listing.specs.declared.restriction.Added.{Added}
 use Rattle.listing.specs.Environment.{Holds}
 use Rattle.listing.specs.Listed.{environmentOf}
 use Rattle.listing.specs.Restrictions as R
@@ -135,6 +134,8 @@ match-rows-requires c κs =
       omega (arith, c .before .before .before .before .before .before .before .before .before .before .before .pre .1 .0),
       omega arith,
       (environmentOf es (c .before .before .before .before .before .before .loop .i), held-here (c .before) es [] h),
+      omega (arith, n, c .before .before .before .before .before .before .before .before .before .before .before .pre .4 .0),
+      omega (arith, n, c .before .before .before .before .before .before .before .before .before .before .before .pre .4 .1),
     )
 
 enum-known-added : tie.Need-enum-known-added Inv-loop μ-loop

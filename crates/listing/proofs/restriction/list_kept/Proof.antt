@@ -1,14 +1,11 @@
 -- `listing::restriction::list_kept` meets its contract. The invariant: the environments kept of those before the i-th stand from
 -- the first free place on. The measure is the number of environments left.
-use Prim.Native.Nat.{ℕ, _+_, _*_, _-_, _≤_, _<_}
+use Prim.Native.Nat.{ℕ, _-_, _≤_}
 use native.Mathlib.Omega.{arith}
-use mathlib.Core.Path.{_≡_, refl, sym, ap, _∙_, subst}
-use mathlib.Core.Bool.{true, false, cond}
+use mathlib.Core.Path.{_≡_, refl, sym, _∙_}
 use mathlib.Core.List.{List, [], _∷_}
 use lib.ListN.{length}
 use borrow.Author.Tests.{not-true, not-false}
-use borrow.Author.Needs.{needs}
-use Rattle.model.specs.Words.{Words}
 use Rattle.model.specs.Log.{rows}
 use Rattle.model.specs.Tree.{Tree}
 use Rattle.model.specs.Level.{restriction}

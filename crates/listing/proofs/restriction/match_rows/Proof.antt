@@ -1,185 +1,33 @@
--- `listing::restriction::match_rows` meets its contract. The invariant: the rows passed made the environments that stand in the
--- places filled, and the link is that of the rows left. The measure is the link, which falls along a chain.
-use Prim.Native.Nat.{ℕ, _+_, _*_, _-_, _/_, _≤_, _<_}
+-- `listing::restriction::match_rows` meets its contract: the rows are walked along the chain that leads to all that can fit.
 use native.Mathlib.Omega.{arith}
-use mathlib.Core.Path.{_≡_, refl, sym, ap, _∙_, subst}
-use lib.ListN.{length}
-use Rattle.model.specs.Words.{Words}
-use Rattle.model.specs.Log.{rowCount}
-use Rattle.model.specs.Listing.{Environment}
-use Rattle.logs.specs.Chain as C
-use Rattle.logs.specs.Key.{trueKey}
-use Rattle.policies.specs.Mode.{termsAt}
-use Rattle.listing.specs.Environment.{Holds}
-use Rattle.listing.proofs.RowLaws.{SoFar, row-inside, next-link, next-less, far-start, far-end, far-none, far-one, far-short}
+use Rattle.listing.proofs.WayLaws.{leads-lent}
+use borrow.Author.Needs.{needs}
 use Rattle.listing.proofs.restriction.match_rows.Statement.{statement}
 use Rattle.listing.proofs.restriction.match_rows.Tie as tie
-use Rattle.listing.proofs.restriction.match_rows.Reads as reads
-use Rattle.listing.proofs.restriction.match_rows.Lts as lts
-use Rattle.listing.proofs.environment.Environment.write.Reads as write-reads
-use Rattle.listing.proofs.matching.fit_row.Reads as fit-row-reads
 
-abbrev Inv-loop : tie.InvT-loop
-Inv-loop environment words first n log trues predicate scratch₀ base left rows made₀ link₀ scratch made link =
-    (from : ℕ)
-    × (link ≡ C.link rows (C.chain (trueKey log) predicate from rows))
-    × (made ≤ left)
-    × (length scratch ≡ length scratch₀)
-    × ((e : Environment) (table : Words) → Holds environment e → SoFar log predicate (termsAt table words first n) e from base made scratch₀ scratch)
+lead-requires : tie.Need-lead-requires
+lead-requires c κs = (c .before .pre .1, c .before .pre .2, c .before .pre .4, c .before .pre .6, c .before .pre .7, c .before .pre .8)
 
-abbrev μ-loop : tie.MeasureT-loop
-μ-loop environment words first n log trues predicate scratch₀ base left rows made₀ link₀ scratch made link = link
+mul-walk-rows : tie.Need-mul-walk-rows
+mul-walk-rows c = omega (arith, c .lead .ensures (c .before .before .args .log .now) (c .before .before .args .trues .now) (c .before .before .pre .3) .1, c .before .before .good)
 
-mul-link : tie.Need-mul-link Inv-loop μ-loop
-unfolding rowCount
-mul-link c = omega (arith, c .before .pre .3 .within, c .before .pre .4)
+sub-walk-rows : tie.Need-sub-walk-rows
+sub-walk-rows c = c .lead .ensures (c .before .before .args .log .now) (c .before .before .args .trues .now) (c .before .before .pre .3) .1
 
-shared-slice-read-link : tie.Need-shared-slice-read-link Inv-loop μ-loop
-unfolding rowCount
-shared-slice-read-link c = omega (arith, c .before .before .pre .3 .within, c .before .before .pre .4)
+part-walk-rows-start : tie.Need-part-walk-rows-start
+part-walk-rows-start c = c .lead .ensures (c .before .before .args .log .now) (c .before .before .args .trues .now) (c .before .before .pre .3) .1
 
-cast-link : tie.Need-cast-link Inv-loop μ-loop
-cast-link c = omega (arith, c .shared-slice-known2 .given (c .before .before .args .predicate))
+part-walk-rows-end : tie.Need-part-walk-rows-end
+part-walk-rows-end c = search needs
 
-loop-holds : tie.Need-loop-holds Inv-loop μ-loop
-unfolding rowCount
-loop-holds c = (0, c .before .before .pre .3 .heads (c .before .before .args .predicate) (omega (arith, c .before .before .pre .4)), omega arith, refl, λ e table h. far-start (c .before .before .args .log .now) (c .before .before .args .predicate) (termsAt table (c .before .before .args .words .now) (c .before .before .args .first) (c .before .before .args .n)) e (c .before .before .pre .4) (c .before .before .args .base) (c .before .before .args .scratch .now))
+walk-rows-requires : tie.Need-walk-rows-requires
+walk-rows-requires c κs = (c .before .before .before .before .pre .0, c .before .before .before .before .pre .1, c .before .before .before .before .pre .2, leads-lent (c .before .before .before .before .args .trues .now) (c .before .before .lead .result .from) (c .before .before .lead .ensures (c .before .before .before .before .args .log .now) (c .before .before .before .before .args .trues .now) (c .before .before .before .before .pre .3) .0), c .before .before .before .before .pre .5, c .before .before .before .before .pre .6)
 
-sub-row : tie.Need-sub-row Inv-loop μ-loop
-unfolding rowCount
-sub-row c =
-    let (inside, few) = row-inside (c .before .before .before .before .args .log .now) (c .before .before .before .before .args .predicate) (c .before .loop .inv .0) (c .before .loop .link) (c .before .loop .inv .1) (c .loop-test .taken) in
-    omega arith
+same-length : tie.Need-same-length
+same-length c = search needs
 
-add-link : tie.Need-add-link Inv-loop μ-loop
-unfolding rowCount
-add-link c =
-    let (inside, few) = row-inside (c .before .before .before .before .args .log .now) (c .before .before .before .before .args .predicate) (c .before .loop .inv .0) (c .before .loop .link) (c .before .loop .inv .1) (c .loop-test .taken) in
-    omega arith
-
-mul-link-2 : tie.Need-mul-link-2 Inv-loop μ-loop
-unfolding rowCount
-mul-link-2 c =
-    let (inside, few) = row-inside (c .before .before .before .before .args .log .now) (c .before .before .before .before .args .predicate) (c .before .loop .inv .0) (c .before .loop .link) (c .before .loop .inv .1) (c .loop-test .taken) in
-    let w = c .before .before .before .before .pre .3 .within in
-    omega arith
-
-shared-slice-read-link-2 : tie.Need-shared-slice-read-link-2 Inv-loop μ-loop
-unfolding rowCount
-shared-slice-read-link-2 c =
-    let (inside, few) = row-inside (c .before .before .before .before .before .args .log .now) (c .before .before .before .before .before .args .predicate) (c .before .before .loop .inv .0) (c .before .before .loop .link) (c .before .before .loop .inv .1) (c .before .loop-test .taken) in
-    let w = c .before .before .before .before .before .pre .3 .within in
-    omega arith
-
-cast-link-2 : tie.Need-cast-link-2 Inv-loop μ-loop
-cast-link-2 c = omega (arith, c .shared-slice-known3 .given (257 + ((length (c .before .before .before .before .before .args .log .now) / 8) - c .before .before .loop .link)))
-
-fit-row-requires : tie.Need-fit-row-requires Inv-loop μ-loop
-unfolding rowCount
-fit-row-requires c κs =
-    let (inside, few) = row-inside (c .before .before .before .before .before .args .log .now) (c .before .before .before .before .before .args .predicate) (c .before .before .loop .inv .0) (c .before .before .loop .link) (c .before .before .loop .inv .1) (c .before .loop-test .taken) in
-    (c .before .before .before .before .before .pre .0, c .before .before .before .before .before .pre .1, omega arith, c .before .before .before .before .before .pre .2)
-
-same-length : tie.Need-same-length Inv-loop μ-loop
-same-length c = c .before .before .before .before .before .loop .inv .3
-
-returns : tie.Need-returns Inv-loop μ-loop
-unfolding rowCount
-returns c = λ e table h.
-    let (f, one, holds) = c .before .before .fit-row .ensures e table h .one (c .before .if1 .taken) in
-    record {
-      came = far-short (c .before .before .before .before .before .before .before .before .args .log .now) (c .before .before .before .before .before .before .before .before .args .predicate) (termsAt table (c .before .before .before .before .before .before .before .before .args .words .now) (c .before .before .before .before .before .before .before .before .args .first) (c .before .before .before .before .before .before .before .before .args .n)) e (c .before .before .before .before .before .loop .inv .0) (c .before .before .before .before .before .before .before .before .args .base) (c .before .before .before .before .before .loop .made) (c .before .before .before .before .before .loop .link) (c .before .before .before .before .before .before .before .before .args .scratch .now) (c .before .before .before .before .before .loop .scratch) (c .before .before .before .before .before .loop .inv .4 e table h) (c .before .before .before .before .before .loop .inv .1) (c .before .before .before .before .loop-test .taken) f one (c .before .before .before .before .before .before .before .before .args .left) (c .if2 .taken);
-      long = c .before .before .before .before .before .loop .inv .3;
-      front = c .before .before .before .before .before .loop .inv .4 e table h .front;
-    }
-
-add-write : tie.Need-add-write Inv-loop μ-loop
-add-write c =
-    let room = c .before .before .before .before .before .before .before .before .before .before .pre .5 in
-    let few = c .before .before .if2 .left in
-    omega arith
-
-write-requires : tie.Need-write-requires Inv-loop μ-loop
-write-requires c κs =
-    let room = c .before .before .before .before .before .before .before .before .before .before .pre .5 in
-    let few = c .before .before .if2 .left in
-    let long = c .before .before .before .before .before .before .before .loop .inv .3 in
-    omega arith
-
-add-made : tie.Need-add-made Inv-loop μ-loop
-add-made c =
-    let room = c .before .before .before .before .before .before .before .before .before .before .before .before .pre .5 in
-    let few = c .before .before .before .before .if2 .left in
-    omega arith
-
-loop-less : tie.Need-loop-less Inv-loop μ-loop
-unfolding rowCount
-loop-less c = next-less (c .before .before .before .before .before .before .before .before .before .before .before .before .args .log .now) (c .before .before .before .before .before .before .before .before .before .before .before .before .args .predicate) (c .before .before .before .before .before .before .before .before .before .loop .inv .0) (c .before .before .before .before .before .before .before .before .before .loop .link) (c .before .before .before .before .before .before .before .before .before .loop .inv .1) (c .before .before .before .before .before .before .before .before .loop-test .taken) (c .before .before .before .before .before .before .before .before .before .before .before .before .args .trues .now) (c .before .before .before .before .before .before .before .before .before .before .before .before .pre .3)
-
-loop-again : tie.Need-loop-again Inv-loop μ-loop
-unfolding rowCount
-loop-again c =
-    let room = c .before .before .before .before .before .before .before .before .before .before .before .before .pre .5 in
-    let few = c .before .before .before .before .if2 .left in
-    let long = c .before .before .before .before .before .before .before .before .before .loop .inv .3 in (
-      ((length (c .before .before .before .before .before .before .before .before .before .before .before .before .args .log .now) / 8) - c .before .before .before .before .before .before .before .before .before .loop .link) + 1,
-      next-link (c .before .before .before .before .before .before .before .before .before .before .before .before .args .log .now) (c .before .before .before .before .before .before .before .before .before .before .before .before .args .predicate) (c .before .before .before .before .before .before .before .before .before .loop .inv .0) (c .before .before .before .before .before .before .before .before .before .loop .link) (c .before .before .before .before .before .before .before .before .before .loop .inv .1) (c .before .before .before .before .before .before .before .before .loop-test .taken) (c .before .before .before .before .before .before .before .before .before .before .before .before .args .trues .now) (c .before .before .before .before .before .before .before .before .before .before .before .before .pre .3),
-      omega arith,
-      c .before .write .kept .1 .0 ∙ c .before .before .before .before .before .before .before .before .before .loop .inv .3,
-      λ e table h.
-          let (f, one, holds) = c .before .before .before .before .before .before .fit-row .ensures e table h .one (c .before .before .before .before .before .if1 .taken) in
-          far-one (c .before .before .before .before .before .before .before .before .before .before .before .before .args .log .now) (c .before .before .before .before .before .before .before .before .before .before .before .before .args .predicate) (termsAt table (c .before .before .before .before .before .before .before .before .before .before .before .before .args .words .now) (c .before .before .before .before .before .before .before .before .before .before .before .before .args .first) (c .before .before .before .before .before .before .before .before .before .before .before .before .args .n)) e (c .before .before .before .before .before .before .before .before .before .loop .inv .0) (c .before .before .before .before .before .before .before .before .before .before .before .before .args .base) (c .before .before .before .before .before .before .before .before .before .loop .made) (c .before .before .before .before .before .before .before .before .before .loop .link) (c .before .before .before .before .before .before .before .before .before .before .before .before .args .scratch .now) (c .before .before .before .before .before .before .before .before .before .loop .scratch) (c .before .before .before .before .before .before .before .before .before .loop .inv .4 e table h) (c .before .before .before .before .before .before .before .before .before .loop .inv .1) (c .before .before .before .before .before .before .before .before .loop-test .taken) f one (omega arith) (c .before .write .ensures f holds),
-    )
-
-loop-less-2 : tie.Need-loop-less-2 Inv-loop μ-loop
-unfolding rowCount
-loop-less-2 c = next-less (c .before .before .before .before .before .before .before .args .log .now) (c .before .before .before .before .before .before .before .args .predicate) (c .before .before .before .before .loop .inv .0) (c .before .before .before .before .loop .link) (c .before .before .before .before .loop .inv .1) (c .before .before .before .loop-test .taken) (c .before .before .before .before .before .before .before .args .trues .now) (c .before .before .before .before .before .before .before .pre .3)
-
-loop-again-2 : tie.Need-loop-again-2 Inv-loop μ-loop
-unfolding rowCount
-loop-again-2 c = (
-  ((length (c .before .before .before .before .before .before .before .args .log .now) / 8) - c .before .before .before .before .loop .link) + 1,
-  next-link (c .before .before .before .before .before .before .before .args .log .now) (c .before .before .before .before .before .before .before .args .predicate) (c .before .before .before .before .loop .inv .0) (c .before .before .before .before .loop .link) (c .before .before .before .before .loop .inv .1) (c .before .before .before .loop-test .taken) (c .before .before .before .before .before .before .before .args .trues .now) (c .before .before .before .before .before .before .before .pre .3),
-  c .before .before .before .before .loop .inv .2,
-  c .before .before .before .before .loop .inv .3,
-  λ e table h. far-none (c .before .before .before .before .before .before .before .args .log .now) (c .before .before .before .before .before .before .before .args .predicate) (termsAt table (c .before .before .before .before .before .before .before .args .words .now) (c .before .before .before .before .before .before .before .args .first) (c .before .before .before .before .before .before .before .args .n)) e (c .before .before .before .before .loop .inv .0) (c .before .before .before .before .before .before .before .args .base) (c .before .before .before .before .loop .made) (c .before .before .before .before .loop .link) (c .before .before .before .before .before .before .before .args .scratch .now) (c .before .before .before .before .loop .scratch) (c .before .before .before .before .loop .inv .4 e table h) (c .before .before .before .before .loop .inv .1) (c .before .before .before .loop-test .taken) (c .before .fit-row .ensures e table h .none (c .if1 .left)),
-)
-
-same-length-2 : tie.Need-same-length-2 Inv-loop μ-loop
-same-length-2 c = c .before .loop .inv .3
-
-returns-2 : tie.Need-returns-2 Inv-loop μ-loop
-unfolding rowCount
-returns-2 c = λ e table h. record {
-  came = far-end (c .before .before .before .before .args .log .now) (c .before .before .before .before .args .predicate) (termsAt table (c .before .before .before .before .args .words .now) (c .before .before .before .before .args .first) (c .before .before .before .before .args .n)) e (c .before .loop .inv .0) (c .before .before .before .before .args .base) (c .before .loop .made) (c .before .loop .link) (c .before .before .before .before .args .scratch .now) (c .before .loop .scratch) (c .before .loop .inv .4 e table h) (c .before .loop .inv .1) (c .loop-test .left) (c .before .before .before .before .args .left) (c .before .loop .inv .2);
-  long = c .before .loop .inv .3;
-  front = c .before .loop .inv .4 e table h .front;
-}
+returns : tie.Need-returns
+returns c = c .before .walk-rows .ensures
 
 pub match-rows-spec : {M : Type 1} → statement M
-match-rows-spec =
-    tie.close
-    (tie.spec
-    Inv-loop
-    μ-loop
-    mul-link
-    shared-slice-read-link
-    cast-link
-    loop-holds
-    sub-row
-    add-link
-    mul-link-2
-    shared-slice-read-link-2
-    cast-link-2
-    fit-row-requires
-    same-length
-    returns
-    add-write
-    write-requires
-    add-made
-    loop-less
-    loop-again
-    loop-less-2
-    loop-again-2
-    same-length-2
-    returns-2)
+match-rows-spec = tie.close (tie.spec lead-requires mul-walk-rows sub-walk-rows part-walk-rows-start part-walk-rows-end walk-rows-requires same-length returns)

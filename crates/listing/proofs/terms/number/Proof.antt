@@ -2,14 +2,14 @@
 use Prim.Native.Nat.{ℕ, _<_}
 use native.Mathlib.Omega.{arith}
 use mathlib.Core.Path.{_≡_, sym, ap, _∙_}
-use mathlib.Core.List.{[]}
+use mathlib.Core.List.{List, []}
 use lib.ListN.{getD}
-use lib.IntN.{pos}
+use lib.IntN.{ℤ, pos}
 use mir.Syntax.{w32}
 use mir.Val.{toZ, ofZ}
 use Rattle.model.specs.Listing.{numberIn}
 use Rattle.policies.proofs.ModeTerms.{variable-small}
-use Rattle.listing.specs.Places.{held-number}
+use Rattle.listing.specs.Places.{number-at}
 use Rattle.listing.proofs.TermLaws.{constant-number, variable-number}
 use borrow.Author.Needs.{needs}
 use Rattle.listing.proofs.terms.number.Statement.{statement}
@@ -40,24 +40,25 @@ value-requires c κs = search needs
 small : (c : tie.After-value) → c .value .result < 16
 small c =
     let s = c .before .before .before in
-    let v = variable-small [] (s .args .words .now) (s .args .at) 16 (s .pre .1 []) (sym (c .before .before .is .ensures) ∙ c .before .if1 .left) in
+    let v = variable-small [] (s .args .words .now) (s .args .at) 16 (s .pre .2 []) (sym (c .before .before .is .ensures) ∙ c .before .if1 .left) in
     omega (arith, c .value .ensures)
 
 mul-result : tie.Need-mul-result
 mul-result c = omega (arith, small c)
 
-element-copy-out-result : tie.Need-element-copy-out-result
-element-copy-out-result c = small c
+shared-slice-copy-out-result : tie.Need-shared-slice-copy-out-result
+shared-slice-copy-out-result c = omega (arith, small c, c .before .before .before .pre .0)
 
 returns-2 : tie.Need-returns-2
 returns-2 c = λ e table h.
     let s = c .before .before .before .before in
     let a = s .args in
     let x = c .before .value .result in
-    let v = getD (a .t1 .numbers) x (pos 0) in
+    let v = getD (a .numbers .now) x (pos 0) in
     let back : toZ w32 (ofZ w32 v) ≡ v = search needs in
     back
-    ∙ held-number h x (small (c .before))
+    ∙ ap (λ (ns : List ℤ). getD ns x (pos 0)) h
+    ∙ number-at e x (small (c .before))
     ∙ ap (λ (y : ℕ). numberIn (e y)) (c .before .value .ensures)
     ∙ variable-number e table (a .words .now) (a .at) (sym (c .before .before .before .is .ensures) ∙ c .before .before .if1 .left)
 
@@ -72,5 +73,5 @@ number-spec =
     add-value
     value-requires
     mul-result
-    element-copy-out-result
+    shared-slice-copy-out-result
     returns-2)

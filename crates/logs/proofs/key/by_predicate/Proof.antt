@@ -1,7 +1,7 @@
 -- `logs::key::by_predicate` meets its contract. The invariant: the keys of the rows passed are written down.
-use Prim.Native.Nat.{ℕ, _+_, _*_, _-_, _≤_}
+use Prim.Native.Nat.{_-_, _≤_}
 use native.Mathlib.Omega.{arith}
-use mathlib.Core.Path.{_≡_, sym, ap, _∙_}
+use mathlib.Core.Path.{sym, _∙_}
 use Rattle.model.specs.Log.{rowCount}
 use Rattle.logs.specs.Key.{trueKey, Keys}
 use Rattle.logs.proofs.Keys.{true-small, Keying, keying-start, keying-step, keying-keys, keys-ready, keys-chained}

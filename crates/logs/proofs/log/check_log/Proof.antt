@@ -9,7 +9,7 @@ use lib.Seq.{length-take-le}
 use lib.Dec.{eqb, leb}
 use Rattle.model.specs.declared.Refusal.the-variants.{LogLength}
 use Rattle.model.specs.Words.{Words}
-use Rattle.model.specs.Answer.{passed, refused, ask, _>>=_}
+use Rattle.model.specs.Answer.{refused, ask, _>>=_}
 use Rattle.model.specs.Log.{rowCount, askLog}
 use Rattle.tables.specs.declared.Checked.the-variants.{Passed, Refused}
 use Rattle.logs.specs.Search.{askRows, repeatsAt}

@@ -1,6 +1,6 @@
 -- `logs::log::check_rows` meets its contract. The loop's invariant: the rows passed are good and no row repeats, so the
 -- questions come to those at the rows left. The measure is their number.
-use Prim.Native.Nat.{ℕ, _+_, _*_, _-_, _/_, _≤_, _<_}
+use Prim.Native.Nat.{ℕ, _+_, _*_, _-_, _/_, _≤_}
 use native.Mathlib.Nat.{sub-zero}
 use native.Mathlib.Omega.{arith}
 use mathlib.Core.Path.{_≡_, refl, sym, ap, _∙_}

@@ -1,8 +1,8 @@
 -- `logs::log::repeats` meets its contract: the first row of the log that holds the row's atom is earlier, or it is the row.
-use Prim.Native.Nat.{ℕ, _+_, _*_, _-_, _/_, _≤_, _<_}
+use Prim.Native.Nat.{ℕ, _+_, _*_, _-_}
 use native.Mathlib.Omega.{arith}
 use mathlib.Core.Path.{_≡_, sym, ap, ap₂, _∙_}
-use lib.ListN.{length, getD, take, drop, length-take, length-drop}
+use lib.ListN.{getD, take, drop, length-take, length-drop}
 use Rattle.model.specs.Lists.{span}
 use Rattle.model.specs.Log.{rowCount}
 use Rattle.logs.specs.Key.{atomKey}

@@ -1,10 +1,10 @@
 -- `logs::log::unused` meets its contract. The invariant: the test comes to whether the arguments that are not 0 so far stand
 -- before the n-th, and the test of those from i on that are unused.
-use Prim.Native.Nat.{ℕ, _+_, _*_, _-_, _≤_, max}
+use Prim.Native.Nat.{ℕ, _+_, _-_, _≤_, max}
 use native.Mathlib.Omega.{arith}
 use mathlib.Core.Path.{_≡_, sym, ap, _∙_}
 use mathlib.Core.Logic.{⊎-elim}
-use mathlib.Core.Bool.{Bool, _&&_}
+use mathlib.Core.Bool.{_&&_}
 use lib.Dec.{leb}
 use borrow.Author.Tests.{not-true, not-false}
 use Rattle.logs.specs.Search.{unusedFrom}

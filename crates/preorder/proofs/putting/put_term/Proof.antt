@@ -74,11 +74,11 @@ mul-out-3 c = search needs
 shared-slice-copy-out-out : tie.Need-shared-slice-copy-out-out
 shared-slice-copy-out-out c = search needs
 
-add-t22 : tie.Need-add-t22
-add-t22 c = search needs
+add-t23 : tie.Need-add-t23
+add-t23 c = search needs
 
-mul-t23 : tie.Need-mul-t23
-mul-t23 c = search needs
+mul-t24 : tie.Need-mul-t24
+mul-t24 c = search needs
 
 slice-set-from-out : tie.Need-slice-set-from-out
 slice-set-from-out c = simp length-set (omega (arith, c .before .before .before .before .before .before .pre .1))
@@ -103,14 +103,14 @@ returns-2 c =
     (term-outer (a .numbers .now) (a .words .now) (a .from) (other (v .before)) t stands
     (omega (arith, v .value .ensures, c .before .if2 .taken)))
 
+sub-lowered : tie.Need-sub-lowered
+sub-lowered c = search needs
+
 mul-out-4 : tie.Need-mul-out-4
 mul-out-4 c = search needs
 
 slice-set-of-out-3 : tie.Need-slice-set-of-out-3
 slice-set-of-out-3 c = search needs
-
-sub-out : tie.Need-sub-out
-sub-out c = search needs
 
 -- the number of a greater variable fits a word, since a word holds it
 fits :
@@ -130,11 +130,11 @@ fits c =
 cast-out : tie.Need-cast-out
 cast-out c = fits c
 
-add-t26 : tie.Need-add-t26
-add-t26 c = search needs
+add-t10 : tie.Need-add-t10
+add-t10 c = search needs
 
-mul-t27 : tie.Need-mul-t27
-mul-t27 c = search needs
+mul-t9 : tie.Need-mul-t9
+mul-t9 c = search needs
 
 slice-set-from-out-2 : tie.Need-slice-set-from-out-2
 slice-set-from-out-2 c = simp length-set (omega (arith, c .before .before .before .before .before .pre .1))
@@ -173,17 +173,17 @@ put-term-spec =
     slice-set-of-out-2
     mul-out-3
     shared-slice-copy-out-out
-    add-t22
-    mul-t23
+    add-t23
+    mul-t24
     slice-set-from-out
     same-length-2
     returns-2
+    sub-lowered
     mul-out-4
     slice-set-of-out-3
-    sub-out
     cast-out
-    add-t26
-    mul-t27
+    add-t10
+    mul-t9
     slice-set-from-out-2
     same-length-3
     returns-3)

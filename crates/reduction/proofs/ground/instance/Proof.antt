@@ -8,6 +8,7 @@ use lib.IntN.{pos}
 use mir.Syntax.{w32}
 use mir.Val.{toZ, ofZ}
 use borrow.Author.Needs.{needs}
+use Rattle.listing.specs.Places.{held-bind}
 use Rattle.reduction.proofs.GroundLaws.{Binding, binding-none, binding-more}
 use Rattle.reduction.proofs.ground.instance.Statement.{statement}
 use Rattle.reduction.proofs.ground.instance.Tie as tie
@@ -27,20 +28,26 @@ add-from c = omega arith
 loop-holds : tie.Need-loop-holds Inv-loop μ-loop
 loop-holds c = let a = c .args in (omega arith, binding-none (a .scratch .now) (17 * a .place + a .scope) (a .scope) (a .environment))
 
-add-bind : tie.Need-add-bind Inv-loop μ-loop
-add-bind c = omega arith
+add-x : tie.Need-add-x Inv-loop μ-loop
+add-x c = omega arith
 
-add-bind-2 : tie.Need-add-bind-2 Inv-loop μ-loop
-add-bind-2 c = omega arith
+add-bound : tie.Need-add-bound Inv-loop μ-loop
+add-bound c = omega arith
 
-mul-bind : tie.Need-mul-bind Inv-loop μ-loop
-mul-bind c = omega arith
+mul-bound : tie.Need-mul-bound Inv-loop μ-loop
+mul-bound c = omega arith
 
-shared-slice-copy-out-bind : tie.Need-shared-slice-copy-out-bind Inv-loop μ-loop
-shared-slice-copy-out-bind c = omega arith
+shared-slice-copy-out-bound : tie.Need-shared-slice-copy-out-bound Inv-loop μ-loop
+shared-slice-copy-out-bound c = omega arith
 
-bind-requires : tie.Need-bind-requires Inv-loop μ-loop
-bind-requires c κs = omega arith
+mul-t16 : tie.Need-mul-t16 Inv-loop μ-loop
+mul-t16 c = omega arith
+
+element-set-from-bound : tie.Need-element-set-from-bound Inv-loop μ-loop
+element-set-from-bound c = omega arith
+
+element-write-bound : tie.Need-element-write-bound Inv-loop μ-loop
+element-write-bound c = omega arith
 
 add-i : tie.Need-add-i Inv-loop μ-loop
 add-i c = omega arith
@@ -50,13 +57,14 @@ loop-less c = omega arith
 
 loop-again : tie.Need-loop-again Inv-loop μ-loop
 loop-again c =
-    let a = c .before .before .before .before .args in
-    let l = c .before .before .before .loop in
+    let a = c .before .before .before .args in
+    let l = c .before .before .loop in
     let z = getD (a .scratch .now) (17 * a .place + a .scope + l .i) (pos 0) in
     let back : toZ w32 (ofZ w32 z) ≡ z = search needs in (
       omega arith,
-      binding-more (a .scratch .now) (17 * a .place + a .scope) (a .scope) (a .environment) (l .bound) (c .bind .result) (l .i) _ (omega arith) back
-          (c .bind .ensures) (l .inv .1),
+      binding-more (a .scratch .now) (17 * a .place + a .scope) (a .scope) (a .environment) (l .bound) _ (l .i) _ (omega arith) back
+          (λ e h. held-bind h (a .scope + l .i) _)
+          (l .inv .1),
     )
 
 returns : tie.Need-returns Inv-loop μ-loop
@@ -75,11 +83,13 @@ instance-spec =
     mul-from
     add-from
     loop-holds
-    add-bind
-    add-bind-2
-    mul-bind
-    shared-slice-copy-out-bind
-    bind-requires
+    add-x
+    add-bound
+    mul-bound
+    shared-slice-copy-out-bound
+    mul-t16
+    element-set-from-bound
+    element-write-bound
     add-i
     loop-less
     loop-again

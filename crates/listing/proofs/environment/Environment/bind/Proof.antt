@@ -1,13 +1,14 @@
 -- `listing::environment::Environment::bind` meets its contract: a number and a mark are set, as `bind` changes one slot.
-use mathlib.Core.Path.{_≡_, ap, ap₂, _∙_}
-use mathlib.Core.Bool.{Bool, true}
-use mathlib.Core.List.{List}
+use mathlib.Core.Path.{_≡_, sym, subst}
+use mathlib.Core.Bool.{true}
 use lib.ListN.{set}
 use lib.IntN.{ℤ}
 use mir.Syntax.{w32}
 use mir.Val.{toZ, ofZ}
 use borrow.Author.Needs.{needs}
-use Rattle.listing.specs.Places.{numbers-bind, marks-bind}
+use Rattle.listing.specs.Environment.{Holds}
+use Rattle.model.specs.Listing.{bind}
+use Rattle.listing.specs.Places.{held-bind}
 use Rattle.listing.proofs.environment.Environment.bind.Statement.{statement}
 use Rattle.listing.proofs.environment.Environment.bind.Tie as tie
 
@@ -22,12 +23,12 @@ element-write-self c = search needs
 
 returns : tie.Need-returns
 returns c = λ e h.
-    let x = c .args .variable in
-    let back : toZ w32 (ofZ w32 (c .args .number)) ≡ c .args .number = search needs in
-    record {
-      numbers = ap₂ (λ (l : List ℤ) (k : ℤ). set l x k) (h .numbers) back ∙ numbers-bind e x (c .args .number);
-      marks = ap (λ (l : List Bool). set l x true) (h .marks) ∙ marks-bind e x (c .args .number);
-    }
+    let k = c .args .number in
+    let back : toZ w32 (ofZ w32 k) ≡ k = search needs in
+    subst
+    (λ (z : ℤ). Holds (record { numbers = set (c .args .t1 .numbers) (c .args .variable) z; marks = set (c .args .t1 .marks) (c .args .variable) true }) (bind e (c .args .variable) k))
+    (sym back)
+    (held-bind h (c .args .variable) k)
 
 pub bind-spec : {M : Type 1} → statement M
 bind-spec = tie.close (tie.spec mul-number element-set-from-number element-write-self returns)

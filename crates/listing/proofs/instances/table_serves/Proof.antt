@@ -1,0 +1,21 @@
+-- `listing::instances::table_serves` meets its contract, test by test.
+use native.Mathlib.Omega.{arith}
+use borrow.Author.Needs.{needs}
+use Rattle.listing.proofs.KeyLaws.{serves-over, serves-within}
+use Rattle.listing.proofs.instances.table_serves.Statement.{statement}
+use Rattle.listing.proofs.instances.table_serves.Tie as tie
+
+returns : tie.Need-returns
+returns c = serves-over _ (omega arith)
+
+returns-2 : tie.Need-returns-2
+returns-2 c = serves-over _ (omega arith)
+
+add-result : tie.Need-add-result
+add-result c = search needs
+
+returns-3 : tie.Need-returns-3
+returns-3 c = serves-within _ (omega arith)
+
+pub table-serves-spec : {M : Type 1} → statement M
+table-serves-spec = tie.close (tie.spec returns returns-2 add-result returns-3)
