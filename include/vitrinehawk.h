@@ -1,16 +1,28 @@
 /*
- * The auditor's static library: checks of policies and logs, and duals.
+ * The auditor's static library: checks of policies and logs, duals, and residuals of policies over logs.
  *
- * Tables, policies, logs and buffers are arrays of signed 32-bit words. Each is passed as a pointer and the number of
- * its words. A call reads its tables, policies and logs during the call only and keeps no pointer. A buffer must not
- * overlap the other arrays.
+ * Tables, policies, logs, scratch and buffers are arrays of signed 32-bit words. Each is passed as a pointer and the
+ * number of its words, which may be any number, 0 included; the pointer must be good for so many words, and not null.
+ * A call keeps no pointer. It only reads tables, policies and logs, which may overlap each other. Scratch, buffer and
+ * detail, which it writes, must not overlap anything else.
  *
- * Each call returns number * 2^48 + place * 2^24 + count. Accepted: number 0, place 0, and what the call counts.
- * Refused: the number of the question (1 to 12) that was answered with "no", its place, and count 0.
+ * Each call returns a number: 0 if it is accepted, else the number of the first question that was answered with "no".
+ * To *detail it writes what it counts if it is accepted, else the place that belongs to the question:
  *
- *    1 table           4 level        7 mode          10 repeated atom
- *    2 policy length   5 predicate    8 log length    11 scratch
- *    3 shape           6 variable     9 row           12 room
+ *     1  table           the first bad predicate; 0 if the length is bad
+ *     2  policy length   0
+ *     3  shape           the word where the node begins, where one is missing, or the first one behind the tree
+ *     4  level           the word where the node begins
+ *     5  predicate       the same
+ *     6  variable        the same
+ *     7  mode            the word where the atom, "some" or quantifier begins
+ *     8  log length      0
+ *     9  row             the row
+ *    10  repeated atom   the row
+ *    11  scratch         0
+ *    12  room            0
+ *
+ * Words, predicates and rows are counted from 0.
  */
 #ifndef VITRINEHAWK_H
 #define VITRINEHAWK_H
@@ -22,27 +34,29 @@
 extern "C" {
 #endif
 
-/* Checks a policy (questions 1 to 7). The count is its greatest level. */
-uint64_t vh_check_policy(const int32_t *table, size_t table_len, const int32_t *policy, size_t policy_len);
+/* Checks a policy (questions 1 to 7). Counts its greatest level. */
+uint32_t vh_check_policy(const int32_t *table, size_t table_len, const int32_t *policy, size_t policy_len,
+                         uint64_t *detail);
 
-/* Checks a log (questions 1 and 8 to 10). The count is the number of its rows. */
-uint64_t vh_check_log(const int32_t *table, size_t table_len, const int32_t *log, size_t log_len);
+/* Checks a log (questions 1 and 8 to 10). Counts its rows. */
+uint32_t vh_check_log(const int32_t *table, size_t table_len, const int32_t *log, size_t log_len, uint64_t *detail);
 
 /*
- * Writes the dual of a policy (questions 1 to 7 and 12). The count is its length. The rest of the buffer, or all of it
- * if the call is refused, becomes zero.
+ * Writes the dual of a policy (questions 1 to 7 and 12). Counts its words. The rest of the buffer, or all of it if the
+ * call is refused, becomes zero.
  */
-uint64_t vh_dual(const int32_t *table, size_t table_len, const int32_t *policy, size_t policy_len, int32_t *buffer,
-                 size_t buffer_len);
+uint32_t vh_dual(const int32_t *table, size_t table_len, const int32_t *policy, size_t policy_len, int32_t *buffer,
+                 size_t buffer_len, uint64_t *detail);
 
-/* The number of an answer: 0 if accepted. */
-static inline uint32_t vh_number(uint64_t answer) { return (uint32_t)(answer >> 48); }
-
-/* The place of an answer. */
-static inline uint32_t vh_place(uint64_t answer) { return (uint32_t)(answer >> 24) & 0xFFFFFF; }
-
-/* The count of an answer. */
-static inline uint32_t vh_count(uint64_t answer) { return (uint32_t)answer & 0xFFFFFF; }
+/*
+ * Writes the residual of a policy over a log (all questions). Counts its words. The rest of the buffer, or all of it if
+ * the call is refused, becomes zero. Scratch is room to work in, 17 words a place: what stands in it before makes no
+ * difference, and all of it becomes zero. After 11 or 12 the same call with more scratch or a larger buffer may be
+ * accepted; a residual of more than 1,048,576 words is refused with 12 in any case.
+ */
+uint32_t vh_reduce(const int32_t *table, size_t table_len, const int32_t *policy, size_t policy_len, const int32_t *log,
+                   size_t log_len, int32_t *scratch, size_t scratch_len, int32_t *buffer, size_t buffer_len,
+                   uint64_t *detail);
 
 #ifdef __cplusplus
 }

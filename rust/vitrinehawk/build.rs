@@ -1,4 +1,4 @@
-//! Links the static library `exports` from the directory named by `VITRINEHAWK_LIB`, or from `target/staticlib` of
+//! Links the static library `vitrinehawk` from the directory named by `VITRINEHAWK_LIB`, or from `target/staticlib` of
 //! the project.
 
 use std::env;
@@ -7,14 +7,14 @@ use std::path::{Path, PathBuf};
 fn main() {
     println!("cargo:rerun-if-env-changed=VITRINEHAWK_LIB");
     let directory = library_directory();
-    let archive = directory.join("libexports.a");
+    let archive = directory.join("libvitrinehawk.a");
     println!("cargo:rerun-if-changed={}", archive.display());
     if !archive.exists() {
         let directory = directory.display();
-        println!("cargo:warning=no libexports.a in {directory}: build it there, or set VITRINEHAWK_LIB");
+        println!("cargo:warning=no libvitrinehawk.a in {directory}: build it there, or set VITRINEHAWK_LIB");
     }
     println!("cargo:rustc-link-search=native={}", directory.display());
-    println!("cargo:rustc-link-lib=static=exports");
+    println!("cargo:rustc-link-lib=static=vitrinehawk");
     // For the test of the C header.
     println!("cargo:rustc-env=VITRINEHAWK_LIB_DIRECTORY={}", directory.display());
 }

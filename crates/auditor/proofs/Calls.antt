@@ -16,6 +16,17 @@ use Rattle.model.specs.Calls.{askPolicy, checkPolicy, checkLog}
 use Rattle.policies.specs.Policy.{toldPolicy}
 use Rattle.policies.specs.declared.policy.Walked.the-variants as walked
 
+-- what an answer says of the questions
+pub was-refused : {A : Type 0} (count : A → ℕ) (o : Outcome A) {r : Refusal} {p : ℕ} → Refused r p ≡ answer count o → o ≡ refused r p
+unfolding answer
+was-refused count (refused r p) e = cc
+was-refused count (passed a) e = cc
+
+pub was-passed : {A : Type 0} (count : A → ℕ) (o : Outcome A) {k : ℕ} → Accepted k ≡ answer count o → (a : A) × (o ≡ passed a)
+unfolding answer
+was-passed count (refused r p) e = absurd (let z : _≡_ {A = ℕ} 0 1 = cc in omega arith)
+was-passed count (passed a) e = (a, refl)
+
 -- what is told of a reading is what came of it
 told-refused :
     (policy : Words) (o : Outcome Tree) {r : Refusal} {p : ℕ} → walked.Refused r p ≡ toldPolicy policy o → o ≡ refused r p

@@ -12,7 +12,7 @@ use Rattle.model.specs.declared.Answer.the-variants.{Accepted, Refused}
 use Rattle.model.specs.declared.Refusal.{Refusal}
 use Rattle.model.specs.declared.Refusal.the-variants.{Room}
 use Rattle.model.specs.Words.{Words, policyLimit}
-use Rattle.model.specs.Answer.{Outcome, passed, refused, ask, answer, _>>=_}
+use Rattle.model.specs.Answer.{passed, ask, answer, _>>=_}
 use Rattle.model.specs.Tree.{Tree, encode}
 use Rattle.model.specs.Level.{formula, greatest}
 use Rattle.model.specs.Mode.{size}
@@ -22,18 +22,8 @@ use Rattle.laws.specs.Dual.{dual-size}
 use Rattle.laws.specs.Calls.Policy.{accepted-asked}
 use Rattle.laws.specs.Reading.Encoded.{read-length}
 use Rattle.preorder.specs.Grown.{Tupled}
+use Rattle.auditor.proofs.Calls.{was-refused, was-passed}
 use Rattle.auditor.proofs.DualFormed.{accepted-written}
-
--- what an answer says of the questions
-was-refused : {A : Type 0} (count : A → ℕ) (o : Outcome A) {r : Refusal} {p : ℕ} → Refused r p ≡ answer count o → o ≡ refused r p
-unfolding answer
-was-refused count (refused r p) e = cc
-was-refused count (passed a) e = cc
-
-was-passed : {A : Type 0} (count : A → ℕ) (o : Outcome A) {k : ℕ} → Accepted k ≡ answer count o → (a : A) × (o ≡ passed a)
-unfolding answer
-was-passed count (refused r p) e = absurd (let z : _≡_ {A = ℕ} 0 1 = cc in omega arith)
-was-passed count (passed a) e = (a, refl)
 
 module _ (table policy old buffer : Words) where
   -- an answer, and the words of the buffer, are those of the call

@@ -6,3 +6,7 @@ pub mod DualAfter
 pub mod DualSwap
 pub mod DualFormed
 pub mod DualCall
+pub mod ReduceSettling
+pub mod ReduceChains
+pub mod ReduceWalking
+pub mod ReduceCall

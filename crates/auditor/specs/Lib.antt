@@ -1,1 +1,4 @@
 pub mod Dual
+pub mod Reduce
+pub mod Runs
+pub mod RunsExample

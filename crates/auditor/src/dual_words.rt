@@ -1,5 +1,6 @@
 // The words of the dual of a policy. Words are in preorder, so that trees are walked with no stack: a count of the trees
 // that are still to be passed does.
+use crate::clearing::clear;
 use policies::node;
 use policies::node::Tag;
 use preorder::putting::copy_words;
@@ -8,7 +9,7 @@ use tables::words;
 ghost use mathlib.Core.Path.{_≡_};
 ghost use mathlib.Core.List.{_++_};
 ghost use Prim.Native.Nat.{ℕ, suc, _+_, _-_, _≤_, _<_};
-ghost use lib.ListN.{length, take, drop};
+ghost use lib.ListN.{length, drop};
 ghost use lib.IntN.{pos};
 ghost use Rattle.model.specs.Words as W;
 ghost use Rattle.model.specs.Tag as T;
@@ -19,18 +20,6 @@ ghost use Rattle.laws.specs.Words.Standing.{code};
 ghost use Rattle.policies.specs.Node.{asTag};
 ghost use Rattle.preorder.specs.Grown as G;
 ghost use Rattle.auditor.specs.Dual as D;
-
-// Words from an index on become zero.
-pub fn clear(buffer: &mut [i32], from: usize)
-    requires { ⌜ from ≤ length (now buffer) ⌝ }
-    ensures { λ _. ⌜ now (buffer .exit) ≡ take from (now (buffer .entry)) ++ zeros (length (now (buffer .entry)) - from) ⌝ }
-{
-    let mut i = from;
-    while i < buffer.len() {
-        buffer[i] = 0;
-        i += 1;
-    }
-}
 
 // How many formulas follow the words that the dual of a node keeps.
 fn formulas(words: &[i32], tag: Tag, at: usize) -> usize

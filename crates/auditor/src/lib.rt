@@ -1,9 +1,13 @@
 // The public calls of the auditor. Each makes every check itself and answers as model's definition of it says.
-pub mod dual_words;
+mod clearing;
+mod dual_words;
+mod residual;
 
 ghost use mathlib.Core.Path.{_≡_};
 ghost use lib.ListN.{length};
+ghost use Rattle.model.specs.Answer.{count};
 ghost use Rattle.model.specs.Calls as C;
+ghost use Rattle.auditor.specs.Reduce.{Reduces};
 use model::Answer;
 use model::Refusal;
 use policies::policy::Walked;
@@ -61,13 +65,41 @@ pub fn dual(table: &[i32], policy: &[i32], buffer: &mut [i32]) -> Answer
 {
     let asked = check_policy(table, policy);
     if let Answer::Refused(refusal, place) = asked {
-        dual_words::clear(buffer, 0);
+        clearing::clear(buffer, 0);
         return Answer::Refused(refusal, place);
     }
     if buffer.len() < policy.len() {
-        dual_words::clear(buffer, 0);
+        clearing::clear(buffer, 0);
         return Answer::Refused(Refusal::Room, 0);
     }
     dual_words::write(policy, buffer);
     Answer::Accepted(policy.len())
+}
+
+// How many words of a buffer an answer counts: none, if it is a refusal.
+fn counted(answer: Answer) -> usize
+    ensures { λ r. ⌜ r ≡ count answer ⌝ }
+{
+    match answer {
+        Answer::Accepted(n) => n,
+        Answer::Refused(_, _) => 0,
+    }
+}
+
+// Write the residual of a policy over a log: all questions. Accepted, the count is its length.
+pub fn reduce(
+    table: &[i32],
+    policy: &[i32],
+    log: &[i32],
+    scratch: &mut [i32],
+    buffer: &mut [i32],
+) -> Answer
+    ensures { λ r. ⌜
+        Reduces (now (table .entry)) (now (policy .entry)) (now (log .entry)) (now (scratch .entry)) (now (buffer .entry)) r (now (scratch .exit)) (now (buffer .exit))
+        ⌝ }
+{
+    let answer = residual::residual(table, policy, log, scratch, buffer);
+    clearing::clear(scratch, 0);
+    clearing::clear(buffer, counted(answer));
+    answer
 }

@@ -1,32 +1,15 @@
 // Cases of each call, a line for each: its name, and number, place and count of the answer; of a call that writes, also the
-// words of the buffer. Table T, log A, formula F and the cases P are those of the specification.
+// words of the buffer, and of reduce whether scratch is clear. Table T, log A, formula F and the cases P are those of the
+// specification.
 mod print;
+mod reductions;
 
 ghost use Prim.Native.Nat.{_≤_};
-use model::Answer;
-
-// The name and the answer of a case.
-fn answer(name: &[u8], a: Answer) {
-    io::write_all(1, name);
-    match a {
-        Answer::Accepted(count) => {
-            io::write_all(1, b" 0 0 ");
-            print::number(count);
-        }
-        Answer::Refused(refusal, place) => {
-            io::write_all(1, b" ");
-            print::number(model::number(refusal) as usize);
-            io::write_all(1, b" ");
-            print::number(place);
-            io::write_all(1, b" 0");
-        }
-    }
-}
 
 // A policy over a table.
 fn policy(name: &[u8], table: &[i32], words: &[i32]) {
     let a = auditor::check_policy(table, words);
-    answer(name, a);
+    print::answer(name, a);
     io::write_all(1, b"\n");
 }
 
@@ -38,8 +21,15 @@ fn over_t(name: &[u8], words: &[i32]) {
 // A log over a table.
 fn log(name: &[u8], words: &[i32]) {
     let a = auditor::check_log(&[3, 0, 0, 2, 0, 1, 1, 1, 0], words);
-    answer(name, a);
+    print::answer(name, a);
     io::write_all(1, b"\n");
+}
+
+// A policy over table T, checked, and reduced over log A.
+fn both(name: &[u8], words: &[i32]) {
+    over_t(name, words);
+    io::write_all(1, b"reduce-");
+    reductions::over_a(name, words, &mut [-7; 2]);
 }
 
 // n nested all-ofs, each 6 2 1 and then the next, the innermost 6 2 1 1.
@@ -53,7 +43,7 @@ fn nested(name: &[u8], n: usize)
         words[3 * i + 1] = 2;
         i += 1;
     }
-    over_t(name, &words[..3 * n + 1]);
+    both(name, &words[..3 * n + 1]);
 }
 
 fn tables() {
@@ -62,6 +52,9 @@ fn tables() {
     policy(b"table-cut", &[3, 0, 0, 2], &[1]);
     policy(b"table-256", &records[..768], &[1]);
     policy(b"table-257", &records, &[1]);
+}
+
+fn records() {
     policy(b"table-arity-6", &[3, 0, 0, 6, 63, 1], &[1]);
     policy(b"table-arity-7", &[3, 0, 0, 7, 0, 1], &[1]);
     policy(b"table-arity-0", &[0, 0, 0], &[1]);
@@ -78,6 +71,9 @@ fn shapes() {
     over_t(b"for-all-in-restriction", &[8, 1, 0, 9, 1, 0, 1, 1, 1]);
     over_t(b"one-child", &[6, 1, 1]);
     over_t(b"child-missing", &[6, 2, 1]);
+}
+
+fn counts() {
     over_t(b"children-announced", &[6, 2147483647, 1]);
     over_t(b"tuples-announced", &[8, 1, 2147483647, 1, 1]);
     over_t(b"variables-5", &[8, 5, 0, 1, 1]);
@@ -188,6 +184,9 @@ fn logs() {
     log(b"rows-1", &zeros[..8]);
     log(b"rows-4096", &zeros[..32768]);
     log(b"rows-4097", &zeros);
+}
+
+fn rows() {
     log(b"A", &[0, 1, 7, 9, 100, 0, 0, 0, 1, 1, 9, 50, 0, 0, 0, 0]);
     log(b"row-cut", &[0, 1, 7, 9, 100, 0, 0]);
     log(b"row-predicate", &[3, 1, 7, 0, 0, 0, 0, 0]);
@@ -205,7 +204,7 @@ fn logs() {
 // The dual of a policy over table T, in a buffer.
 fn dual(name: &[u8], words: &[i32], buffer: &mut [i32]) {
     let a = auditor::dual(&[3, 0, 0, 2, 0, 1, 1, 1, 0], words, buffer);
-    answer(name, a);
+    print::answer(name, a);
     print::words(buffer);
 }
 
@@ -226,10 +225,18 @@ fn duals() {
 
 fn main() {
     tables();
+    records();
     shapes();
+    counts();
     levels();
     names();
     modes();
     logs();
+    rows();
     duals();
+    reductions::ground();
+    reductions::for_all();
+    reductions::exists();
+    reductions::readings();
+    reductions::runs();
 }

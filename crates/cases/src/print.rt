@@ -1,4 +1,5 @@
 // Lines on standard output.
+use model::Answer;
 
 // A number, in decimal digits.
 pub fn number(n: usize) {
@@ -35,4 +36,22 @@ pub fn words(words: &[i32]) {
         i += 1;
     }
     io::write_all(1, b"\n");
+}
+
+// The name and the answer of a case.
+pub fn answer(name: &[u8], a: Answer) {
+    io::write_all(1, name);
+    match a {
+        Answer::Accepted(count) => {
+            io::write_all(1, b" 0 0 ");
+            number(count);
+        }
+        Answer::Refused(refusal, place) => {
+            io::write_all(1, b" ");
+            number(model::number(refusal) as usize);
+            io::write_all(1, b" ");
+            number(place);
+            io::write_all(1, b" 0");
+        }
+    }
 }

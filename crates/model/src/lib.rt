@@ -25,7 +25,7 @@ pub enum Answer {
 }
 
 // The number of the question that a refusal answers with no.
-pub fn number(refusal: Refusal) -> u64
+pub fn number(refusal: Refusal) -> u32
     ensures { λ r. ⌜ r ≡ question refusal ⌝ }
 {
     match refusal {

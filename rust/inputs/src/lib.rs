@@ -3,6 +3,7 @@
 //! Everything is made from a seed, so that a failure can be had again. Good inputs are good by construction; damaged
 //! ones are close to good ones, or not.
 
+mod cases;
 mod damage;
 mod logs;
 mod policies;
@@ -11,8 +12,9 @@ mod recipe;
 mod shrink;
 mod tables;
 
+pub use cases::Case;
 pub use damage::{boundary_word, damage, noise};
-pub use logs::{counting_log, damaged_log, full_log, good_log, random_log, FULL_LOG_TABLE};
+pub use logs::{counting_log, damaged_log, extension, full_log, good_log, random_log, FULL_LOG_TABLE};
 pub use policies::{long_policy, policy};
 pub use random::Random;
 pub use recipe::Recipe;

@@ -10,10 +10,27 @@ const ROW: usize = 8;
 /// A good log with at most so many rows. Its arguments are 0 to `values` - 1.
 pub fn good_log(random: &mut Random, table: &[i32], most_rows: usize, values: usize) -> Vec<i32> {
     let rows = random.below(most_rows + 1);
+    log_of(random, rows, |random| {
+        atom(random, table, |random| random.below(values) as i32)
+    })
+}
+
+/// The same, with most rows of the first half of the predicates.
+pub(crate) fn split_log(random: &mut Random, table: &[i32], most_rows: usize, values: usize) -> Vec<i32> {
+    let first_half = &table[..table.len().min(3 * (table.len() / 6 + 1))];
+    let rows = random.between(most_rows / 2, most_rows);
+    log_of(random, rows, |random| {
+        let table = if random.once_in(8) { table } else { first_half };
+        atom(random, table, |random| random.below(values) as i32)
+    })
+}
+
+/// Rows of different atoms, from so many that may repeat each other.
+fn log_of(random: &mut Random, rows: usize, atom: impl Fn(&mut Random) -> [i32; 7]) -> Vec<i32> {
     let mut seen = BTreeSet::new();
     let mut words = Vec::new();
     for _ in 0..rows {
-        let atom = atom(random, table, |random| random.below(values) as i32);
+        let atom = atom(random);
         if seen.insert(atom) {
             words.extend(row(random, atom));
         }
@@ -108,6 +125,25 @@ pub fn random_log(random: &mut Random, table: &[i32], rows: usize) -> Vec<i32> {
         let atom = atom(random, table, |random| random.number() as i32);
         if seen.insert(atom) {
             words.extend(row(random, atom));
+        }
+    }
+    words
+}
+
+/// A log that extends another by at most so many rows: for open atoms, and false ones for complete predicates. Their
+/// arguments are values of the universe.
+pub fn extension(random: &mut Random, table: &[i32], log: &[i32], universe: &[i32], most_rows: usize) -> Vec<i32> {
+    let mut words = log.to_vec();
+    for _ in 0..random.below(most_rows + 1) {
+        let [predicate, a, b, c, d, e, f] = atom(random, table, |random| random.pick(universe));
+        let complete = table[3 * predicate as usize + 2] == 1;
+        let truth = if complete { 0 } else { random.below(2) as i32 };
+        let row = [predicate, truth, a, b, c, d, e, f];
+        let known = words
+            .chunks(ROW)
+            .any(|other| other[0] == row[0] && other[2..] == row[2..]);
+        if !known {
+            words.extend(row);
         }
     }
     words

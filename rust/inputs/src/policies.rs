@@ -174,15 +174,31 @@ impl<'a> Maker<'a> {
     /// Writes a plain node or an atom with any variables in scope.
     fn leaf(&mut self, scope: usize) {
         let all = variables(0, scope);
-        match self.random.below(7) {
+        let atoms_only = self.recipe.split && !self.random.once_in(5);
+        let kind = if atoms_only { 1 } else { self.random.below(7) };
+        match kind {
             0 => self.words.push(self.random.below(2) as i32),
             1..=4 => {
-                let predicate = self.random.below(self.predicates.len());
+                let any: Vec<usize> = (0..self.predicates.len()).collect();
+                let predicate = self.predicate(&any, false);
                 let tag = self.random.between(2, 3) as i32;
                 self.atom(tag, predicate, scope, all, 0);
             }
             _ => self.time(scope, all),
         }
+    }
+
+    /// One of the fitting predicates, mostly of the first or the second half if the recipe splits them.
+    fn predicate(&mut self, fitting: &[usize], first: bool) -> usize {
+        if self.recipe.split && !self.random.once_in(5) {
+            let half = self.predicates.len() / 2;
+            let of_half = fitting.iter().copied().filter(|number| (*number <= half) == first);
+            let of_half: Vec<usize> = of_half.collect();
+            if !of_half.is_empty() {
+                return self.random.pick(&of_half);
+            }
+        }
+        self.random.pick(fitting)
     }
 
     /// Writes an atom. Inputs, and all arguments of tag 3, are variables of `bound` or constants. Returns its variables.

@@ -15,6 +15,10 @@ pub struct Recipe {
     pub most_variables: usize,
     /// Constants and excluded numbers are 0 to `values` - 1; if `None`, any words.
     pub values: Option<usize>,
+    /// Restrictions mostly speak of the first half of the predicates, bodies of the other one, and few leaves are plain
+    /// nodes or comparisons. Over a log that mostly knows the first half, quantifiers then have instances, and their
+    /// bodies stay open.
+    pub split: bool,
     /// On average one choice in so many goes wrong; if `None`, none does.
     pub slips: Option<usize>,
     /// On average one choice in so many does not care for the mode rule; if `None`, all do.
@@ -32,6 +36,7 @@ impl Recipe {
             most_levels: 64,
             most_variables: 16,
             values: random.pick(&[None, Some(3)]),
+            split: false,
             slips: None,
             mode_slips: None,
         }
@@ -64,6 +69,24 @@ impl Recipe {
         }
     }
 
+    /// Accepted policies of some size, with quantifiers in each other that have instances.
+    pub fn nested(random: &mut Random) -> Self {
+        Recipe {
+            nodes: random.between(6, 30),
+            depth: random.pick(&[3, 6, 9, 12]),
+            most_variables: random.between(2, 7),
+            values: Some(random.between(2, 3)),
+            split: true,
+            ..Recipe::small(random)
+        }
+    }
+
+    /// The same kind of policy, with constants and excluded numbers from 0 to `values` - 1.
+    pub fn with_values(self, values: usize) -> Self {
+        let values = Some(values);
+        Recipe { values, ..self }
+    }
+
     /// Small accepted policies whose truth can be found by trying all values.
     pub fn small(random: &mut Random) -> Self {
         Recipe {
@@ -72,6 +95,7 @@ impl Recipe {
             most_levels: 64,
             most_variables: random.between(1, 4),
             values: Some(3),
+            split: false,
             slips: None,
             mode_slips: None,
         }

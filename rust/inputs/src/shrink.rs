@@ -167,7 +167,7 @@ impl<F: Fn(&[Vec<i32>]) -> bool> Shrinker<F> {
 }
 
 /// The number of a node's own words and of its children, if its tag and its counts look good.
-fn head(words: &[i32]) -> Option<(usize, usize)> {
+pub(crate) fn head(words: &[i32]) -> Option<(usize, usize)> {
     let count = |place: usize| words.get(place).and_then(|word| usize::try_from(*word).ok());
     match *words.first()? {
         0 | 1 => Some((1, 0)),

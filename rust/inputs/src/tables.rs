@@ -19,7 +19,8 @@ pub fn small_table(random: &mut Random) -> Vec<i32> {
     table(random, predicates, 2)
 }
 
-fn table(random: &mut Random, predicates: usize, most: usize) -> Vec<i32> {
+/// A good table of so many predicates with at most so many arguments each.
+pub(crate) fn table(random: &mut Random, predicates: usize, most: usize) -> Vec<i32> {
     let inputs_are_rare = random.once_in(2);
     let mut words = Vec::new();
     for _ in 0..predicates {

@@ -13,13 +13,14 @@
 
 mod answer;
 mod dual;
-mod listing;
+pub mod listing;
 mod log;
 mod mode;
 mod reader;
 mod reduction;
 mod table;
 pub mod tree;
+pub mod truth;
 
 pub use answer::{Answer, Question, Refused};
 pub use log::{GroundAtom, Log};
@@ -68,14 +69,19 @@ pub fn reduce(table: &[i32], policy: &[i32], log: &[i32], scratch: &mut [i32], b
 
 /// The places of scratch that reducing a policy over a log needs (questions 1 to 10).
 pub fn places(table: &[i32], policy: &[i32], log: &[i32]) -> Result<usize, Refused> {
+    places_within(table, policy, log, usize::MAX)
+}
+
+/// The same, if the need is at most so many places (question 11).
+pub fn places_within(table: &[i32], policy: &[i32], log: &[i32], most: usize) -> Result<usize, Refused> {
     let predicates = read_table(table)?;
     let policy = read_policy(&predicates, policy)?;
     let log = Log::read(&predicates, log)?;
-    Ok(reduction::places(&log, &policy.root, usize::MAX).expect("no limit"))
+    reduction::places(&log, &policy.root, most).ok_or(Question::Scratch.at(0))
 }
 
-/// The words of the residual, if there is room for them.
-fn residual(table: &[i32], policy: &[i32], log: &[i32], scratch: usize, room: usize) -> Result<Vec<i32>, Refused> {
+/// The words of the residual, if so many words of scratch and a buffer of so many words are enough (all questions).
+pub fn residual(table: &[i32], policy: &[i32], log: &[i32], scratch: usize, room: usize) -> Result<Vec<i32>, Refused> {
     let predicates = read_table(table)?;
     let policy = read_policy(&predicates, policy)?;
     let log = Log::read(&predicates, log)?;

@@ -14,7 +14,10 @@ type Environment = [Option<i32>; MOST_VARIABLES];
 pub struct TooMany;
 
 /// The outcome of listing a quantifier's restriction.
+#[derive(Debug)]
 pub struct Listed {
+    /// The tuples in the order of the restriction's list, as often as they stand in it.
+    pub tuples: Vec<Vec<i32>>,
     /// The instances: the listed tuples that are not excluded, each once, in order of first appearance.
     pub instances: Vec<Vec<i32>>,
     /// The entries of the lists of all restriction nodes together.
@@ -24,23 +27,22 @@ pub struct Listed {
 /// Lists a closed quantifier's restriction, if its nodes' lists have at most `most` entries together.
 pub fn list(log: &Log, quantifier: &Quantifier, most: usize) -> Result<Listed, TooMany> {
     let mut lister = Lister { log, left: most };
-    let tuples = lister.list(&quantifier.restriction, &[[None; MOST_VARIABLES]])?;
+    let list = lister.list(&quantifier.restriction, &[[None; MOST_VARIABLES]])?;
     let mut seen: HashSet<Vec<i32>> = quantifier
         .excluded
         .chunks(quantifier.variables)
         .map(<[i32]>::to_vec)
         .collect();
-    let instances = tuples
-        .iter()
-        .map(|environment| {
-            let values = environment[..quantifier.variables].iter();
-            let tuple: Option<Vec<i32>> = values.copied().collect();
-            tuple.expect("the mode rule binds a quantifier's variables")
-        })
-        .filter(|tuple| seen.insert(tuple.clone()))
-        .collect();
+    let tuple = |environment: &Environment| {
+        let values = environment[..quantifier.variables].iter();
+        let tuple: Option<Vec<i32>> = values.copied().collect();
+        tuple.expect("the mode rule binds a quantifier's variables")
+    };
+    let tuples: Vec<_> = list.iter().map(tuple).collect();
+    let instances = tuples.iter().filter(|tuple| seen.insert((*tuple).clone()));
     Ok(Listed {
-        instances,
+        instances: instances.cloned().collect(),
+        tuples,
         entries: most - lister.left,
     })
 }

@@ -130,6 +130,19 @@ impl Fact {
 }
 
 impl Atom {
+    /// The predicate, unless the atom is a comparison.
+    pub fn predicate(&self) -> Option<usize> {
+        match self.fact {
+            Fact::Logged { predicate, .. } => Some(predicate),
+            Fact::Ordered { .. } => None,
+        }
+    }
+
+    /// Whether a restriction binds variables by this atom: it is of tag 2.
+    pub fn binds(&self) -> bool {
+        self.holds && self.predicate().is_some()
+    }
+
     fn put_in(&self, tuple: &[i32]) -> Atom {
         let fact = match &self.fact {
             Fact::Logged { predicate, terms } => Fact::Logged {

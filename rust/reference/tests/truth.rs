@@ -1,107 +1,16 @@
-//! Random runs, judged by a plain evaluation of truth that tries all values.
-//!
-//! The evaluation lets variables range over a few values only. All rows and constants lie among them, so that the
-//! residuals of a run have to keep the truth here as they do over all whole numbers.
+//! Random runs, judged by a plain evaluation of truth that tries all values of a universe.
 
-use inputs::{good_log, good_table, policy, small_table, Random, Recipe};
-use reference::tree::{Atom, Fact, Formula, Restriction, Term};
-use reference::{check_policy, read_policy, read_table, reduce, Answer, GroundAtom, Log, Predicate};
+use inputs::{extension, good_log, good_table, policy, small_table, Random, Recipe};
+use reference::truth::Structure;
+use reference::{check_policy, read_policy, read_table, reduce, Answer, Log, Predicate};
 
 /// Constants and rows use 0 to 2; 3 is a value that no row has, in the log that is reduced over.
 const VALUES: usize = 3;
 const UNIVERSE: [i32; 4] = [0, 1, 2, 3];
 
-/// Values for the variables 0, 1, ...
-type Values = Vec<i32>;
-
-/// False if one is false, true if all are true, else open.
-fn all(truths: impl IntoIterator<Item = Option<bool>>) -> Option<bool> {
-    let truths: Vec<_> = truths.into_iter().collect();
-    if truths.contains(&Some(false)) {
-        return Some(false);
-    }
-    let is_true = |truth: &Option<bool>| *truth == Some(true);
-    truths.iter().all(is_true).then_some(true)
-}
-
-fn not(truth: Option<bool>) -> Option<bool> {
-    truth.map(|truth| !truth)
-}
-
-/// The dual of [`all`].
-fn any(truths: impl IntoIterator<Item = Option<bool>>) -> Option<bool> {
-    not(all(truths.into_iter().map(not)))
-}
-
-/// All extensions of `values` by so many more.
-fn extended(values: &Values, count: usize) -> Vec<Values> {
-    (0..count).fold(vec![values.clone()], |shorter, _| {
-        let longer = |values: &Values| UNIVERSE.map(|value| [&values[..], &[value]].concat());
-        shorter.iter().flat_map(longer).collect()
-    })
-}
-
-fn atom_truth(log: &Log, atom: &Atom, values: &Values) -> Option<bool> {
-    let value = |term: &Term| match *term {
-        Term::Constant(value) => value,
-        Term::Variable(number) => values[number],
-    };
-    let truth = match &atom.fact {
-        Fact::Logged { predicate, terms } => log.truth(&GroundAtom::new(*predicate, terms.iter().map(value))),
-        Fact::Ordered { offset, terms } => {
-            let [left, right] = [value(&terms[0]), value(&terms[1])];
-            Some(i128::from(left) + i128::from(*offset) <= i128::from(right))
-        }
-    };
-    if atom.holds {
-        truth
-    } else {
-        not(truth)
-    }
-}
-
-fn restriction_truth(log: &Log, restriction: &Restriction, values: &Values) -> Option<bool> {
-    match restriction {
-        Restriction::Plain(value) => Some(*value),
-        Restriction::Atom(atom) => atom_truth(log, atom, values),
-        Restriction::Join { all: true, children } => {
-            all(children.iter().map(|child| restriction_truth(log, child, values)))
-        }
-        Restriction::Join { all: false, children } => {
-            any(children.iter().map(|child| restriction_truth(log, child, values)))
-        }
-        Restriction::Some { child, .. } => {
-            let values = extended(values, 1);
-            any(values.iter().map(|values| restriction_truth(log, child, values)))
-        }
-    }
-}
-
-fn truth(log: &Log, formula: &Formula, values: &Values) -> Option<bool> {
-    match formula {
-        Formula::Plain(value) => Some(*value),
-        Formula::Atom(atom) => atom_truth(log, atom, values),
-        Formula::Join { all: true, children } => all(children.iter().map(|child| truth(log, child, values))),
-        Formula::Join { all: false, children } => any(children.iter().map(|child| truth(log, child, values))),
-        Formula::Quantifier(quantifier) => {
-            let restricted = |inner: &Values| {
-                let tuple = &inner[values.len()..];
-                let mut excluded = quantifier.excluded.chunks(quantifier.variables);
-                if excluded.any(|excluded| excluded == tuple) {
-                    return Some(false);
-                }
-                restriction_truth(log, &quantifier.restriction, inner)
-            };
-            let tuples = extended(values, quantifier.variables);
-            if quantifier.all {
-                let implies = |inner| any([not(restricted(inner)), truth(log, &quantifier.body, inner)]);
-                all(tuples.iter().map(implies))
-            } else {
-                let both = |inner| all([restricted(inner), truth(log, &quantifier.body, inner)]);
-                any(tuples.iter().map(both))
-            }
-        }
-    }
+fn structure<'a>(log: &'a Log<'a>) -> Structure<'a> {
+    let universe = &UNIVERSE;
+    Structure { log, universe }
 }
 
 /// Puts the true rows of complete predicates first and tells how many these are: a log extends its front parts if they
@@ -110,43 +19,6 @@ fn settled_first(predicates: &[Predicate], log: &[i32]) -> (usize, Vec<i32>) {
     let is_settled = |row: &&[i32]| row[1] == 1 && predicates[row[0] as usize].complete;
     let (settled, others): (Vec<&[i32]>, Vec<&[i32]>) = log.chunks(8).partition(is_settled);
     (settled.len(), [settled, others].concat().concat())
-}
-
-/// A log that extends another: rows for open atoms, and false rows of complete predicates.
-fn extension(random: &mut Random, predicates: &[Predicate], log: &[i32]) -> Vec<i32> {
-    let mut words = log.to_vec();
-    for _ in 0..random.below(30) {
-        let number = random.below(predicates.len());
-        let predicate = &predicates[number];
-        let mut row = [0; 8];
-        row[0] = number as i32;
-        row[1] = if predicate.complete { 0 } else { random.below(2) as i32 };
-        for argument in &mut row[2..2 + predicate.arity] {
-            *argument = random.pick(&UNIVERSE);
-        }
-        let known = words
-            .chunks(8)
-            .any(|other| other[0] == row[0] && other[2..] == row[2..]);
-        if !known {
-            words.extend(row);
-        }
-    }
-    words
-}
-
-/// Whether a log decides an atom outside quantifiers, or a quantifier outside others has an instance to be worked.
-fn has_work_left(log: &Log, formula: &Formula) -> bool {
-    let nothing = Values::new();
-    match formula {
-        Formula::Plain(_) => false,
-        Formula::Atom(atom) => atom_truth(log, atom, &nothing).is_some(),
-        Formula::Join { children, .. } => children.iter().any(|child| has_work_left(log, child)),
-        Formula::Quantifier(quantifier) => extended(&nothing, quantifier.variables).iter().any(|tuple| {
-            let mut excluded = quantifier.excluded.chunks(quantifier.variables);
-            restriction_truth(log, &quantifier.restriction, tuple) == Some(true)
-                && !excluded.any(|excluded| excluded == tuple)
-        }),
-    }
 }
 
 /// A table, a log whose first `least` rows every front part has, and a policy.
@@ -210,16 +82,16 @@ impl Case {
         let before = read_policy(&self.predicates, &self.policy).unwrap().root;
         let after = read_policy(&self.predicates, held).unwrap().root;
         let whole = Log::read(&self.predicates, &self.log).unwrap();
-        assert!(!has_work_left(&whole, &after));
+        assert!(structure(&whole).is_settled(&after));
         let mut again = held.to_vec();
         self.call(&mut again, self.log.len() / 8, 17 * 20_000, held.len());
         assert_eq!(again, held);
 
         let mut extensions = vec![self.log.clone()];
-        extensions.extend((0..3).map(|_| extension(random, &self.predicates, &self.log)));
+        extensions.extend((0..3).map(|_| extension(random, &self.table, &self.log, &UNIVERSE, 30)));
         let judge = |words: &Vec<i32>| {
             let extended = Log::read(&self.predicates, words).unwrap();
-            let truths = [&before, &after].map(|formula| truth(&extended, formula, &Values::new()));
+            let truths = [&before, &after].map(|formula| structure(&extended).truth(formula));
             assert_eq!(truths[0], truths[1], "over {words:?}");
             truths[0]
         };

@@ -4,8 +4,11 @@
 //! input arguments, complete or not), a log eight words a row (predicate, truth, six arguments), a policy is one tree
 //! in preorder.
 //!
+//! An audit writes the residual: the policy without what the log decides, which is what the officers still have to
+//! judge.
+//!
 //! ```
-//! use vitrinehawk::{check_log, check_policy, dual, Refusal, Refused};
+//! use vitrinehawk::{audit, check_log, check_policy, Refusal, Refused};
 //!
 //! // send (open), consent (complete), believes (its argument is an input, open)
 //! let table = [3, 0, 0, 2, 0, 1, 1, 1, 0];
@@ -15,11 +18,18 @@
 //! assert_eq!(check_policy(&table, &policy)?, 3); // the greatest level
 //!
 //! // 7 sent to 9 at time 100.
-//! assert_eq!(check_log(&table, &[0, 1, 7, 9, 100, 0, 0, 0])?, 1); // the number of rows
+//! let log = [0, 1, 7, 9, 100, 0, 0, 0];
+//! assert_eq!(check_log(&table, &log)?, 1); // the number of rows
 //!
-//! let mut buffer = [0; 20];
-//! let length = dual(&table, &policy, &mut buffer)?;
-//! assert_eq!(buffer[..length], [9, 3, 0, 2, 0, 3, 1, 0, 1, 1, 1, 2, 3, 2, 1, 1, 1]);
+//! // Left for the officers, all of: does 9 believe? And every other sending that may still come to light.
+//! let residual = audit(&table, &policy, &log, 10_000)?;
+//! let believes = [2, 2, 1, 0, 9];
+//! let others = [8, 3, 1, 7, 9, 100, 2, 0, 3, 1, 0, 1, 1, 1, 2, 2, 2, 1, 1, 1];
+//! assert_eq!(residual, [&[6, 2], &believes[..], &others].concat());
+//!
+//! // The answer comes as one more row; the residual is audited like any policy.
+//! let answered = [0, 1, 7, 9, 100, 0, 0, 0, 2, 1, 9, 0, 0, 0, 0, 0];
+//! assert_eq!(audit(&table, &residual, &answered, 10_000)?, others);
 //!
 //! // Here the variable has to be bound before the atom that takes it as an input.
 //! let unbound = check_policy(&table, &[8, 1, 0, 2, 2, 1, 1, 0, 1]);
@@ -27,6 +37,7 @@
 //! # Ok::<(), Refused>(())
 //! ```
 
+mod audit;
 mod ffi;
 mod refusal;
 
@@ -35,7 +46,14 @@ mod refusal;
 #[doc = include_str!("../../../README.md")]
 mod readme {}
 
+pub use audit::audit;
 pub use refusal::{Refusal, Refused};
+
+/// The greatest number of words of a policy, a residual or a dual.
+pub const MOST_WORDS: usize = 1_048_576;
+
+/// The words of one place of scratch.
+pub const PLACE_WORDS: usize = 17;
 
 /// Checks a policy (questions 1 to 7) and returns its greatest level.
 ///
@@ -43,7 +61,7 @@ pub use refusal::{Refusal, Refused};
 ///
 /// The first question answered with "no", and where.
 pub fn check_policy(table: &[i32], policy: &[i32]) -> Result<usize, Refused> {
-    unpack(ffi::check_policy(table, policy))
+    result(ffi::check_policy(table, policy))
 }
 
 /// Checks a log (questions 1 and 8 to 10) and returns the number of its rows.
@@ -52,7 +70,7 @@ pub fn check_policy(table: &[i32], policy: &[i32]) -> Result<usize, Refused> {
 ///
 /// The first question answered with "no", and where.
 pub fn check_log(table: &[i32], log: &[i32]) -> Result<usize, Refused> {
-    unpack(ffi::check_log(table, log))
+    result(ffi::check_log(table, log))
 }
 
 /// Writes the dual of a policy to the front of a buffer (questions 1 to 7 and 12) and returns its length.
@@ -60,65 +78,118 @@ pub fn check_log(table: &[i32], log: &[i32]) -> Result<usize, Refused> {
 /// The dual is true where the policy is false, false where it is true. All of the buffer is written: behind the dual
 /// it has zeros, and if the call is refused zeros only.
 ///
+/// ```
+/// let table = [3, 0, 0, 2, 0, 1, 1, 1, 0];
+/// let policy = [8, 3, 0, 2, 0, 3, 1, 0, 1, 1, 1, 2, 2, 2, 1, 1, 1];
+/// let mut buffer = [0; 20];
+/// let length = vitrinehawk::dual(&table, &policy, &mut buffer)?;
+/// assert_eq!(buffer[..length], [9, 3, 0, 2, 0, 3, 1, 0, 1, 1, 1, 2, 3, 2, 1, 1, 1]);
+/// # Ok::<(), vitrinehawk::Refused>(())
+/// ```
+///
 /// # Errors
 ///
 /// The first question answered with "no", and where.
 pub fn dual(table: &[i32], policy: &[i32], buffer: &mut [i32]) -> Result<usize, Refused> {
-    unpack(ffi::dual(table, policy, buffer))
+    written(ffi::dual(table, policy, buffer), buffer)
 }
 
-/// The bits of a place and of a count in a packed answer, number · 2^48 + place · 2^24 + count.
-const FIELD: u32 = 24;
+/// Writes the residual of a policy over a log to the front of a buffer (all questions) and returns its length.
+///
+/// All of the buffer is written: behind the residual it has zeros, and if the call is refused zeros only. Scratch is
+/// room to work in, [`PLACE_WORDS`] words a place; what stands in it makes no difference, and afterwards it is zero.
+/// [`audit`] finds out by itself how much of both is needed.
+///
+/// ```
+/// use vitrinehawk::{reduce, Refusal};
+///
+/// let table = [3, 0, 0, 2, 0, 1, 1, 1, 0];
+/// let policy = [8, 3, 0, 2, 0, 3, 1, 0, 1, 1, 1, 2, 2, 2, 1, 1, 1];
+/// let log = [0, 1, 7, 9, 100, 0, 0, 0];
+/// let (mut scratch, mut buffer) = ([0; 34], [0; 27]);
+/// assert_eq!(reduce(&table, &policy, &log, &mut scratch, &mut buffer), Ok(27));
+/// let refused = reduce(&table, &policy, &log, &mut scratch[1..], &mut buffer).unwrap_err();
+/// assert_eq!(refused.refusal, Refusal::Scratch);
+/// ```
+///
+/// # Errors
+///
+/// The first question answered with "no", and where.
+pub fn reduce(
+    table: &[i32],
+    policy: &[i32],
+    log: &[i32],
+    scratch: &mut [i32],
+    buffer: &mut [i32],
+) -> Result<usize, Refused> {
+    written(ffi::reduce(table, policy, log, scratch, buffer), buffer)
+}
 
-/// Takes a packed answer apart.
+/// The count of an answer, or its refusal.
 ///
 /// # Panics
 ///
-/// If the library breaks its promise: numbers are 0 to 12, place 0 if accepted, count 0 if refused.
-fn unpack(answer: u64) -> Result<usize, Refused> {
-    let field = |answer: u64| (answer & ((1 << FIELD) - 1)) as usize;
-    let (number, place, count) = (answer >> (2 * FIELD), field(answer >> FIELD), field(answer));
+/// If the library breaks its promise: numbers are 0 to 12, counts and places at most 1,048,576.
+fn result(answer: ffi::Answer) -> Result<usize, Refused> {
+    let ffi::Answer { number, detail } = answer;
+    let detail = usize::try_from(detail).ok().filter(|detail| *detail <= MOST_WORDS);
+    let detail = detail.unwrap_or_else(|| panic!("no count and no place is {}", answer.detail));
     if number == 0 {
-        assert_eq!(place, 0, "an accepted call has place 0");
-        return Ok(count);
+        return Ok(detail);
     }
-    assert_eq!(count, 0, "a refused call has count 0");
-    let refusal = u32::try_from(number).ok().and_then(Refusal::from_number);
-    let refusal = refusal.unwrap_or_else(|| panic!("no question has the number {number}"));
-    Err(Refused { refusal, place })
+    let refusal = Refusal::from_number(number).unwrap_or_else(|| panic!("no question has the number {number}"));
+    Err(Refused { refusal, place: detail })
+}
+
+/// The same for a call that writes so many words to a buffer.
+///
+/// # Panics
+///
+/// If the library breaks its promise: the words are in the buffer.
+fn written(answer: ffi::Answer, buffer: &[i32]) -> Result<usize, Refused> {
+    let length = result(answer)?;
+    assert!(length <= buffer.len(), "{length} words do not fit the buffer");
+    Ok(length)
 }
 
 #[cfg(test)]
 mod tests {
     use super::*;
 
+    fn answer(number: u32, detail: u64) -> ffi::Answer {
+        ffi::Answer { number, detail }
+    }
+
     #[test]
-    fn answers_are_unpacked() {
-        assert_eq!(unpack(0), Ok(0));
-        assert_eq!(unpack(1_048_576), Ok(1_048_576));
+    fn a_detail_is_a_count_or_a_place() {
+        assert_eq!(result(answer(0, 0)), Ok(0));
+        assert_eq!(result(answer(0, 1_048_576)), Ok(1_048_576));
         for refusal in Refusal::ALL {
-            let answer = u64::from(refusal.number()) << 48 | 1_048_576 << 24;
             let place = 1_048_576;
-            assert_eq!(unpack(answer), Err(Refused { refusal, place }));
+            assert_eq!(
+                result(answer(refusal.number(), 1_048_576)),
+                Err(Refused { refusal, place })
+            );
         }
     }
 
     #[test]
     #[should_panic(expected = "no question has the number 13")]
     fn a_thirteenth_refusal_is_none() {
-        let _ = unpack(13 << 48);
+        let _ = result(answer(13, 0));
     }
 
     #[test]
-    #[should_panic(expected = "an accepted call has place 0")]
-    fn an_accepted_call_has_no_place() {
-        let _ = unpack(1 << 24);
+    #[should_panic(expected = "no count and no place is 18446744073709551615")]
+    fn a_detail_has_a_limit() {
+        let _ = result(answer(0, u64::MAX));
     }
 
     #[test]
-    #[should_panic(expected = "a refused call has count 0")]
-    fn a_refused_call_has_no_count() {
-        let _ = unpack(1 << 48 | 1);
+    #[should_panic(expected = "3 words do not fit the buffer")]
+    fn written_words_are_in_the_buffer() {
+        assert_eq!(written(answer(0, 2), &[7, 7]), Ok(2));
+        let _ = written(answer(0, 3), &[7, 7]);
     }
 
     #[test]

@@ -7,7 +7,7 @@ use std::process::{Command, Output};
 /// Compiles a C program against the header and the library, and runs it.
 fn run(source: &Path, name: &str) -> Output {
     let here = Path::new(env!("CARGO_MANIFEST_DIR"));
-    let archive = Path::new(env!("VITRINEHAWK_LIB_DIRECTORY")).join("libexports.a");
+    let archive = Path::new(env!("VITRINEHAWK_LIB_DIRECTORY")).join("libvitrinehawk.a");
     let program = temporary(name);
     let compiled = Command::new("cc")
         .args(["-std=c99", "-Wall", "-Wextra", "-Wpedantic", "-Werror", "-I"])

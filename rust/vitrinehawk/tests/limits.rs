@@ -1,12 +1,10 @@
-//! Fixed inputs: the sixteen examples as far as the calls go, the greatest policies and logs, and absurd counts.
+//! Fixed inputs: the greatest policies, logs and residuals, and absurd counts.
 
 use inputs::{full_log, long_policy, Random, FULL_LOG_TABLE};
-use vitrinehawk::{check_log, check_policy, dual, Refusal, Refused};
+use vitrinehawk::{audit, check_log, check_policy, dual, reduce, Refusal, Refused, MOST_WORDS, PLACE_WORDS};
 
 /// send (open), consent (complete), believes (its argument is an input, open).
 const T: [i32; 9] = [3, 0, 0, 2, 0, 1, 1, 1, 0];
-
-const MOST_WORDS: usize = 1_048_576;
 
 fn refused(refusal: Refusal, place: usize) -> Result<usize, Refused> {
     Err(Refused { refusal, place })
@@ -29,8 +27,8 @@ fn check_duals(table: &[i32], policy: &[i32]) {
 }
 
 #[test]
-fn the_examples() {
-    let nested = |all_ofs: usize| [[6, 2, 1].repeat(all_ofs), vec![1]].concat();
+fn duals_of_the_examples() {
+    let nested = [[6, 2, 1].repeat(63), vec![1]].concat();
     let examples: [(&[i32], usize); 12] = [
         (&[2, 0, 3, 0, 7, 0, 9, 0, 100], 1),
         (&[2, 1, 2, 0, 9, 0, 51], 1),
@@ -42,22 +40,13 @@ fn the_examples() {
         (&[4, 51, 0, 50, 0, 100], 1),
         (&[8, 3, 0, 2, 0, 3, 1, 0, 1, 1, 1, 2, 2, 2, 1, 1, 1], 3),
         (&[9, 1, 0, 2, 1, 2, 0, 9, 1, 0, 4, 0, 1, 0, 0, 100], 3),
-        (&nested(63), 64),
+        (&nested, 64),
         (&[1], 1),
     ];
     for (policy, level) in examples {
         assert_eq!(check_policy(&T, policy), Ok(level), "{policy:?}");
         check_duals(&T, policy);
     }
-    assert_eq!(
-        check_policy(&T, &[8, 1, 0, 2, 2, 1, 1, 0, 1]),
-        refused(Refusal::Mode, 3)
-    );
-    assert_eq!(check_policy(&T, &[8, 1, 0, 1, 1]), refused(Refusal::Mode, 0));
-    assert_eq!(check_policy(&T, &nested(64)), refused(Refusal::Level, 191));
-    let log_a = [0, 1, 7, 9, 100, 0, 0, 0, 1, 1, 9, 50, 0, 0, 0, 0];
-    assert_eq!(check_log(&T, &log_a), Ok(2));
-    assert_eq!(check_log(&T, &[]), Ok(0));
 }
 
 #[test]
@@ -162,11 +151,92 @@ fn the_longest_logs() {
     assert_eq!(check_log(&FULL_LOG_TABLE, &repeated), refused(Refusal::Row, 4095));
 }
 
-/// The frame of the log check has 48 KiB of links and keys; the rest of a small stack is enough for everything else.
+/// A policy with 4,096 instances, the body of each an any-of of so many open atoms; with its table and its log.
+fn many_instances(atoms: usize) -> ([i32; 6], Vec<i32>, Vec<i32>) {
+    let table = [1, 0, 0, 2, 0, 0];
+    let mut policy = vec![8, 1, 0, 2, 0, 1, 1, 0, 7, atoms as i32];
+    policy.extend([2, 1, 2, 1, 0, 0, -1].repeat(atoms));
+    let log = (0..4096).flat_map(|x| [0, 1, x, 0, 0, 0, 0, 0]).collect();
+    (table, policy, log)
+}
+
 #[test]
-fn the_longest_log_on_a_small_stack() {
-    let log = full_log(4096);
-    let small = std::thread::Builder::new().stack_size(64 << 10);
-    let checked = small.spawn(move || check_log(&FULL_LOG_TABLE, &log));
-    assert_eq!(checked.unwrap().join().unwrap(), Ok(4096));
+fn the_longest_residuals() {
+    let words = |atoms: usize| {
+        let body = 2 + 7 * atoms;
+        2 + 4096 * body + 3 + 4096 + 5 + body
+    };
+    assert!(words(36) <= MOST_WORDS && words(37) > MOST_WORDS);
+    for (atoms, accepted) in [(36, true), (37, false)] {
+        let (table, policy, log) = many_instances(atoms);
+        let expected = if accepted {
+            Ok(words(atoms))
+        } else {
+            refused(Refusal::Room, 0)
+        };
+        let mut scratch = vec![5; PLACE_WORDS * 4097];
+        let mut buffer = vec![5; MOST_WORDS + 40_000];
+        let answer = reduce(&table, &policy, &log, &mut scratch, &mut buffer);
+        assert_eq!(answer, expected);
+        let count = answer.unwrap_or(0);
+        assert!(scratch.iter().chain(&buffer[count..]).all(|word| *word == 0));
+        let audited = audit(&table, &policy, &log, 10 * MOST_WORDS);
+        assert_eq!(audited.as_ref().map(Vec::len).map_err(|refused| *refused), expected);
+        assert!(audited.is_err() || audited.as_deref() == Ok(&buffer[..count]));
+    }
+}
+
+#[test]
+fn exactly_the_greatest_residual() {
+    // Open atoms, and plain nodes behind them that vanish.
+    let atoms = (MOST_WORDS - 2) / 5;
+    let mut policy = vec![6, atoms as i32];
+    policy.extend([2, 2, 1, 0, 4].repeat(atoms));
+    assert_eq!(MOST_WORDS - policy.len(), 4);
+    policy[1] += 3;
+    policy.extend([1, 1, 1]);
+    let length = policy.len() - 3;
+    let mut buffer = vec![-1; length];
+    assert_eq!(reduce(&T, &policy, &[], &mut [], &mut buffer), Ok(length));
+    policy.truncate(length);
+    policy[1] -= 3;
+    assert!(buffer == policy);
+    assert_eq!(
+        reduce(&T, &policy, &[], &mut [], &mut buffer[1..]),
+        refused(Refusal::Room, 0)
+    );
+    // Exactly the greatest number of words.
+    let table = [1, 0, 0, 3, 0, 0];
+    let mut policy = vec![6, atoms as i32];
+    policy.extend([2, 0, 1, 0, 4].repeat(atoms - 1));
+    policy.extend([2, 1, 3, 0, 1, 0, 2, 0, 3]);
+    assert_eq!(policy.len(), MOST_WORDS);
+    let mut buffer = vec![-1; MOST_WORDS + 1];
+    assert_eq!(reduce(&table, &policy, &[], &mut [], &mut buffer), Ok(MOST_WORDS));
+    assert!(buffer[..MOST_WORDS] == policy && buffer[MOST_WORDS] == 0);
+    assert!(audit(&table, &policy, &[], MOST_WORDS).as_ref() == Ok(&policy));
+    let refusal = Refusal::Room;
+    assert_eq!(
+        audit(&table, &policy, &[], MOST_WORDS - 1),
+        Err(Refused { refusal, place: 0 })
+    );
+}
+
+#[test]
+fn a_need_beyond_all_room() {
+    // Four variables over 4,096 rows: some 2^48 entries. The refusal comes soon all the same.
+    let table = [1, 0, 0];
+    let atoms: Vec<i32> = (0..4).flat_map(|x| [2, 0, 1, 1, x]).collect();
+    let policy = [&[8, 4, 0, 6, 4], &atoms[..], &[0]].concat();
+    let log: Vec<i32> = (0..4096).flat_map(|x| [0, 1, x, 0, 0, 0, 0, 0]).collect();
+    let mut scratch = vec![5; 1_000_003];
+    let mut buffer = [5; 9];
+    let answer = reduce(&table, &policy, &log, &mut scratch, &mut buffer);
+    assert_eq!(answer, refused(Refusal::Scratch, 0));
+    assert!(scratch.iter().chain(&buffer).all(|word| *word == 0));
+    let refusal = Refusal::Scratch;
+    assert_eq!(
+        audit(&table, &policy, &log, 1_000_003),
+        Err(Refused { refusal, place: 0 })
+    );
 }

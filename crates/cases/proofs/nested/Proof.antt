@@ -63,13 +63,13 @@ add-words-2 c = omega arith
 array-share-prefix-words : tie.Need-array-share-prefix-words Inv-loop μ-loop
 array-share-prefix-words c = omega (arith, c .before .loop .inv .1, c .before .loop .inv .2)
 
-slice-aggregate-over-t : tie.Need-slice-aggregate-over-t Inv-loop μ-loop
-slice-aggregate-over-t c =
+slice-aggregate-both : tie.Need-slice-aggregate-both Inv-loop μ-loop
+slice-aggregate-both c =
     let l = c .before .before in
     sym (length-take-le (3 * l .before .before .args .n + 1) (l .loop .words) (omega (arith, l .loop .inv .1, l .loop .inv .2)))
 
-over-t-requires : tie.Need-over-t-requires Inv-loop μ-loop
-over-t-requires c κs = tt
+both-requires : tie.Need-both-requires Inv-loop μ-loop
+both-requires c κs = tt
 
 returns : tie.Need-returns Inv-loop μ-loop
 returns c = tt
@@ -94,6 +94,6 @@ nested-spec =
     mul-words-5
     add-words-2
     array-share-prefix-words
-    slice-aggregate-over-t
-    over-t-requires
+    slice-aggregate-both
+    both-requires
     returns)

@@ -18,10 +18,10 @@ pub extends-self : (s : Structure) → Extends s s
 unfolding Extends
 extends-self s = λ p ns b e. e
 
-pub log : Words
+unfoldable pub log : Words
 log = words (A ++ 0 ∷ 1 ∷ 7 ∷ 8 ∷ 101 ∷ 0 ∷ 0 ∷ 0 ∷ [])
 
-pub policy : Words
+unfoldable pub policy : Words
 policy = words F
 
 -- too little scratch; log A; the whole log

@@ -29,7 +29,8 @@ impl Maker<'_> {
         let levels = self.levels_below(above);
         let count = wanted.count_ones() as usize;
         let can_be_leaf = self.can_bind(count, 1);
-        let go_on = depth > above + 1 || (self.nodes_left > 0 && !self.random.once_in(2));
+        let rarely = self.recipe.split && self.random.once_in(2);
+        let go_on = depth > above + 1 || (self.nodes_left > 0 && !rarely && !self.random.once_in(2));
         if levels < 2 || (can_be_leaf && !go_on) {
             return self.restriction_leaf(scope, bound, wanted);
         }
@@ -96,7 +97,10 @@ impl Maker<'_> {
         let count = wanted.count_ones() as usize;
         let kind = if count > 0 { 2 } else { self.random.below(6) };
         match kind {
-            0 => self.words.push(self.random.below(2) as i32),
+            0 => {
+                let is_true = self.random.once_in(2) || (self.recipe.split && self.random.once_in(2));
+                self.words.push(i32::from(is_true));
+            }
             1 => self.time(scope, bound),
             5 => {
                 let predicate = self.random.below(self.predicates.len());
@@ -106,7 +110,7 @@ impl Maker<'_> {
                 let fitting: Vec<usize> = (0..self.predicates.len())
                     .filter(|number| outputs(self.predicates[*number]) >= count)
                     .collect();
-                let predicate = self.random.pick(&fitting);
+                let predicate = self.predicate(&fitting, true);
                 return bound | self.atom(2, predicate, scope, bound, wanted);
             }
         }

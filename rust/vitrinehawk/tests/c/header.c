@@ -2,33 +2,83 @@
 #include "vitrinehawk.h"
 
 #define LENGTH(array) (sizeof(array) / sizeof((array)[0]))
+#define WORDS(array) array, LENGTH(array)
 
 /* send (open), consent (complete), believes (its argument is an input, open) */
 static const int32_t table[] = {3, 0, 0, 2, 0, 1, 1, 1, 0};
 static const int32_t policy[] = {8, 3, 0, 2, 0, 3, 1, 0, 1, 1, 1, 2, 2, 2, 1, 1, 1};
 static const int32_t unbound[] = {8, 1, 0, 2, 2, 1, 1, 0, 1};
 static const int32_t log_a[] = {0, 1, 7, 9, 100, 0, 0, 0, 1, 1, 9, 50, 0, 0, 0, 0};
+static const int32_t residual[] = {6, 2, 2, 2, 1, 0, 9, 8, 3, 1, 7, 9, 100, 2,
+                                   0, 3, 1, 0, 1, 1, 1, 2, 2, 2, 1, 1, 1};
+
+static int32_t scratch[35];
+static int32_t buffer[30];
+static uint64_t detail;
+
+static void make_dirty(void) {
+    size_t i;
+    for (i = 0; i < LENGTH(scratch); i++) scratch[i] = -3;
+    for (i = 0; i < LENGTH(buffer); i++) buffer[i] = -5;
+    detail = UINT64_MAX;
+}
+
+/* Whether the buffer has these words in front, then zeros up to some length, and is untouched behind it. */
+static int has(const int32_t *words, size_t count, size_t length) {
+    size_t i;
+    for (i = 0; i < LENGTH(buffer); i++) {
+        int32_t behind = i < length ? 0 : -5;
+        if (buffer[i] != (i < count ? words[i] : behind)) return 0;
+    }
+    return 1;
+}
+
+/* Whether so many words of scratch are zero, and those behind them untouched. */
+static int is_zero(size_t length) {
+    size_t i;
+    for (i = 0; i < LENGTH(scratch); i++) {
+        if (scratch[i] != (i < length ? 0 : -3)) return 0;
+    }
+    return 1;
+}
+
+static uint32_t dual(size_t buffer_len) {
+    make_dirty();
+    return vh_dual(WORDS(table), WORDS(policy), buffer, buffer_len, &detail);
+}
+
+static uint32_t reduce(size_t scratch_len, size_t buffer_len) {
+    make_dirty();
+    return vh_reduce(WORDS(table), WORDS(policy), WORDS(log_a), scratch, scratch_len, buffer, buffer_len, &detail);
+}
 
 int main(void) {
-    int32_t buffer[20];
+    int32_t opposite[LENGTH(policy)];
     size_t i;
-    uint64_t answer = vh_check_policy(table, LENGTH(table), policy, LENGTH(policy));
-    if (answer != 3) return 1;
-    answer = vh_check_policy(table, LENGTH(table), unbound, LENGTH(unbound));
-    if (answer != ((uint64_t)7 << 48 | (uint64_t)3 << 24)) return 2;
-    if (vh_number(answer) != 7 || vh_place(answer) != 3 || vh_count(answer) != 0) return 3;
-    answer = vh_check_log(table, LENGTH(table), log_a, LENGTH(log_a));
-    if (answer != 2 || vh_count(answer) != 2) return 4;
-    for (i = 0; i < LENGTH(buffer); i++) buffer[i] = -1;
-    answer = vh_dual(table, LENGTH(table), policy, LENGTH(policy), buffer, LENGTH(buffer));
-    if (answer != LENGTH(policy)) return 5;
-    for (i = 0; i < LENGTH(buffer); i++) {
-        int32_t expected = i < LENGTH(policy) ? policy[i] : 0;
-        if (i == 0) expected = 9;
-        if (i == 12) expected = 3;
-        if (buffer[i] != expected) return 6;
-    }
-    answer = vh_dual(table, LENGTH(table), policy, LENGTH(policy), buffer, LENGTH(policy) - 1);
-    if (vh_number(answer) != 12) return 7;
+    for (i = 0; i < LENGTH(policy); i++) opposite[i] = policy[i];
+    opposite[0] = 9;
+    opposite[12] = 3;
+
+    if (vh_check_policy(WORDS(table), WORDS(policy), &detail) != 0 || detail != 3) return 1;
+    if (vh_check_policy(WORDS(table), WORDS(unbound), &detail) != 7 || detail != 3) return 2;
+    if (vh_check_log(WORDS(table), WORDS(log_a), &detail) != 0 || detail != 2) return 3;
+    if (vh_check_log(WORDS(table), log_a, 15, &detail) != 8 || detail != 0) return 4;
+    if (vh_check_log(WORDS(table), log_a, 0, &detail) != 0 || detail != 0) return 5;
+
+    if (dual(20) != 0 || detail != LENGTH(policy)) return 6;
+    if (!has(opposite, LENGTH(opposite), 20)) return 7;
+    if (dual(LENGTH(policy) - 1) != 12 || detail != 0) return 8;
+    if (!has(opposite, 0, LENGTH(policy) - 1)) return 9;
+
+    if (reduce(34, 27) != 0 || detail != 27) return 10;
+    if (!has(residual, 27, 27) || !is_zero(34)) return 11;
+    if (reduce(35, 30) != 0 || detail != 27) return 12;
+    if (!has(residual, 27, 30) || !is_zero(35)) return 13;
+    if (reduce(33, 27) != 11 || detail != 0) return 14;
+    if (!has(residual, 0, 27) || !is_zero(33)) return 15;
+    if (reduce(34, 26) != 12 || detail != 0) return 16;
+    if (!has(residual, 0, 26) || !is_zero(34)) return 17;
+    if (reduce(0, 0) != 11 || detail != 0) return 18;
+    if (!has(residual, 0, 0) || !is_zero(0)) return 19;
     return 0;
 }

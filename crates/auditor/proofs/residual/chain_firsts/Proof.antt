@@ -1,0 +1,30 @@
+-- `auditor::residual::chain_firsts` meets its contract.
+use Prim.Native.Nat.{_/_}
+use mathlib.Core.Path.{sym}
+use lib.ListN.{length}
+use Rattle.model.specs.Log.{rowCount}
+use Rattle.auditor.proofs.ReduceChains.{first-keys}
+use borrow.Author.Needs.{needs}
+use Rattle.auditor.proofs.residual.chain_firsts.Statement.{statement}
+use Rattle.auditor.proofs.residual.chain_firsts.Tie as tie
+
+array-borrow-prefix-keys : tie.Need-array-borrow-prefix-keys
+unfolding rowCount
+array-borrow-prefix-keys c = c .before .pre .0
+
+slice-aggregate-by-first : tie.Need-slice-aggregate-by-first
+unfolding rowCount
+slice-aggregate-by-first c = sym (first-keys (length (c .before .before .args .log .now) / 8) (c .before .before .pre .0))
+
+by-first-requires : tie.Need-by-first-requires
+unfolding rowCount
+by-first-requires c κs = (c .before .before .before .pre .0, first-keys (length (c .before .before .before .args .log .now) / 8) (c .before .before .before .pre .0), c .before .before .before .pre .1)
+
+same-length : tie.Need-same-length
+same-length c = search needs
+
+returns : tie.Need-returns
+returns c = search needs
+
+pub chain-firsts-spec : {M : Type 1} → statement M
+chain-firsts-spec = tie.close (tie.spec array-borrow-prefix-keys slice-aggregate-by-first by-first-requires same-length returns)

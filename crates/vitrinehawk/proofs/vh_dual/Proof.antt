@@ -1,0 +1,25 @@
+-- `vitrinehawk::vh_dual` meets its contract: number and detail of the answer, and the buffer.
+use mathlib.Core.Path.{ap, _∙_}
+use Rattle.model.specs.Answer.{number}
+use Rattle.vitrinehawk.specs.Detail.{detailed}
+use borrow.Author.Needs.{needs}
+use Rattle.vitrinehawk.proofs.vh_dual.Statement.{statement}
+use Rattle.vitrinehawk.proofs.vh_dual.Tie as tie
+
+dual-requires : tie.Need-dual-requires
+dual-requires c κs = search needs
+
+detail-of-requires : tie.Need-detail-of-requires
+detail-of-requires c κs = search needs
+
+number-of-requires : tie.Need-number-of-requires
+number-of-requires c κs = search needs
+
+same-length : tie.Need-same-length
+same-length c = search needs
+
+returns : tie.Need-returns
+returns c = (c .number-of .ensures ∙ ap number (c .before .before .before .dual .ensures .0), (c .before .detail-of .ensures ∙ ap detailed (c .before .before .before .dual .ensures .0), c .before .before .before .dual .ensures .1))
+
+pub vh-dual-spec : {M : Type 1} → statement M
+vh-dual-spec = tie.close (tie.spec dual-requires detail-of-requires number-of-requires same-length returns)

@@ -1,0 +1,110 @@
+// The calls of the auditor for other languages: each returns the number of its answer, 0 if accepted, and writes the count, or
+// the place if refused, through `detail`.
+use model::Answer;
+ghost use mathlib.Core.Path.{_≡_};
+ghost use lib.ListN.{length};
+ghost use Rattle.model.specs.Answer.{number};
+ghost use Rattle.model.specs.Calls as C;
+ghost use Rattle.vitrinehawk.specs.Detail.{detailed};
+
+// The number of an answer.
+fn number_of(answer: Answer) -> u32
+    ensures { λ r. ⌜ r ≡ number answer ⌝ }
+{
+    match answer {
+        Answer::Accepted(_) => 0,
+        Answer::Refused(refusal, _) => model::number(refusal),
+    }
+}
+
+// Its count, or its place.
+fn detail_of(answer: Answer) -> u64
+    ensures { λ r. ⌜ r ≡ detailed answer ⌝ }
+{
+    match answer {
+        Answer::Accepted(count) => count as u64,
+        Answer::Refused(_, place) => place as u64,
+    }
+}
+
+// Checks a policy: questions 1 to 7. The count is its greatest level.
+#[no_mangle]
+pub extern "C" fn vh_check_policy(table: &[i32], policy: &[i32], detail: &mut u64) -> u32
+    ensures { λ r. ⌜ r ≡ number (C.checkPolicy (now (table .entry)) (now (policy .entry))) ⌝ }
+    ensures { λ _. ⌜ now (detail .exit) ≡ detailed (C.checkPolicy (now (table .entry)) (now (policy .entry))) ⌝ }
+{
+    let answer = auditor::check_policy(table, policy);
+    *detail = detail_of(answer);
+    number_of(answer)
+}
+
+// Checks a log: questions 1 and 8 to 10. The count is the number of its rows.
+#[no_mangle]
+pub extern "C" fn vh_check_log(table: &[i32], log: &[i32], detail: &mut u64) -> u32
+    ensures { λ r. ⌜ r ≡ number (C.checkLog (now (table .entry)) (now (log .entry))) ⌝ }
+    ensures { λ _. ⌜ now (detail .exit) ≡ detailed (C.checkLog (now (table .entry)) (now (log .entry))) ⌝ }
+{
+    let answer = auditor::check_log(table, log);
+    *detail = detail_of(answer);
+    number_of(answer)
+}
+
+// Writes the dual of a policy: questions 1 to 7 and 12. The count is its length. The rest of the buffer, or all of it if the
+// call is refused, becomes zero.
+#[no_mangle]
+pub extern "C" fn vh_dual(
+    table: &[i32],
+    policy: &[i32],
+    buffer: &mut [i32],
+    detail: &mut u64,
+) -> u32
+    ensures { λ r. ⌜
+        r ≡ number (C.dualCall (now (table .entry)) (now (policy .entry)) (length (now (buffer .entry))) .answer)
+        ⌝ }
+    ensures { λ _. ⌜
+        now (detail .exit)
+        ≡ detailed (C.dualCall (now (table .entry)) (now (policy .entry)) (length (now (buffer .entry))) .answer)
+        ⌝ }
+    ensures { λ _. ⌜
+        now (buffer .exit) ≡ C.dualCall (now (table .entry)) (now (policy .entry)) (length (now (buffer .entry))) .buffer
+        ⌝ }
+{
+    let answer = auditor::dual(table, policy, buffer);
+    *detail = detail_of(answer);
+    number_of(answer)
+}
+
+// Writes the residual of a policy over a log: all questions. The count is its length. The rest of the buffer, or all of it if
+// the call is refused, and all of scratch become zero.
+#[no_mangle]
+pub extern "C" fn vh_reduce(
+    table: &[i32],
+    policy: &[i32],
+    log: &[i32],
+    scratch: &mut [i32],
+    buffer: &mut [i32],
+    detail: &mut u64,
+) -> u32
+    ensures { λ r. ⌜
+        r
+        ≡ number
+        (C.reduceCall (now (table .entry)) (now (policy .entry)) (now (log .entry)) (length (now (scratch .entry))) (length (now (buffer .entry))) .answer)
+        ⌝ }
+    ensures { λ _. ⌜
+        now (detail .exit)
+        ≡ detailed
+        (C.reduceCall (now (table .entry)) (now (policy .entry)) (now (log .entry)) (length (now (scratch .entry))) (length (now (buffer .entry))) .answer)
+        ⌝ }
+    ensures { λ _. ⌜
+        now (buffer .exit)
+        ≡ C.reduceCall (now (table .entry)) (now (policy .entry)) (now (log .entry)) (length (now (scratch .entry))) (length (now (buffer .entry))) .buffer
+        ⌝ }
+    ensures { λ _. ⌜
+        now (scratch .exit)
+        ≡ C.reduceCall (now (table .entry)) (now (policy .entry)) (now (log .entry)) (length (now (scratch .entry))) (length (now (buffer .entry))) .scratch
+        ⌝ }
+{
+    let answer = auditor::reduce(table, policy, log, scratch, buffer);
+    *detail = detail_of(answer);
+    number_of(answer)
+}

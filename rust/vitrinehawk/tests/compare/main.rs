@@ -1,0 +1,11 @@
+//! Comparisons of the library with the reference on many random inputs.
+//!
+//! Seeds are fixed. A disagreement is shrunk before it is printed. Each test also counts the answers it has seen, so
+//! that it cannot pass by trying nothing but one kind of input.
+
+mod comparison;
+mod features;
+mod logs;
+mod policies;
+mod reductions;
+mod rooms;
