@@ -2,43 +2,50 @@
 //! turns.
 //!
 //! The policy has 1,048,576 words, the greatest number allowed. The logs have 256, 1,024 and 4,096 rows, to see whether
-//! the time grows with the rows; 4,096 is the greatest number allowed.
+//! the time grows with the rows; 4,096 is the greatest number allowed. What is reduced is said with each input.
 //!
 //! The reference reads a policy into a tree and keeps the rows of a log in a hash table, so a ratio to it that is below
-//! 1 says little about the library alone. The hand-written log check allocates nothing, like the library.
+//! 1 says little about the library alone. The hand-written log check allocates nothing, like the library; the
+//! hand-written reduction allocates the residual, a list of the policy's quantifiers and a hash table of tuples.
 
+mod hospital;
 mod keys;
 mod logs;
 mod measure;
 mod peer;
+mod reductions;
+mod report;
+mod words;
 
 use std::hint::black_box;
 
 use inputs::{long_policy, Random};
 use keys::{Chains, KEYS};
 use logs::{refused_logs, Kind, KINDS, TABLE};
-use measure::{agreed, measure, Call, Times, BATCH, GARBAGE, REPETITIONS};
+use measure::{agreed, Call, Lent, Room, Times, BATCH, GARBAGE, REPETITIONS, SELDOM, SLOW};
 use reference::Answer;
+use report::{print_heads, row, IMPLEMENTATIONS};
 use vitrinehawk::Refused;
 
 const WORDS: usize = 1_048_576;
 const ROWS: [usize; 3] = [256, 1_024, 4_096];
 
-/// The implementations in the order of the columns. The last is there for some calls only.
-const IMPLEMENTATIONS: [&str; 3] = ["library", "reference", "hand-written"];
-
 fn main() {
     println!("Microseconds for a call, {REPETITIONS} measurements of each implementation, in turns.");
     println!("A call of less than {BATCH:?} is repeated in a batch that takes at least as long.");
-    println!("Buffers were not cleared first: before each call they were filled with {GARBAGE}, outside the time.");
+    println!("One that takes more than {SLOW:?} has one turn in {SELDOM}.");
+    println!("Scratch and buffers were not cleared first: before each call they were filled with {GARBAGE}, outside the time.");
     println!();
     print_heads();
     policies();
     let measured = logs();
+    let reductions = reductions::measure_all();
     println!();
     println!("The ratios are those of the medians.");
     println!();
     print_rows(&measured);
+    println!();
+    reductions::print(&reductions);
 }
 
 /// Measures the calls that are given a policy.
@@ -47,7 +54,7 @@ fn policies() {
     row(
         &format!("check policy, {WORDS} words"),
         1,
-        0,
+        Lent::NOTHING,
         &[
             &|_, _| library(vitrinehawk::check_policy(&TABLE, black_box(policy))),
             &|_, _| reference::check_policy(&TABLE, black_box(policy)),
@@ -56,10 +63,13 @@ fn policies() {
     row(
         &format!("dual, {WORDS} words"),
         1,
-        WORDS,
+        Room {
+            scratch: 0,
+            buffer: WORDS,
+        },
         &[
-            &|_, buffer| library(vitrinehawk::dual(&TABLE, black_box(policy), buffer)),
-            &|_, buffer| reference::dual(&TABLE, black_box(policy), buffer),
+            &|_, lent| library(vitrinehawk::dual(&TABLE, black_box(policy), &mut lent.buffer)),
+            &|_, lent| reference::dual(&TABLE, black_box(policy), &mut lent.buffer),
         ],
     );
 }
@@ -81,11 +91,11 @@ fn logs() -> Vec<LogCheck> {
             let name = format!("check log, {name}, {rows} rows");
             let logs: Vec<_> = words.chunks(8 * rows).collect();
             for (log, expected) in refused_logs(table, logs[0]) {
-                let answer = with_log_checks(table, &[&log], |calls| agreed(&name, 0, 0, calls));
+                let answer = with_log_checks(table, &[&log], |calls| agreed(&name, 0, Lent::NOTHING, calls));
                 assert_eq!(answer, expected, "{name}: the answer to a bad log");
             }
             measured.push(LogCheck {
-                times: with_log_checks(table, &logs, |calls| row(&name, logs.len(), 0, calls)),
+                times: with_log_checks(table, &logs, |calls| row(&name, logs.len(), Lent::NOTHING, calls)),
                 name,
                 rows,
                 chains: Chains::of(&logs),
@@ -116,45 +126,6 @@ fn answer(result: Result<usize, (u32, usize)>) -> Answer {
 /// The answer of the library.
 fn library(result: Result<usize, Refused>) -> Answer {
     answer(result.map_err(|refused| (refused.refusal.number(), refused.place)))
-}
-
-/// Compares the calls on all their inputs, measures them and prints a row.
-fn row(name: &str, inputs: usize, words: usize, calls: &[Call]) -> Vec<Times> {
-    for input in 0..inputs {
-        let answer = agreed(name, input, words, calls);
-        assert_eq!(answer.number, 0, "{name}: the input is refused");
-    }
-    let times = measure(words, calls);
-    print_times(name, &times);
-    times
-}
-
-/// Prints the heads of the columns.
-fn print_heads() {
-    print!("{:<32}", "");
-    for implementation in IMPLEMENTATIONS {
-        print!(" {implementation:^21}");
-    }
-    println!("   library divided by");
-    print!("{:<32}", "");
-    for _ in IMPLEMENTATIONS {
-        print!(" {:>10} {:>10}", "best", "median");
-    }
-    println!(" {:>9} {:>12}", IMPLEMENTATIONS[1], IMPLEMENTATIONS[2]);
-}
-
-/// Prints the times of the implementations that a call has, and the library's ratios to the others.
-fn print_times(name: &str, times: &[Times]) {
-    print!("{name:<32}");
-    for times in times {
-        print!(" {:>10.2} {:>10.2}", times.best() * 1e6, times.median() * 1e6);
-    }
-    for _ in times.len()..IMPLEMENTATIONS.len() {
-        print!(" {:>10} {:>10}", "-", "-");
-    }
-    let ratio = |peer: &Times| format!("{:.2}", times[0].median() / peer.median());
-    let by_hand = times.get(2).map_or("-".into(), ratio);
-    println!(" {:>9} {by_hand:>12}", ratio(&times[1]));
 }
 
 /// Prints the time for a row of a log, and how the rows fall on the keys.

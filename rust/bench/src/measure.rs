@@ -8,14 +8,48 @@ use reference::Answer;
 /// How often each implementation has its turn.
 pub const REPETITIONS: usize = 21;
 
+/// An implementation that takes longer has a turn only now and then, one in so many.
+pub const SLOW: Duration = Duration::from_millis(100);
+pub const SELDOM: usize = 7;
+
 /// The least time of a batch.
 pub const BATCH: Duration = Duration::from_micros(200);
 
-/// What the buffer is full of before each call.
+/// What scratch and the buffer are full of before each call.
 pub const GARBAGE: i32 = -1;
 
-/// A call of one implementation, on the input with a number (they go round) and on a buffer.
-pub type Call<'a> = &'a dyn Fn(usize, &mut [i32]) -> Answer;
+/// The words that are lent to a call.
+pub struct Lent {
+    pub scratch: Vec<i32>,
+    pub buffer: Vec<i32>,
+}
+
+impl Lent {
+    /// Nothing is lent.
+    pub const NOTHING: Room = Room { scratch: 0, buffer: 0 };
+
+    /// Words full of garbage.
+    fn new(room: Room) -> Self {
+        Lent {
+            scratch: vec![GARBAGE; room.scratch],
+            buffer: vec![GARBAGE; room.buffer],
+        }
+    }
+
+    fn is_empty(&self) -> bool {
+        self.scratch.is_empty() && self.buffer.is_empty()
+    }
+}
+
+/// How many words are lent.
+#[derive(Clone, Copy)]
+pub struct Room {
+    pub scratch: usize,
+    pub buffer: usize,
+}
+
+/// A call of one implementation, on the input with a number (they go round) and on lent words.
+pub type Call<'a> = &'a dyn Fn(usize, &mut Lent) -> Answer;
 
 /// The seconds that one call takes, measured several times and sorted.
 pub struct Times(Vec<f64>);
@@ -32,28 +66,31 @@ impl Times {
     }
 }
 
-/// Makes sure that all calls on an input have the same answer and write the same buffer, of so many words. Returns the
+/// Makes sure that all calls on an input have the same answer and leave the same words in what is lent. Returns the
 /// answer.
-pub fn agreed(name: &str, input: usize, words: usize, calls: &[Call]) -> Answer {
+pub fn agreed(name: &str, input: usize, room: Room, calls: &[Call]) -> Answer {
     let mut results = calls.iter().map(|call| {
-        let mut buffer = vec![GARBAGE; words];
-        (call(input, &mut buffer), buffer)
+        let mut lent = Lent::new(room);
+        (call(input, &mut lent), lent)
     });
-    let (answer, buffer) = results.next().expect("there is a call");
-    for (other_answer, other_buffer) in results {
+    let (answer, lent) = results.next().expect("there is a call");
+    for (other_answer, other) in results {
         assert_eq!(answer, other_answer, "{name}: the answers differ");
-        assert!(buffer == other_buffer, "{name}: the buffers differ");
+        assert!(lent.buffer == other.buffer, "{name}: the buffers differ");
+        assert!(lent.scratch == other.scratch, "{name}: scratch differs");
     }
     answer
 }
 
-/// Measures calls in turns, on a buffer of so many words.
-pub fn measure(words: usize, calls: &[Call]) -> Vec<Times> {
-    let mut buffer = vec![GARBAGE; words];
-    let mut turns: Vec<_> = calls.iter().map(|call| Turns::new(call, &mut buffer)).collect();
-    for _ in 0..REPETITIONS {
+/// Measures calls in turns.
+pub fn measure(room: Room, calls: &[Call]) -> Vec<Times> {
+    let mut lent = Lent::new(room);
+    let mut turns: Vec<_> = calls.iter().map(|call| Turns::new(call, &mut lent)).collect();
+    for round in 0..REPETITIONS {
         for turns in &mut turns {
-            turns.take(&mut buffer);
+            if !turns.slow || round % SELDOM == 0 {
+                turns.take(&mut lent);
+            }
         }
     }
     turns.into_iter().map(Turns::times).collect()
@@ -66,39 +103,47 @@ struct Turns<'a> {
     input: usize,
     /// The number of calls in a turn.
     batch: u32,
+    /// Whether it has few turns.
+    slow: bool,
     /// The seconds for one call, in each turn.
     times: Vec<f64>,
 }
 
 impl<'a> Turns<'a> {
-    /// Finds out how many calls make up a batch. A call with a buffer is made alone, so that it never finds an earlier
+    /// Finds out how many calls make up a batch. A call with lent words is made alone, so that it never finds an earlier
     /// result there.
-    fn new(call: Call<'a>, buffer: &mut [i32]) -> Self {
+    fn new(call: Call<'a>, lent: &mut Lent) -> Self {
         let mut turns = Turns {
             call,
             input: 0,
             batch: 1,
+            slow: false,
             times: Vec::new(),
         };
-        while turns.run(buffer) < BATCH && buffer.is_empty() {
+        loop {
+            let time = turns.run(lent);
+            if time >= BATCH || !lent.is_empty() {
+                turns.slow = time > SLOW;
+                return turns;
+            }
             turns.batch *= 2;
         }
-        turns
     }
 
-    /// Makes a batch of calls on a buffer full of garbage and returns their time.
-    fn run(&mut self, buffer: &mut [i32]) -> Duration {
-        buffer.fill(GARBAGE);
+    /// Makes a batch of calls on words full of garbage and returns their time.
+    fn run(&mut self, lent: &mut Lent) -> Duration {
+        lent.scratch.fill(GARBAGE);
+        lent.buffer.fill(GARBAGE);
         let start = Instant::now();
         for _ in 0..self.batch {
-            black_box((self.call)(self.input, black_box(&mut *buffer)));
+            black_box((self.call)(self.input, black_box(&mut *lent)));
             self.input += 1;
         }
         start.elapsed()
     }
 
-    fn take(&mut self, buffer: &mut [i32]) {
-        let time = self.run(buffer).as_secs_f64() / f64::from(self.batch);
+    fn take(&mut self, lent: &mut Lent) {
+        let time = self.run(lent).as_secs_f64() / f64::from(self.batch);
         self.times.push(time);
     }
 

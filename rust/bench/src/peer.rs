@@ -1,157 +1,64 @@
-//! The log check as one would write it by hand for speed: no allocation, one hash table on the frame.
+//! The log check and the reduction as one would write them by hand for speed.
 //!
-//! It is the measure for the library's log check, and nothing else uses it. It hashes in its own way, so a log that is
-//! bad for the library's keys is not bad for it.
+//! They are the measure for the library, and nothing else uses them. A policy stays words: the check notes where each
+//! quantifier's restriction and body begin, and the walk goes over the words. Environments lie in the lent scratch, one
+//! place each. Ground atoms are looked up in an open-addressing hash table, rows are bucketed by predicate, and the
+//! instances of a quantifier are told apart by a hash table too. The residual is written in one pass.
 
-/// The words of one predicate.
-const RECORD: usize = 3;
-
-/// The greatest number of predicates.
-const MOST_PREDICATES: usize = 256;
-
-/// The words of one row.
-const ROW: usize = 8;
-
-/// The greatest number of rows.
-const MOST_ROWS: usize = 4096;
-
-/// For each arity a mask of the unused arguments, so that no jump depends on the arity.
-const UNUSED: [[i32; 6]; 7] = [
-    [-1, -1, -1, -1, -1, -1],
-    [0, -1, -1, -1, -1, -1],
-    [0, 0, -1, -1, -1, -1],
-    [0, 0, 0, -1, -1, -1],
-    [0, 0, 0, 0, -1, -1],
-    [0, 0, 0, 0, 0, -1],
-    [0, 0, 0, 0, 0, 0],
-];
-
-/// The slots of the hash table, a power of two. At most a quarter of them are ever taken: with half as many, a full log
-/// of random atoms took 1.7 times as long.
-const SLOTS: usize = 4 * MOST_ROWS;
-
-/// Odd numbers without a pattern, for the predicate and for each pair of arguments.
-const FACTORS: [u64; 4] = [
-    0x9E37_79B9_7F4A_7C15,
-    0xBF58_476D_1CE4_E5B9,
-    0x94D0_49BB_1331_11EB,
-    0xD6E8_FEB8_6659_FD93,
-];
-
-/// Asks questions 1, 8, 9 and 10 and returns the number of rows, or else the question answered with "no" and its place.
-pub fn check_log(table: &[i32], log: &[i32]) -> Result<usize, (u32, usize)> {
-    let (predicates, rest) = table.as_chunks::<RECORD>();
-    if !rest.is_empty() || !(1..=MOST_PREDICATES).contains(&predicates.len()) {
-        return Err((1, 0));
-    }
-    if let Some(bad) = predicates.iter().position(|record| !good_record(record)) {
-        return Err((1, bad));
-    }
-    let (rows, rest) = log.as_chunks::<ROW>();
-    if !rest.is_empty() || rows.len() > MOST_ROWS {
-        return Err((8, 0));
-    }
-
-    // Open addressing: a slot is 0 if it is free, else the number of a row and 1.
-    let mut slots = [0_u16; SLOTS];
-    for (number, row) in rows.iter().enumerate() {
-        if !good_row(predicates, row) {
-            return Err((9, number));
-        }
-        let mut slot = first_slot(row);
-        while slots[slot] != 0 {
-            if same_atom(&rows[usize::from(slots[slot]) - 1], row) {
-                return Err((10, number));
-            }
-            slot = (slot + 1) % SLOTS;
-        }
-        slots[slot] = number as u16 + 1;
-    }
-    Ok(rows.len())
-}
-
-fn good_record(record: &[i32; RECORD]) -> bool {
-    matches!(*record, [arity @ 1..=6, mask, 0..=1] if (0..1 << arity).contains(&mask))
-}
-
-/// Whether a row is good by itself. Read without a sign, a negative predicate is too great.
-fn good_row(predicates: &[[i32; RECORD]], row: &[i32; ROW]) -> bool {
-    let [predicate, truth, arguments @ ..] = row;
-    let Some(&[arity, ..]) = predicates.get(*predicate as u32 as usize) else {
-        return false;
-    };
-    let masks = UNUSED[arity as usize];
-    let unused = arguments
-        .iter()
-        .zip(masks)
-        .fold(0, |all, (word, mask)| all | word & mask);
-    matches!(truth, 0..=1) && unused == 0
-}
-
-fn same_atom(row: &[i32; ROW], other: &[i32; ROW]) -> bool {
-    row[0] == other[0] && row[2..] == other[2..]
-}
-
-/// The slot at which the search for a row's atom begins: the upper bits of a sum of products.
-fn first_slot(row: &[i32; ROW]) -> usize {
-    let [predicate, _, a, b, c, d, e, f] = row.map(|word| u64::from(word as u32));
-    let parts = [predicate, a | b << 32, c | d << 32, e | f << 32];
-    let sum = parts
-        .iter()
-        .zip(FACTORS)
-        .fold(0_u64, |sum, (part, factor)| sum.wrapping_add(part.wrapping_mul(factor)));
-    (sum >> (u64::BITS - SLOTS.ilog2())) as usize
-}
-
+mod instances;
+mod joining;
+mod listing;
+mod log;
+mod policy;
+mod reduction;
 #[cfg(test)]
-mod tests {
-    use inputs::{damaged_log, damaged_table, full_log, good_log, good_table, Random, FULL_LOG_TABLE};
-    use reference::Answer;
+mod tests;
 
-    use super::{check_log, same_atom};
-    use crate::answer;
+pub use log::check_log;
 
-    #[test]
-    fn answers_as_the_reference_does() {
-        let random = &mut Random::new(0x9EE4);
-        let mut seen = [0; 11];
-        for _ in 0..20_000 {
-            let table = good_table(random);
-            let log = if random.once_in(4) {
-                good_log(random, &table, 40, 5)
-            } else {
-                damaged_log(random, &table, 40)
-            };
-            let table = if random.once_in(4) {
-                damaged_table(random)
-            } else {
-                table
-            };
-            let expected = reference::check_log(&table, &log);
-            assert_eq!(answer(check_log(&table, &log)), expected, "{table:?} {log:?}");
-            seen[expected.number as usize] += 1;
-        }
-        for number in [0, 1, 8, 9, 10] {
-            assert!(seen[number] > 100, "only {} of {number}", seen[number]);
-        }
+use listing::{Lists, WORDS};
+use log::{check_table, Index, Slots, SLOTS};
+use reduction::Walk;
+
+/// The question answered with "no", and its place.
+pub type Refused = (u32, usize);
+
+/// The greatest number of words of a policy or a residual.
+const MOST_WORDS: usize = 1_048_576;
+
+/// Writes the residual of a policy over a log to the front of a buffer (all questions) and returns its length.
+///
+/// Behind the residual the buffer has zeros; if the call is refused, zeros only. Scratch is zero afterwards.
+pub fn reduce(
+    table: &[i32],
+    policy: &[i32],
+    log: &[i32],
+    scratch: &mut [i32],
+    buffer: &mut [i32],
+) -> Result<usize, Refused> {
+    let residual = residual(table, policy, log, scratch, buffer.len());
+    scratch.fill(0);
+    let words = residual.as_deref().unwrap_or(&[]);
+    let (front, rest) = buffer.split_at_mut(words.len());
+    front.copy_from_slice(words);
+    rest.fill(0);
+    residual.map(|words| words.len())
+}
+
+/// The words of the residual, if there is room for them.
+fn residual(table: &[i32], policy: &[i32], log: &[i32], scratch: &mut [i32], room: usize) -> Result<Vec<i32>, Refused> {
+    let predicates = check_table(table)?;
+    let quantifiers = policy::check(predicates, policy)?;
+    let slots: &mut Slots = &mut [0; SLOTS];
+    let rows = log::check_rows(predicates, log, slots)?;
+    let index = &Index::new(predicates, rows, slots);
+    let places = scratch.as_chunks_mut::<WORDS>().0;
+    let lists = Lists::new(policy, index, places);
+    let most = room.min(MOST_WORDS);
+    let mut walk = Walk::new(policy, &quantifiers, index, lists, most);
+    let words = walk.policy().ok_or((11, 0))?.ok_or((12, 0))?;
+    if words.len() > most {
+        return Err((12, 0));
     }
-
-    #[test]
-    fn takes_so_many_rows_and_no_more() {
-        let log = full_log(4097);
-        let check = |words: &[i32]| answer(check_log(&FULL_LOG_TABLE, words));
-        assert_eq!(check(&[]), Answer::accepted(0));
-        assert_eq!(check(&log[..8 * 4096]), Answer::accepted(4096));
-        assert_eq!(check(&log), Answer::refused(8, 0));
-    }
-
-    #[test]
-    fn an_atom_is_a_predicate_and_arguments() {
-        let row = [2, 1, 3, 4, 5, 6, 7, 8];
-        for place in 0..8 {
-            let mut other = row;
-            other[place] = 0;
-            assert_eq!(same_atom(&row, &other), place == 1);
-        }
-    }
+    Ok(words)
 }
