@@ -9,3 +9,4 @@ mod logs;
 mod policies;
 mod reductions;
 mod rooms;
+mod tuples;
