@@ -9,10 +9,6 @@ use lib.Seq.{take-at, drop-at, take-all, length-take-le}
 use Rattle.logs.specs.Chain.{Chained}
 use Rattle.logs.specs.Key.{behind}
 
--- the front of the keys has one for each row
-pub first-keys : (n : ℕ) → n ≤ 4096 → length (take n (replicate {A = ℕ} 4096 0)) ≡ n
-first-keys n h = length-take-le n (replicate 4096 0) (subst (λ (k : ℕ). n ≤ k) (sym (length-replicate {A = ℕ} 4096 0)) h)
-
 -- a part of zeros is zeros
 take-zeros : (n m : ℕ) → take n (replicate {A = ℕ} (n + m) 0) ≡ replicate n 0
 take-zeros zero m = refl

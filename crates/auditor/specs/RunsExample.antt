@@ -23,7 +23,7 @@ use Rattle.auditor.specs.Runs.{Served, callOf, kept, Serves, ServedClaim
 abbrev dirt : ℕ → Words
 dirt n = replicate n (pos 5)
 
--- for all tuples but the excluded ones: send (x0, x1, x2) implies believes (x1)
+-- a word too little of scratch: F is held as it is
 abbrev first : Served
 first =
     record {

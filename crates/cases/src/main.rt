@@ -1,5 +1,5 @@
 // Cases of each call, a line for each: its name, and number, place and count of the answer; of a call that writes, also the
-// words of the buffer, and of reduce whether scratch is clear. Table T, log A, formula F and the cases P are those of the
+// words of the buffer, and of reduce, on a second line, those of scratch. Table T, log A, formula F and the cases P are those of the
 // specification.
 mod print;
 mod reductions;

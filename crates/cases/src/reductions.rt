@@ -2,28 +2,14 @@
 // of other words.
 use crate::print;
 
-// Whether all words are zero.
-fn is_clear(words: &[i32]) -> bool {
-    let mut i = 0;
-    while i < words.len() {
-        if !tables::words::is(words, i, 0) {
-            return false;
-        }
-        i += 1;
-    }
-    true
-}
-
-// The residual of a policy over a log, in scratch and a buffer.
+// The residual of a policy over a log, in scratch and a buffer: all words of both.
 fn reduce(name: &[u8], policy: &[i32], log: &[i32], scratch: &mut [i32], buffer: &mut [i32]) {
     let a = auditor::reduce(&[3, 0, 0, 2, 0, 1, 1, 1, 0], policy, log, scratch, buffer);
     print::answer(name, a);
-    if is_clear(scratch) {
-        io::write_all(1, b" clear:");
-    } else {
-        io::write_all(1, b" DIRTY:");
-    }
     print::words(buffer);
+    io::write_all(1, name);
+    io::write_all(1, b" scratch");
+    print::words(scratch);
 }
 
 // The same over log A, in two places.

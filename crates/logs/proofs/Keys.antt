@@ -6,7 +6,7 @@ use mathlib.Core.Logic.{⊎-elim}
 use mathlib.Core.Bool.{Bool, true, false, cond, _&&_}
 use mathlib.Core.List.{List, [], _∷_}
 use lib.ListN.{length, getD, set, take, drop, replicate, length-set, length-replicate, getD-replicate}
-use lib.Seq.{getD-set-same, getD-set-other, take-all}
+use lib.Seq.{getD-set-same, getD-set-other, take-all, length-take-le}
 use lib.Dec.{eqb, ltb}
 use lib.IntN.{ℤ, pos, natAbs}
 use borrow.Author.Tests.{eqb-true, eqb-false, ne-eqb, ltb-true, ltb-false}
@@ -232,3 +232,7 @@ spread-of p a b c d e f v h0 h1 h2 h3 h4 h5 = rw (h0, h1, h2, h3, h4, h5)
 pub first-of : (p x : ℕ) (z : ℤ) → x ≡ fromLeast z → (p % 256 * 331804471 + x % 4294967296 * 442291847) / 32768 % 4096 ≡ firstSpread p z
 unfolding firstSpread
 first-of p x z e = rw e refl
+
+-- the front of an array of keys, as long as there are rows
+pub first-keys : (n : ℕ) → n ≤ 4096 → length (take n (replicate {A = ℕ} 4096 0)) ≡ n
+first-keys n h = length-take-le n (replicate 4096 0) (subst (λ (k : ℕ). n ≤ k) (sym (length-replicate {A = ℕ} 4096 0)) h)

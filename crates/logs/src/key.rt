@@ -1,4 +1,5 @@
-// The keys of rows, and the rows of a log chained by them: by atom, and the true ones by predicate.
+// The keys of rows, and the rows of a log chained by them: by atom, and the true ones by predicate, alone and with their first
+// argument.
 use crate::chain;
 use tables::words;
 ghost use mathlib.Core.Path.{_≡_};

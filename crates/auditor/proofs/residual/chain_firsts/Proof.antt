@@ -3,7 +3,7 @@ use Prim.Native.Nat.{_/_}
 use mathlib.Core.Path.{sym}
 use lib.ListN.{length}
 use Rattle.model.specs.Log.{rowCount}
-use Rattle.auditor.proofs.ReduceChains.{first-keys}
+use Rattle.logs.proofs.Keys.{first-keys}
 use borrow.Author.Needs.{needs}
 use Rattle.auditor.proofs.residual.chain_firsts.Statement.{statement}
 use Rattle.auditor.proofs.residual.chain_firsts.Tie as tie

@@ -1,11 +1,10 @@
 -- `logs::log::check_log` meets its contract: question 8 is two tests; questions 9 and 10 are asked over the chained rows.
-use Prim.Native.Nat.{ℕ, _/_, _%_, _≤_}
+use Prim.Native.Nat.{ℕ, _/_, _%_}
 use native.Mathlib.Omega.{arith}
-use mathlib.Core.Path.{_≡_, sym, _∙_, subst}
+use mathlib.Core.Path.{_≡_, sym, _∙_}
 use mathlib.Core.Bool.{true, false}
 use borrow.Author.Tests.{eq-eqb, ne-eqb, le-leb, lt-leb}
-use lib.ListN.{length, take, replicate, length-replicate}
-use lib.Seq.{length-take-le}
+use lib.ListN.{length}
 use lib.Dec.{eqb, leb}
 use Rattle.model.specs.declared.Refusal.the-variants.{LogLength}
 use Rattle.model.specs.Words.{Words}
@@ -13,6 +12,7 @@ use Rattle.model.specs.Answer.{refused, ask, _>>=_}
 use Rattle.model.specs.Log.{rowCount, askLog}
 use Rattle.tables.specs.declared.Checked.the-variants.{Passed, Refused}
 use Rattle.logs.specs.Search.{askRows, repeatsAt}
+use Rattle.logs.proofs.Keys.{first-keys}
 use borrow.Author.Needs.{needs}
 use Rattle.logs.proofs.log.check_log.Statement.{statement}
 use Rattle.logs.proofs.log.check_log.Tie as tie
@@ -36,10 +36,6 @@ module _ (table log : Words) where
 -- a refusal is no pass
 never : {X : Type 0} {p : ℕ} → Refused LogLength p ≡ Passed → X
 never e = let z : _≡_ {A = ℕ} 0 1 = cc in absurd (omega arith)
-
--- the part of the keys that is lent has one for each row
-first-keys : (n : ℕ) → n ≤ 4096 → length (take n (replicate {A = ℕ} 4096 0)) ≡ n
-first-keys n h = length-take-le n (replicate 4096 0) (subst (λ (k : ℕ). n ≤ k) (sym (length-replicate {A = ℕ} 4096 0)) h)
 
 returns : tie.Need-returns
 returns c = record { asked = ask-whole (c .before .before .args .table .now) (c .before .before .args .log .now) (ne-eqb _ 0 (c .if1 .taken)); chained = λ e. never e }
