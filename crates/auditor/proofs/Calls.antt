@@ -13,19 +13,16 @@ use Rattle.model.specs.Reading.{readPolicy}
 use Rattle.model.specs.Mode.{askModes}
 use Rattle.model.specs.Log.{rowCount, askLog}
 use Rattle.model.specs.Calls.{askPolicy, checkPolicy, checkLog}
+use Rattle.laws.specs.Answer.{answer-accepted, answer-refused}
 use Rattle.policies.specs.Policy.{toldPolicy}
 use Rattle.policies.specs.declared.policy.Walked.the-variants as walked
 
 -- what an answer says of the questions
 pub was-refused : {A : Type 0} (count : A → ℕ) (o : Outcome A) {r : Refusal} {p : ℕ} → Refused r p ≡ answer count o → o ≡ refused r p
-unfolding answer
-was-refused count (refused r p) e = cc
-was-refused count (passed a) e = cc
+was-refused count o {r} {p} e = answer-refused count o r p (sym e)
 
 pub was-passed : {A : Type 0} (count : A → ℕ) (o : Outcome A) {k : ℕ} → Accepted k ≡ answer count o → (a : A) × (o ≡ passed a)
-unfolding answer
-was-passed count (refused r p) e = absurd (let z : _≡_ {A = ℕ} 0 1 = cc in omega arith)
-was-passed count (passed a) e = (a, refl)
+was-passed count o {k} e = let (a, passes, size) = answer-accepted count o k (sym e) in (a, passes)
 
 -- what is told of a reading is what came of it
 told-refused :

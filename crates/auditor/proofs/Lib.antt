@@ -1,5 +1,7 @@
 -- Laws that several proofs of this crate cite.
 pub mod Calls
+pub mod LogReading
+pub mod LogWriting
 pub mod DualBuffer
 pub mod DualTrees
 pub mod DualAfter

@@ -2,3 +2,4 @@ pub mod Dual
 pub mod Reduce
 pub mod Runs
 pub mod RunsExample
+pub mod LogText

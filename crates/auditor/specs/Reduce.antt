@@ -32,7 +32,7 @@ settled places need buffer residual = do
   _ ← ask (leb need places) Scratch 0
   write buffer residual
 
--- what comes of all questions
+-- what comes of questions 1 to 12
 unfoldable pub asked : Words → Words → Words → ℕ → ℕ → Outcome Words
 asked table policy log scratch buffer = do
   tree ← askPolicy table policy

@@ -1,6 +1,6 @@
 // The words of the dual of a policy. Words are in preorder, so that trees are walked with no stack: a count of the trees
 // that are still to be passed does.
-use crate::clearing::clear;
+use clearing::clear;
 use policies::node;
 use policies::node::Tag;
 use preorder::putting::copy_words;

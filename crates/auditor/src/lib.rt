@@ -1,13 +1,18 @@
 // The public calls of the auditor. Each makes every check itself and answers as model's definition of it says.
-mod clearing;
 mod dual_words;
+mod log_text;
 mod residual;
 
 ghost use mathlib.Core.Path.{_≡_};
+ghost use Prim.Native.Nat.{_≤_};
 ghost use lib.ListN.{length};
 ghost use Rattle.model.specs.Answer.{count};
+ghost use Rattle.model.specs.Log.{askLog};
 ghost use Rattle.model.specs.Calls as C;
+ghost use Rattle.tables.specs.Checked.{outcome};
 ghost use Rattle.auditor.specs.Reduce.{Reduces};
+use clearing::clear;
+use clearing::clear_bytes;
 use model::Answer;
 use model::Refusal;
 use policies::policy::Walked;
@@ -36,6 +41,15 @@ pub fn check_policy(table: &[i32], policy: &[i32]) -> Answer
     }
 }
 
+// Questions 8 to 10 of a log.
+fn check_rows(table: &[i32], log: &[i32]) -> Checked
+    requires { ⌜ length (now table) ≤ 768 ⌝ }
+    ensures { λ r. ⌜ outcome r ≡ askLog (now (table .entry)) (now (log .entry)) ⌝ }
+{
+    let mut links = [0; 20480];
+    logs::log::check_log(table, log, &mut links)
+}
+
 // Check a log over a table: questions 1 and 8 to 10. Accepted, the count is the number of rows.
 pub fn check_log(table: &[i32], log: &[i32]) -> Answer
     ensures { λ r. ⌜ r ≡ C.checkLog (now (table .entry)) (now (log .entry)) ⌝ }
@@ -44,8 +58,7 @@ pub fn check_log(table: &[i32], log: &[i32]) -> Answer
     match first {
         Checked::Refused(refusal, place) => Answer::Refused(refusal, place),
         Checked::Passed => {
-            let mut links = [0; 20480];
-            let second = logs::log::check_log(table, log, &mut links);
+            let second = check_rows(table, log);
             match second {
                 Checked::Refused(refusal, place) => Answer::Refused(refusal, place),
                 Checked::Passed => Answer::Accepted(log.len() / 8),
@@ -65,11 +78,11 @@ pub fn dual(table: &[i32], policy: &[i32], buffer: &mut [i32]) -> Answer
 {
     let asked = check_policy(table, policy);
     if let Answer::Refused(refusal, place) = asked {
-        clearing::clear(buffer, 0);
+        clear(buffer, 0);
         return Answer::Refused(refusal, place);
     }
     if buffer.len() < policy.len() {
-        clearing::clear(buffer, 0);
+        clear(buffer, 0);
         return Answer::Refused(Refusal::Room, 0);
     }
     dual_words::write(policy, buffer);
@@ -86,7 +99,7 @@ fn counted(answer: Answer) -> usize
     }
 }
 
-// Write the residual of a policy over a log: all questions. Accepted, the count is its length.
+// Write the residual of a policy over a log: questions 1 to 12. Accepted, the count is its length.
 pub fn reduce(
     table: &[i32],
     policy: &[i32],
@@ -99,7 +112,35 @@ pub fn reduce(
         ⌝ }
 {
     let answer = residual::residual(table, policy, log, scratch, buffer);
-    clearing::clear(scratch, 0);
-    clearing::clear(buffer, counted(answer));
+    clear(scratch, 0);
+    clear(buffer, counted(answer));
+    answer
+}
+
+// Read a log from comma-separated text over a table: questions 1, 13, 14, 8, 10 and 12. Accepted, the count is the number of rows.
+pub fn read_log(table: &[i32], text: &[u8], buffer: &mut [i32]) -> Answer
+    ensures { λ r. ⌜
+        r ≡ C.readLogCall (now (table .entry)) (now (text .entry)) (length (now (buffer .entry))) .answer
+        ⌝ }
+    ensures { λ _. ⌜
+        now (buffer .exit) ≡ C.readLogCall (now (table .entry)) (now (text .entry)) (length (now (buffer .entry))) .buffer
+        ⌝ }
+{
+    let answer = log_text::read(table, text, buffer);
+    clear(buffer, 8 * counted(answer));
+    answer
+}
+
+// Write a log as comma-separated text: questions 1, 8 to 10 and 12. Accepted, the count is the number of bytes.
+pub fn write_log(table: &[i32], log: &[i32], buffer: &mut [u8]) -> Answer
+    ensures { λ r. ⌜
+        r ≡ C.writeLogCall (now (table .entry)) (now (log .entry)) (length (now (buffer .entry))) .answer
+        ⌝ }
+    ensures { λ _. ⌜
+        now (buffer .exit) ≡ C.writeLogCall (now (table .entry)) (now (log .entry)) (length (now (buffer .entry))) .buffer
+        ⌝ }
+{
+    let answer = log_text::write(table, log, buffer);
+    clear_bytes(buffer, counted(answer));
     answer
 }

@@ -1,4 +1,4 @@
-// The residual of a policy over a log, at the front of a buffer: all questions, in their order.
+// The residual of a policy over a log, at the front of a buffer: questions 1 to 12, in their order.
 use crate::check_policy;
 use joining::answer::Reduced;
 use listing::environment::Environment;

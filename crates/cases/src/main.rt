@@ -1,6 +1,7 @@
 // Cases of each call, a line for each: its name, and number, place and count of the answer; of a call that writes, also the
-// words of the buffer, and of reduce, on a second line, those of scratch. Table T, log A, formula F and the cases P are those of the
+// words or bytes of the buffer, and of reduce, on a second line, those of scratch. Table T, log A, formula F and the cases P are those of the
 // specification.
+mod log_texts;
 mod print;
 mod reductions;
 
@@ -239,4 +240,9 @@ fn main() {
     reductions::exists();
     reductions::readings();
     reductions::runs();
+    log_texts::accepted();
+    log_texts::not_allowed();
+    log_texts::no_rows();
+    log_texts::other_rows();
+    log_texts::written();
 }

@@ -38,6 +38,21 @@ pub fn words(words: &[i32]) {
     io::write_all(1, b"\n");
 }
 
+// Bytes, each as a number behind a space, to the end of the line.
+pub fn bytes(bytes: &[u8]) {
+    let mut i = 0;
+    while i < bytes.len() {
+        io::write_all(1, b" ");
+        byte(bytes[i]);
+        i += 1;
+    }
+    io::write_all(1, b"\n");
+}
+
+fn byte(b: u8) {
+    number(b as usize);
+}
+
 // The name and the answer of a case.
 pub fn answer(name: &[u8], a: Answer) {
     io::write_all(1, name);

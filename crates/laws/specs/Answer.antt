@@ -4,8 +4,9 @@ use mathlib.Core.Path.{_≡_, refl}
 use mathlib.Core.Bool.{Bool, true, false}
 use native.Mathlib.Omega.{arith}
 use mathlib.Core.List.{List, [], _∷_, List·Memᴰ, List·Memᴰ·head, List·Memᴰ·tail}
-use Rattle.model.specs.Answer.{Outcome, refused, passed, ask, _>>=_, inTurn}
+use Rattle.model.specs.Answer.{Outcome, refused, passed, ask, answer, _>>=_, inTurn}
 use Rattle.model.specs.declared.Refusal.{Refusal}
+use Rattle.model.specs.declared.Answer.the-variants.{Accepted, Refused}
 
 -- a question that passed was answered with yes
 pub ask-passed : (b : Bool) (r : Refusal) (p : ℕ) {u : Unit {0}} → ask b r p ≡ passed u → b ≡ true
@@ -24,6 +25,24 @@ refused-passed {X} {A} {r} {p} {a} e = absurd (let z : _≡_ {A = ℕ} 0 1 = cc 
 -- what passed, passed with one value
 pub passed-same : {A : Type 0} {x y : A} → passed x ≡ passed y → x ≡ y
 passed-same e = cc
+
+module _ {A : Type 0} where
+  -- what is only handed on
+  pub then-same : (o : Outcome A) → o ≡ (o >>= λ a. passed a)
+  unfolding _>>=_
+  then-same (refused r p) = refl
+  then-same (passed a) = refl
+
+  -- an accepted answer is of questions that passed, a refused one of questions that were refused
+  pub answer-accepted : (size : A → ℕ) (o : Outcome A) (n : ℕ) → answer size o ≡ Accepted n → (a : A) × (o ≡ passed a) × (size a ≡ n)
+  unfolding answer
+  answer-accepted size (refused r p) n e = absurd (let z : _≡_ {A = ℕ} 0 1 = cc in omega arith)
+  answer-accepted size (passed a) n e = (a, refl, cc)
+
+  pub answer-refused : (size : A → ℕ) (o : Outcome A) (r : Refusal) (p : ℕ) → answer size o ≡ Refused r p → o ≡ refused r p
+  unfolding answer
+  answer-refused size (refused r′ p′) r p e = cc
+  answer-refused size (passed a) r p e = cc
 
 module _ {A B : Type 0} where
   -- both the first questions and the next ones passed

@@ -4,6 +4,9 @@ pub mod Lists
 pub mod Answer
 pub mod Table
 pub mod Log
+pub mod Csv
+pub mod Decimal
+pub mod LogText
 pub mod Level
 pub mod Reading
 pub mod Mode

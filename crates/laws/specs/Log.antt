@@ -37,7 +37,7 @@ pub record Sound (table : Words) (rows : List Words) : Type 0 where
   pub six : (r : Words) → List·Memᴰ r rows → length (arguments r) ≡ 6
 
 -- lists of zeros of one length are equal
-zeros-same :
+pub zeros-same :
     (xs ys : List ℤ) →
     all (λ a. equal a (pos 0)) xs ≡ true →
     all (λ a. equal a (pos 0)) ys ≡ true →
@@ -78,7 +78,7 @@ unfolding holds
 holds-intro p ns row e f = rw (e, f) (and-true (equal-refl (pos p)) (equalAll-refl ns))
 
 -- the unused arguments of a good row are 0
-unused-zero :
+pub unused-zero :
     (table row : Words) (p n : ℕ) →
     arity table p ≡ n →
     goodRow table row ≡ true →
@@ -355,7 +355,7 @@ row-of-value table (row ∷ rest) p ns e =
     (decide (holds p ns row))
 
 -- an atom's numbers, filled up to six with 0 as the arguments of a good row are: a row holds the one exactly if it holds the other
-zeros-all : (k : ℕ) → all (λ a. equal a (pos 0)) (replicate k (pos 0)) ≡ true
+pub zeros-all : (k : ℕ) → all (λ a. equal a (pos 0)) (replicate k (pos 0)) ≡ true
 unfolding all
 zeros-all zero = refl
 zeros-all (suc k) = and-true (equal-refl (pos 0)) (zeros-all k)

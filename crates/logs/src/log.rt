@@ -34,7 +34,7 @@ fn unused(row: &[i32], n: usize) -> bool
 }
 
 // Question 9 of a row's words.
-fn good_row(table: &[i32], row: &[i32]) -> bool
+pub fn good_row(table: &[i32], row: &[i32]) -> bool
     requires { ⌜ (length (now table) ≤ 768) × (length (now row) ≡ 8) ⌝ }
     ensures { λ r. ⌜ r ≡ L.goodRow (now (table .entry)) (now (row .entry)) ⌝ }
 {

@@ -1,7 +1,7 @@
--- The four calls, as functions of their words and of the lengths of scratch and buffer.
+-- The calls, as functions of their words and texts and of the lengths of scratch and buffer.
 use Prim.Native.Nat.{ℕ, _-_, _/_}
 use mathlib.Core.Bool.{_&&_}
-use mathlib.Core.List.{[], _++_}
+use mathlib.Core.List.{List, [], _++_}
 use lib.ListN.{length, replicate}
 use lib.Dec.{leb}
 use lib.IntN.{pos}
@@ -17,6 +17,9 @@ use Rattle.model.specs.Reading.{readPolicy}
 use Rattle.model.specs.Mode.{askModes}
 use Rattle.model.specs.Reduction.{reduce, need}
 use Rattle.model.specs.Dual.{dual}
+use Rattle.model.specs.Bytes.{Text}
+use Rattle.model.specs.CsvReading.{readCsv}
+use Rattle.model.specs.LogText.{askRecords, logText}
 
 -- what a call that is lent a buffer leaves: its answer and all words of buffer and scratch
 pub record Result : Type 0 where
@@ -62,7 +65,7 @@ checkLog table log =
       _ ← askTable table
       askLog table log
 
--- reduce: all questions; the length of the residual
+-- reduce: 1 to 12; the length of the residual
 unfoldable pub reduceCall : Words → Words → Words → ℕ → ℕ → Result
 reduceCall table policy log scratch buffer =
     result scratch buffer do
@@ -77,3 +80,44 @@ dualCall table policy buffer =
     result 0 buffer do
       tree ← askPolicy table policy
       write buffer (dual tree)
+
+-- question 12, of a log's words or a text's bytes
+unfoldable pub inRoom : {A : Type 0} → ℕ → List A → Outcome (List A)
+inRoom buffer xs = do
+  _ ← ask (leb (length xs) buffer) Room 0
+  passed xs
+
+-- read a log: 1, 13, 14, 8, 10 and 12; the row count. Question 9 stands in its place too, but 14 has asked it
+unfoldable pub askReading : Words → Text → ℕ → Outcome Words
+askReading table text buffer = do
+  _ ← askTable table
+  records ← readCsv text
+  log ← askRecords table 0 records
+  _ ← askLog table log
+  inRoom buffer log
+
+unfoldable pub readLogCall : Words → Text → ℕ → Result
+readLogCall table text buffer =
+    let written = askReading table text buffer in
+    record { answer = answer rowCount written; buffer = filled buffer written; scratch = [] }
+
+-- write a log: 1, 8 to 10 and 12; the bytes
+unfoldable pub askWriting : Words → Words → ℕ → Outcome Text
+askWriting table log buffer = do
+  _ ← askTable table
+  _ ← askLog table log
+  inRoom buffer (logText table log)
+
+-- what a call that writes a text leaves: its answer and all bytes of the buffer
+pub record TextResult : Type 0 where
+  pub answer : Answer
+  pub buffer : Text
+
+-- the bytes written, then zeros; refused, zeros only
+unfoldable pub filledText : ℕ → Outcome Text → Text
+filledText buffer (refused r p) = replicate buffer 0
+filledText buffer (passed t) = t ++ replicate (buffer - length t) 0
+
+unfoldable pub writeLogCall : Words → Words → ℕ → TextResult
+writeLogCall table log buffer =
+    let written = askWriting table log buffer in record { answer = answer length written; buffer = filledText buffer written }

@@ -4,6 +4,11 @@ pub mod Lists
 pub mod Answer
 pub mod Table
 pub mod Log
+pub mod Bytes
+pub mod Csv
+pub mod CsvReading
+pub mod Decimal
+pub mod LogText
 pub mod Tag
 pub mod Tree
 pub mod Level
@@ -18,3 +23,4 @@ pub mod Dual
 pub mod Calls
 pub mod Runs
 pub mod Examples
+pub mod TextExamples

@@ -55,6 +55,10 @@ within low high z = leZ (pos low) z && leZ z (pos high)
 unfoldable pub below : ℕ → ℤ → Bool
 below n z = leZ (pos 0) z && ltZ z (pos n)
 
+-- a number that a word of 32 bits can be
+unfoldable pub wordSized : ℤ → Bool
+wordSized z = leZ (negsuc 2147483647) z && leZ z (pos 2147483647)
+
 -- equality of Bools, of numbers, of lists of numbers; membership in a list of tuples
 abbrev pub same : Bool → Bool → Bool
 same a b = Bool·beq a b

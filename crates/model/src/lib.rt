@@ -2,7 +2,7 @@
 ghost use mathlib.Core.Path.{_≡_};
 ghost use Rattle.model.specs.Answer.{question};
 
-// The twelve questions of the specification, each named for what it asks about.
+// The questions of the specification in the order of their numbers, each named for what it asks about.
 pub enum Refusal {
     Table,
     PolicyLength,
@@ -16,6 +16,8 @@ pub enum Refusal {
     Repeat,
     Scratch,
     Room,
+    Csv,
+    Record,
 }
 
 // Accepted, with the call's count; or refused, with the question and the place.
@@ -41,5 +43,7 @@ pub fn number(refusal: Refusal) -> u32
         Refusal::Repeat => 10,
         Refusal::Scratch => 11,
         Refusal::Room => 12,
+        Refusal::Csv => 13,
+        Refusal::Record => 14,
     }
 }

@@ -74,7 +74,7 @@ pub extern "C" fn vh_dual(
     number_of(answer)
 }
 
-// Writes the residual of a policy over a log: all questions. The count is its length. The rest of the buffer, or all of it if
+// Writes the residual of a policy over a log: questions 1 to 12. The count is its length. The rest of the buffer, or all of it if
 // the call is refused, and all of scratch become zero.
 #[no_mangle]
 pub extern "C" fn vh_reduce(
@@ -105,6 +105,56 @@ pub extern "C" fn vh_reduce(
         ⌝ }
 {
     let answer = auditor::reduce(table, policy, log, scratch, buffer);
+    *detail = detail_of(answer);
+    number_of(answer)
+}
+
+// Reads a log from comma-separated text: questions 1, 13, 14, 8, 10 and 12. The count is the number of its rows. The rest of the
+// buffer, or all of it if the call is refused, becomes zero.
+#[no_mangle]
+pub extern "C" fn vh_read_log(
+    table: &[i32],
+    text: &[u8],
+    buffer: &mut [i32],
+    detail: &mut u64,
+) -> u32
+    ensures { λ r. ⌜
+        r ≡ number (C.readLogCall (now (table .entry)) (now (text .entry)) (length (now (buffer .entry))) .answer)
+        ⌝ }
+    ensures { λ _. ⌜
+        now (detail .exit)
+        ≡ detailed (C.readLogCall (now (table .entry)) (now (text .entry)) (length (now (buffer .entry))) .answer)
+        ⌝ }
+    ensures { λ _. ⌜
+        now (buffer .exit) ≡ C.readLogCall (now (table .entry)) (now (text .entry)) (length (now (buffer .entry))) .buffer
+        ⌝ }
+{
+    let answer = auditor::read_log(table, text, buffer);
+    *detail = detail_of(answer);
+    number_of(answer)
+}
+
+// Writes a log as comma-separated text: questions 1, 8 to 10 and 12. The count is the number of bytes. The rest of the buffer, or
+// all of it if the call is refused, becomes zero.
+#[no_mangle]
+pub extern "C" fn vh_write_log(
+    table: &[i32],
+    log: &[i32],
+    buffer: &mut [u8],
+    detail: &mut u64,
+) -> u32
+    ensures { λ r. ⌜
+        r ≡ number (C.writeLogCall (now (table .entry)) (now (log .entry)) (length (now (buffer .entry))) .answer)
+        ⌝ }
+    ensures { λ _. ⌜
+        now (detail .exit)
+        ≡ detailed (C.writeLogCall (now (table .entry)) (now (log .entry)) (length (now (buffer .entry))) .answer)
+        ⌝ }
+    ensures { λ _. ⌜
+        now (buffer .exit) ≡ C.writeLogCall (now (table .entry)) (now (log .entry)) (length (now (buffer .entry))) .buffer
+        ⌝ }
+{
+    let answer = auditor::write_log(table, log, buffer);
     *detail = detail_of(answer);
     number_of(answer)
 }

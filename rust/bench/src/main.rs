@@ -4,9 +4,10 @@
 //! The policy has 1,048,576 words, the greatest number allowed. The logs have 256, 1,024 and 4,096 rows, to see whether
 //! the time grows with the rows; 4,096 is the greatest number allowed. What is reduced is said with each input.
 //!
-//! The reference reads a policy into a tree and keeps the rows of a log in a hash table, so a ratio to it that is below
-//! 1 says little about the library alone. The hand-written log check allocates nothing, like the library; the
-//! hand-written reduction allocates the residual, a list of the policy's quantifiers and a hash table of tuples.
+//! The reference reads a policy into a tree, a text into records of fields, and keeps the rows of a log in a hash
+//! table, so a ratio to it that is below 1 says little about the library alone. Of the hand-written code, the log check
+//! and the writing of a log allocate nothing, like the library; the reading of a log allocates the rows, the reduction
+//! the residual, a list of the policy's quantifiers and a hash table of tuples.
 
 mod hospital;
 mod keys;
@@ -15,6 +16,7 @@ mod measure;
 mod peer;
 mod reductions;
 mod report;
+mod texts;
 mod words;
 
 use std::hint::black_box;
@@ -39,11 +41,14 @@ fn main() {
     print_heads();
     policies();
     let measured = logs();
+    let texts = texts::measure_all();
     let reductions = reductions::measure_all();
     println!();
     println!("The ratios are those of the medians.");
     println!();
     print_rows(&measured);
+    println!();
+    texts::print(&texts);
     println!();
     reductions::print(&reductions);
 }
@@ -64,8 +69,8 @@ fn policies() {
         &format!("dual, {WORDS} words"),
         1,
         Room {
-            scratch: 0,
             buffer: WORDS,
+            ..Lent::NOTHING
         },
         &[
             &|_, lent| library(vitrinehawk::dual(&TABLE, black_box(policy), &mut lent.buffer)),

@@ -18,37 +18,52 @@ pub const BATCH: Duration = Duration::from_micros(200);
 /// What scratch and the buffer are full of before each call.
 pub const GARBAGE: i32 = -1;
 
-/// The words that are lent to a call.
+/// The words and bytes that are lent to a call.
 pub struct Lent {
     pub scratch: Vec<i32>,
     pub buffer: Vec<i32>,
+    /// The buffer of a call that writes text.
+    pub bytes: Vec<u8>,
 }
 
 impl Lent {
     /// Nothing is lent.
-    pub const NOTHING: Room = Room { scratch: 0, buffer: 0 };
+    pub const NOTHING: Room = Room {
+        scratch: 0,
+        buffer: 0,
+        bytes: 0,
+    };
 
-    /// Words full of garbage.
+    /// Words and bytes full of garbage.
     fn new(room: Room) -> Self {
         Lent {
             scratch: vec![GARBAGE; room.scratch],
             buffer: vec![GARBAGE; room.buffer],
+            bytes: vec![GARBAGE as u8; room.bytes],
         }
     }
 
     fn is_empty(&self) -> bool {
-        self.scratch.is_empty() && self.buffer.is_empty()
+        self.scratch.is_empty() && self.buffer.is_empty() && self.bytes.is_empty()
+    }
+
+    /// Fills all with garbage.
+    fn spoil(&mut self) {
+        self.scratch.fill(GARBAGE);
+        self.buffer.fill(GARBAGE);
+        self.bytes.fill(GARBAGE as u8);
     }
 }
 
-/// How many words are lent.
+/// How many words and bytes are lent.
 #[derive(Clone, Copy)]
 pub struct Room {
     pub scratch: usize,
     pub buffer: usize,
+    pub bytes: usize,
 }
 
-/// A call of one implementation, on the input with a number (they go round) and on lent words.
+/// A call of one implementation, on the input with a number (they go round) and on what is lent.
 pub type Call<'a> = &'a dyn Fn(usize, &mut Lent) -> Answer;
 
 /// The seconds that one call takes, measured several times and sorted.
@@ -66,8 +81,7 @@ impl Times {
     }
 }
 
-/// Makes sure that all calls on an input have the same answer and leave the same words in what is lent. Returns the
-/// answer.
+/// Makes sure that all calls on an input have the same answer and leave the same in what is lent. Returns the answer.
 pub fn agreed(name: &str, input: usize, room: Room, calls: &[Call]) -> Answer {
     let mut results = calls.iter().map(|call| {
         let mut lent = Lent::new(room);
@@ -77,6 +91,7 @@ pub fn agreed(name: &str, input: usize, room: Room, calls: &[Call]) -> Answer {
     for (other_answer, other) in results {
         assert_eq!(answer, other_answer, "{name}: the answers differ");
         assert!(lent.buffer == other.buffer, "{name}: the buffers differ");
+        assert!(lent.bytes == other.bytes, "{name}: the texts differ");
         assert!(lent.scratch == other.scratch, "{name}: scratch differs");
     }
     answer
@@ -110,8 +125,8 @@ struct Turns<'a> {
 }
 
 impl<'a> Turns<'a> {
-    /// Finds out how many calls make up a batch. A call with lent words is made alone, so that it never finds an earlier
-    /// result there.
+    /// Finds out how many calls make up a batch. A call that is lent something is made alone, so that it never finds an
+    /// earlier result there.
     fn new(call: Call<'a>, lent: &mut Lent) -> Self {
         let mut turns = Turns {
             call,
@@ -130,10 +145,9 @@ impl<'a> Turns<'a> {
         }
     }
 
-    /// Makes a batch of calls on words full of garbage and returns their time.
+    /// Makes a batch of calls on words and bytes full of garbage and returns their time.
     fn run(&mut self, lent: &mut Lent) -> Duration {
-        lent.scratch.fill(GARBAGE);
-        lent.buffer.fill(GARBAGE);
+        lent.spoil();
         let start = Instant::now();
         for _ in 0..self.batch {
             black_box((self.call)(self.input, black_box(&mut *lent)));

@@ -1,20 +1,22 @@
-//! The log check and the reduction as one would write them by hand for speed.
+//! The log check, logs as text and the reduction as one would write them by hand for speed.
 //!
 //! They are the measure for the library, and nothing else uses them. A policy stays words: the check notes where each
 //! quantifier's restriction and body begin, and the walk goes over the words. Environments lie in the lent scratch, one
 //! place each. Ground atoms are looked up in an open-addressing hash table, rows are bucketed by predicate, and the
-//! instances of a quantifier are told apart by a hash table too. The residual is written in one pass.
+//! instances of a quantifier are told apart by a hash table too. The residual is written in one pass, and so is a text.
 
 mod instances;
 mod joining;
 mod listing;
 mod log;
+mod log_text;
 mod policy;
 mod reduction;
 #[cfg(test)]
 mod tests;
 
 pub use log::check_log;
+pub use log_text::{read_log, write_log};
 
 use listing::{Lists, WORDS};
 use log::{check_table, Index, Slots, SLOTS};
@@ -26,7 +28,7 @@ pub type Refused = (u32, usize);
 /// The greatest number of words of a policy or a residual.
 const MOST_WORDS: usize = 1_048_576;
 
-/// Writes the residual of a policy over a log to the front of a buffer (all questions) and returns its length.
+/// Writes the residual of a policy over a log to the front of a buffer (questions 1 to 12) and returns its length.
 ///
 /// Behind the residual the buffer has zeros; if the call is refused, zeros only. Scratch is zero afterwards.
 pub fn reduce(

@@ -6,7 +6,7 @@ use std::hint::black_box;
 
 use reference::{Answer, PLACE};
 
-use crate::measure::{agreed, Call, Room, Times};
+use crate::measure::{agreed, Call, Lent, Room, Times};
 use crate::report::{row, IMPLEMENTATIONS};
 use crate::{answer, library, peer};
 use cases::{cases, Case};
@@ -29,6 +29,7 @@ fn measure(case: Case) -> Reduction {
     let room = Room {
         scratch: PLACE * places,
         buffer: case.residual().len(),
+        ..Lent::NOTHING
     };
     for (refused, room, expected) in refused(&case, room) {
         let answer = with_reductions(&refused, |calls| agreed(&case.name, 0, room, calls));

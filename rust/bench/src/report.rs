@@ -5,11 +5,16 @@ use crate::measure::{agreed, measure, Call, Room, Times};
 /// The implementations in the order of the columns. The last is there for some calls only.
 pub const IMPLEMENTATIONS: [&str; 3] = ["library", "reference", "hand-written"];
 
-/// Compares the calls on all their inputs, measures them and prints a row.
+/// Compares the calls on all their inputs, which are accepted, measures them and prints a row.
 pub fn row(name: &str, inputs: usize, room: Room, calls: &[Call]) -> Vec<Times> {
+    row_with(0, name, inputs, room, calls)
+}
+
+/// The same for inputs that are all answered with this number.
+pub fn row_with(number: u32, name: &str, inputs: usize, room: Room, calls: &[Call]) -> Vec<Times> {
     for input in 0..inputs {
         let answer = agreed(name, input, room, calls);
-        assert_eq!(answer.number, 0, "{name}: the input is refused");
+        assert_eq!(answer.number, number, "{name}: the number of the answer");
     }
     let times = measure(room, calls);
     print_times(name, &times);

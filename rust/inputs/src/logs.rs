@@ -25,6 +25,23 @@ pub(crate) fn split_log(random: &mut Random, table: &[i32], most_rows: usize, va
     })
 }
 
+/// A good log with at most so many rows. Its arguments have all numbers of digits, and are often where this number or
+/// the range ends.
+pub fn decimal_log(random: &mut Random, table: &[i32], most_rows: usize) -> Vec<i32> {
+    let rows = random.below(most_rows + 1);
+    log_of(random, rows, |random| atom(random, table, decimal))
+}
+
+/// An argument of a decimal log.
+fn decimal(random: &mut Random) -> i32 {
+    let sign = random.pick(&[1, -1]);
+    match random.below(4) {
+        0 => random.pick(&[0, -1, i32::MAX, i32::MAX - 1, i32::MIN, i32::MIN + 1]),
+        1 => sign * (10_i32.pow(random.below(10) as u32) - random.below(2) as i32),
+        _ => random.number() as i32 >> random.below(32),
+    }
+}
+
 /// Rows of different atoms, from so many that may repeat each other.
 fn log_of(random: &mut Random, rows: usize, atom: impl Fn(&mut Random) -> [i32; 7]) -> Vec<i32> {
     let mut seen = BTreeSet::new();

@@ -8,10 +8,18 @@ const LONG: usize = 2_000;
 /// Up to this length edits at two places are tried as well.
 const SHORT: usize = 150;
 
+/// So many words are tried in all, so that a long input that has to be long does not take hours.
+const TRIED: usize = 1 << 29;
+
 /// Makes the parts of an input smaller, as long as `fails` stays true: drops words, puts smaller nodes for nodes, sets
 /// words to 0.
 pub fn shrink(parts: Vec<Vec<i32>>, fails: impl Fn(&[Vec<i32>]) -> bool) -> Vec<Vec<i32>> {
-    let mut shrinker = Shrinker { parts, part: 0, fails };
+    let mut shrinker = Shrinker {
+        parts,
+        part: 0,
+        fails,
+        left: TRIED,
+    };
     loop {
         let mut progress = false;
         for part in 0..shrinker.parts.len() {
@@ -32,6 +40,8 @@ struct Shrinker<F> {
     /// The part that is worked on.
     part: usize,
     fails: F,
+    /// The words that may still be tried.
+    left: usize,
 }
 
 impl<F: Fn(&[Vec<i32>]) -> bool> Shrinker<F> {
@@ -42,7 +52,9 @@ impl<F: Fn(&[Vec<i32>]) -> bool> Shrinker<F> {
     /// Keeps other words for the part if it still fails with them.
     fn keep(&mut self, words: Vec<i32>) -> bool {
         let before = std::mem::replace(&mut self.parts[self.part], words);
-        let keep = (self.fails)(&self.parts);
+        let tried = self.parts.iter().map(Vec::len).sum();
+        let keep = self.left > 0 && (self.fails)(&self.parts);
+        self.left = self.left.saturating_sub(tried);
         if !keep {
             self.parts[self.part] = before;
         }
@@ -51,6 +63,9 @@ impl<F: Fn(&[Vec<i32>]) -> bool> Shrinker<F> {
 
     /// Tries to put other words for a run of words.
     fn replace(&mut self, from: usize, run: usize, by: &[i32]) -> bool {
+        if self.left == 0 {
+            return false;
+        }
         let (front, rest) = self.words().split_at(from);
         let words = [front, by, &rest[run..]].concat();
         self.keep(words)
@@ -207,6 +222,8 @@ fn children(node: &[i32]) -> Vec<Range<usize>> {
 
 #[cfg(test)]
 mod tests {
+    use std::cell::Cell;
+
     use super::*;
 
     #[test]
@@ -228,6 +245,18 @@ mod tests {
         let parts = vec![policy];
         assert!(fails(&parts));
         assert_eq!(shrink(parts, fails), [vec![5, 0, 0, 0, 0, 0]]);
+    }
+
+    #[test]
+    fn ends_if_the_input_has_to_be_long() {
+        let long = vec![vec![1; 100_000], vec![7; 3]];
+        let tried = Cell::new(0);
+        let fails = |parts: &[Vec<i32>]| {
+            tried.set(tried.get() + parts[0].len());
+            parts[0].len() == 100_000
+        };
+        assert_eq!(shrink(long, fails)[0].len(), 100_000);
+        assert!(tried.get() < TRIED + 200_000);
     }
 
     #[test]

@@ -40,7 +40,7 @@ impl From<Result<usize, Refused>> for Answer {
     }
 }
 
-/// The twelve questions, with their numbers.
+/// The questions, with their numbers.
 #[derive(Clone, Copy, Debug, PartialEq, Eq)]
 pub enum Question {
     /// Is the table good?
@@ -67,6 +67,10 @@ pub enum Question {
     Scratch = 11,
     /// Does the result fit the buffer?
     Room = 12,
+    /// Is the text one that RFC 4180 allows?
+    Csv = 13,
+    /// Is the record a row, and good by itself?
+    Record = 14,
 }
 
 impl Question {

@@ -1,7 +1,8 @@
-//! An independent implementation of the four calls, for comparison.
+//! An independent implementation of the calls, for comparison.
 //!
 //! It is written for its readers: a policy is read into a tree of enums, the trees are worked on by plain recursion
-//! (an accepted policy has at most 64 levels), and the result is written back as words. Nothing here is proved.
+//! (an accepted policy has at most 64 levels), and the result is written back as words. A text is read into records of
+//! fields, and these into rows. Nothing here is proved.
 //!
 //! ```
 //! use reference::{check_policy, Answer};
@@ -12,9 +13,11 @@
 //! ```
 
 mod answer;
+pub mod csv;
 mod dual;
 pub mod listing;
 mod log;
+mod log_text;
 mod mode;
 mod reader;
 mod reduction;
@@ -23,7 +26,7 @@ pub mod tree;
 pub mod truth;
 
 pub use answer::{Answer, Question, Refused};
-pub use log::{GroundAtom, Log};
+pub use log::{GroundAtom, Log, ROW};
 pub use reader::{read_policy, Policy, MOST_WORDS};
 pub use table::{read_table, Predicate};
 
@@ -56,7 +59,7 @@ pub fn dual(table: &[i32], policy: &[i32], buffer: &mut [i32]) -> Answer {
         .into()
 }
 
-/// Writes the residual of a policy over a log (all questions). The count is its length.
+/// Writes the residual of a policy over a log (questions 1 to 12). The count is its length.
 ///
 /// Behind the residual the buffer has zeros; if the call is refused, zeros only. Scratch is zero afterwards.
 pub fn reduce(table: &[i32], policy: &[i32], log: &[i32], scratch: &mut [i32], buffer: &mut [i32]) -> Answer {
@@ -65,6 +68,42 @@ pub fn reduce(table: &[i32], policy: &[i32], log: &[i32], scratch: &mut [i32], b
     residual(table, policy, log, scratch.len(), buffer.len())
         .and_then(|words| put(&words, buffer))
         .into()
+}
+
+/// Reads a log from comma-separated text and writes its words (questions 1, 13, 14, 8, 10 and 12). The count is the
+/// number of rows.
+///
+/// Behind the rows the buffer has zeros; if the call is refused, zeros only.
+pub fn read_log(table: &[i32], text: &[u8], buffer: &mut [i32]) -> Answer {
+    buffer.fill(0);
+    log_of_text(table, text)
+        .and_then(|words| Ok(put(&words, buffer)? / ROW))
+        .into()
+}
+
+/// Writes a log as comma-separated text (questions 1, 8 to 10 and 12). The count is the number of bytes.
+///
+/// Behind the text the buffer has zeros; if the call is refused, zeros only.
+pub fn write_log(table: &[i32], log: &[i32], buffer: &mut [u8]) -> Answer {
+    buffer.fill(0);
+    text_of_log(table, log).and_then(|text| put(&text, buffer)).into()
+}
+
+/// The words of a log that is given as text (questions 1, 13, 14, 8 and 10).
+pub fn log_of_text(table: &[i32], text: &[u8]) -> Result<Vec<i32>, Refused> {
+    let predicates = read_table(table)?;
+    let records = csv::read_records(text)?;
+    let words = log_text::read_rows(&predicates, &records)?;
+    // Each row is good already, so that questions 8 and 10 are left.
+    Log::read(&predicates, &words)?;
+    Ok(words)
+}
+
+/// The text of a log (questions 1 and 8 to 10).
+pub fn text_of_log(table: &[i32], log: &[i32]) -> Result<Vec<u8>, Refused> {
+    let predicates = read_table(table)?;
+    Log::read(&predicates, log)?;
+    Ok(log_text::write_rows(&predicates, log))
 }
 
 /// The places of scratch that reducing a policy over a log needs (questions 1 to 10).
@@ -80,7 +119,7 @@ pub fn places_within(table: &[i32], policy: &[i32], log: &[i32], most: usize) ->
     reduction::places(&log, &policy.root, most).ok_or(Question::Scratch.at(0))
 }
 
-/// The words of the residual, if so many words of scratch and a buffer of so many words are enough (all questions).
+/// The words of the residual, if so many words of scratch and a buffer of so many are enough (questions 1 to 12).
 pub fn residual(table: &[i32], policy: &[i32], log: &[i32], scratch: usize, room: usize) -> Result<Vec<i32>, Refused> {
     let predicates = read_table(table)?;
     let policy = read_policy(&predicates, policy)?;
@@ -97,9 +136,9 @@ pub fn residual(table: &[i32], policy: &[i32], log: &[i32], scratch: usize, room
     }
 }
 
-/// Question 12: puts the words at the front of the buffer.
-fn put(words: &[i32], buffer: &mut [i32]) -> Result<usize, Refused> {
-    let front = buffer.get_mut(..words.len());
-    front.ok_or(Question::Room.at(0))?.copy_from_slice(words);
-    Ok(words.len())
+/// Question 12: puts the words or bytes at the front of the buffer.
+fn put<T: Copy>(result: &[T], buffer: &mut [T]) -> Result<usize, Refused> {
+    let front = buffer.get_mut(..result.len());
+    front.ok_or(Question::Room.at(0))?.copy_from_slice(result);
+    Ok(result.len())
 }

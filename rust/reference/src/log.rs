@@ -6,13 +6,13 @@ use crate::answer::{Question, Refused};
 use crate::table::Predicate;
 
 /// The words of one row.
-const ROW: usize = 8;
+pub const ROW: usize = 8;
 
 /// The greatest number of rows.
 const MOST_ROWS: usize = 4096;
 
 /// The row's first two words, before its arguments.
-const BEFORE_ARGUMENTS: usize = 2;
+pub const BEFORE_ARGUMENTS: usize = 2;
 
 /// A predicate and its arguments, as many as its arity.
 #[derive(Clone, Debug, PartialEq, Eq, Hash)]

@@ -1,14 +1,11 @@
 //! A reduction that finds its own room.
 
-use crate::{reduce, Refusal, Refused, MOST_WORDS, PLACE_WORDS};
-
-/// The words of a log's row.
-const ROW_WORDS: usize = 8;
+use crate::{reduce, Refusal, Refused, MOST_WORDS, PLACE_WORDS, ROW_WORDS};
 
 /// By how much room grows after a refusal.
 const GROWTH: usize = 4;
 
-/// Returns the residual of a policy over a log (all questions), and takes care of scratch and buffer.
+/// Returns the residual of a policy over a log (questions 1 to 12), and takes care of scratch and buffer.
 ///
 /// It reduces with little room first: a place of scratch for each row and one more, and a buffer as long as the policy.
 /// As long as the call is refused for want of scratch or buffer, it tries again with four times as much of that one.

@@ -1,7 +1,7 @@
 //! The static library's functions, and the only unsafe code: each slice becomes a pointer and a length.
 //!
 //! The library reads its shared slices, reads and writes its mutable ones, writes its detail, keeps none of the
-//! pointers, and accepts every length and all words. So lending it slices for the time of the call is sound.
+//! pointers, and accepts every length, all words and all bytes. So lending it slices for the time of the call is sound.
 #![allow(unsafe_code)]
 
 extern "C" {
@@ -35,6 +35,26 @@ extern "C" {
         scratch: *mut i32,
         scratch_len: usize,
         buffer: *mut i32,
+        buffer_len: usize,
+        detail: *mut u64,
+    ) -> u32;
+
+    fn vh_read_log(
+        table: *const i32,
+        table_len: usize,
+        text: *const u8,
+        text_len: usize,
+        buffer: *mut i32,
+        buffer_len: usize,
+        detail: *mut u64,
+    ) -> u32;
+
+    fn vh_write_log(
+        table: *const i32,
+        table_len: usize,
+        log: *const i32,
+        log_len: usize,
+        buffer: *mut u8,
         buffer_len: usize,
         detail: *mut u64,
     ) -> u32;
@@ -97,6 +117,38 @@ pub fn reduce(table: &[i32], policy: &[i32], log: &[i32], scratch: &mut [i32], b
             log.len(),
             scratch.as_mut_ptr(),
             scratch.len(),
+            buffer.as_mut_ptr(),
+            buffer.len(),
+            detail,
+        )
+    })
+}
+
+/// The answer of reading a log from text, whose words are then in the buffer.
+pub fn read_log(table: &[i32], text: &[u8], buffer: &mut [i32]) -> Answer {
+    // SAFETY: pointers and lengths are those of live slices; the borrows keep the buffer apart from the others.
+    answer(|detail| unsafe {
+        vh_read_log(
+            table.as_ptr(),
+            table.len(),
+            text.as_ptr(),
+            text.len(),
+            buffer.as_mut_ptr(),
+            buffer.len(),
+            detail,
+        )
+    })
+}
+
+/// The answer of writing a log as text, which is then in the buffer.
+pub fn write_log(table: &[i32], log: &[i32], buffer: &mut [u8]) -> Answer {
+    // SAFETY: pointers and lengths are those of live slices; the borrows keep the buffer apart from the others.
+    answer(|detail| unsafe {
+        vh_write_log(
+            table.as_ptr(),
+            table.len(),
+            log.as_ptr(),
+            log.len(),
             buffer.as_mut_ptr(),
             buffer.len(),
             detail,

@@ -36,6 +36,26 @@
 //! assert_eq!(unbound, Err(Refused { refusal: Refusal::Mode, place: 3 }));
 //! # Ok::<(), Refused>(())
 //! ```
+//!
+//! A log may come as comma-separated text (RFC 4180), a record for each row, and may be written so.
+//!
+//! ```
+//! use vitrinehawk::{read_log, write_log, MOST_ROWS, ROW_WORDS};
+//!
+//! let table = [3, 0, 0, 2, 0, 1, 1, 1, 0];
+//! let text = b"0,1,7,9,100\r\n\"1\",\"1\",\"9\",\"50\"";
+//!
+//! // No log has more rows.
+//! let mut log = vec![0; MOST_ROWS * ROW_WORDS];
+//! let rows = read_log(&table, text, &mut log)?;
+//! log.truncate(rows * ROW_WORDS);
+//! assert_eq!(log, [0, 1, 7, 9, 100, 0, 0, 0, 1, 1, 9, 50, 0, 0, 0, 0]);
+//!
+//! let mut buffer = [0; 100];
+//! let bytes = write_log(&table, &log, &mut buffer)?;
+//! assert_eq!(buffer[..bytes], *b"0,1,7,9,100\r\n1,1,9,50\r\n");
+//! # Ok::<(), vitrinehawk::Refused>(())
+//! ```
 
 mod audit;
 mod ffi;
@@ -54,6 +74,12 @@ pub const MOST_WORDS: usize = 1_048_576;
 
 /// The words of one place of scratch.
 pub const PLACE_WORDS: usize = 17;
+
+/// The greatest number of rows of a log.
+pub const MOST_ROWS: usize = 4_096;
+
+/// The words of a log's row.
+pub const ROW_WORDS: usize = 8;
 
 /// Checks a policy (questions 1 to 7) and returns its greatest level.
 ///
@@ -91,10 +117,10 @@ pub fn check_log(table: &[i32], log: &[i32]) -> Result<usize, Refused> {
 ///
 /// The first question answered with "no", and where.
 pub fn dual(table: &[i32], policy: &[i32], buffer: &mut [i32]) -> Result<usize, Refused> {
-    written(ffi::dual(table, policy, buffer), buffer)
+    written(ffi::dual(table, policy, buffer), buffer.len())
 }
 
-/// Writes the residual of a policy over a log to the front of a buffer (all questions) and returns its length.
+/// Writes the residual of a policy over a log to the front of a buffer (questions 1 to 12) and returns its length.
 ///
 /// All of the buffer is written: behind the residual it has zeros, and if the call is refused zeros only. Scratch is
 /// room to work in, [`PLACE_WORDS`] words a place; what stands in it makes no difference, and afterwards it is zero.
@@ -122,17 +148,75 @@ pub fn reduce(
     scratch: &mut [i32],
     buffer: &mut [i32],
 ) -> Result<usize, Refused> {
-    written(ffi::reduce(table, policy, log, scratch, buffer), buffer)
+    written(ffi::reduce(table, policy, log, scratch, buffer), buffer.len())
+}
+
+/// Reads a log from comma-separated text, writes its words to the front of a buffer (questions 1, 13, 14, 8, 10 and 12)
+/// and returns the number of its rows, [`ROW_WORDS`] words each.
+///
+/// The text is one that RFC 4180 allows, without a header, a record for each row: predicate, truth, and as many
+/// arguments as the predicate's arity, in decimal. Fields may be quoted, and the last line may lack its end. All of the
+/// buffer is written: behind the rows it has zeros, and if the call is refused zeros only.
+///
+/// ```
+/// use vitrinehawk::{read_log, Refusal, Refused};
+///
+/// let table = [3, 0, 0, 2, 0, 1, 1, 1, 0];
+/// let mut buffer = [0; 16];
+/// assert_eq!(read_log(&table, b"0,1,7,9,100\r\n\"2\",\"0\",\"-5\"\r\n", &mut buffer), Ok(2));
+/// assert_eq!(buffer, [0, 1, 7, 9, 100, 0, 0, 0, 2, 0, -5, 0, 0, 0, 0, 0]);
+///
+/// // A line ends in CRLF, not in LF alone. A number has no leading zero.
+/// let line_end = read_log(&table, b"0,1,7,9,100\n", &mut buffer);
+/// assert_eq!(line_end, Err(Refused { refusal: Refusal::Csv, place: 11 }));
+/// let zero = read_log(&table, b"0,1,7,9,100\r\n2,1,05\r\n", &mut buffer);
+/// assert_eq!(zero, Err(Refused { refusal: Refusal::Record, place: 1 }));
+/// ```
+///
+/// # Errors
+///
+/// The first question answered with "no", and where.
+pub fn read_log(table: &[i32], text: &[u8], buffer: &mut [i32]) -> Result<usize, Refused> {
+    rows_written(ffi::read_log(table, text, buffer), text.len(), buffer.len())
+}
+
+/// Writes a log as comma-separated text to the front of a buffer (questions 1, 8 to 10 and 12) and returns the number
+/// of bytes.
+///
+/// Nothing is quoted, and each line ends in CRLF, the last one too. [`read_log`] reads the same log from it. All of the
+/// buffer is written: behind the text it has zeros, and if the call is refused zeros only.
+///
+/// ```
+/// use vitrinehawk::{write_log, Refusal};
+///
+/// let table = [3, 0, 0, 2, 0, 1, 1, 1, 0];
+/// let log = [0, 1, 7, 9, 100, 0, 0, 0, 2, 0, -5, 0, 0, 0, 0, 0];
+/// let mut buffer = [0; 21];
+/// assert_eq!(write_log(&table, &log, &mut buffer), Ok(21));
+/// assert_eq!(buffer, *b"0,1,7,9,100\r\n2,0,-5\r\n");
+/// assert_eq!(write_log(&table, &log, &mut buffer[1..]).unwrap_err().refusal, Refusal::Room);
+/// ```
+///
+/// # Errors
+///
+/// The first question answered with "no", and where.
+pub fn write_log(table: &[i32], log: &[i32], buffer: &mut [u8]) -> Result<usize, Refused> {
+    written(ffi::write_log(table, log, buffer), buffer.len())
 }
 
 /// The count of an answer, or its refusal.
 ///
 /// # Panics
 ///
-/// If the library breaks its promise: numbers are 0 to 12, counts and places at most 1,048,576.
+/// If the library breaks its promise: numbers are 0 to 14, counts and places at most 1,048,576.
 fn result(answer: ffi::Answer) -> Result<usize, Refused> {
+    result_up_to(answer, MOST_WORDS)
+}
+
+/// The same for a call whose counts and places are at most so great.
+fn result_up_to(answer: ffi::Answer, most: usize) -> Result<usize, Refused> {
     let ffi::Answer { number, detail } = answer;
-    let detail = usize::try_from(detail).ok().filter(|detail| *detail <= MOST_WORDS);
+    let detail = usize::try_from(detail).ok().filter(|detail| *detail <= most);
     let detail = detail.unwrap_or_else(|| panic!("no count and no place is {}", answer.detail));
     if number == 0 {
         return Ok(detail);
@@ -141,15 +225,26 @@ fn result(answer: ffi::Answer) -> Result<usize, Refused> {
     Err(Refused { refusal, place: detail })
 }
 
-/// The same for a call that writes so many words to a buffer.
+/// The same for a call that writes so many words or bytes to a buffer of so many.
 ///
 /// # Panics
 ///
-/// If the library breaks its promise: the words are in the buffer.
-fn written(answer: ffi::Answer, buffer: &[i32]) -> Result<usize, Refused> {
+/// If the library breaks its promise: what is written is in the buffer.
+fn written(answer: ffi::Answer, room: usize) -> Result<usize, Refused> {
     let length = result(answer)?;
-    assert!(length <= buffer.len(), "{length} words do not fit the buffer");
+    assert!(length <= room, "{length} do not fit the buffer");
     Ok(length)
+}
+
+/// The same for a call that reads a text of so many bytes and writes rows to a buffer of so many words.
+///
+/// # Panics
+///
+/// If the library breaks its promise: no place is behind the end of a long text, and the rows are in the buffer.
+fn rows_written(answer: ffi::Answer, bytes: usize, room: usize) -> Result<usize, Refused> {
+    let rows = result_up_to(answer, MOST_WORDS.max(bytes))?;
+    assert!(rows <= room / ROW_WORDS, "{rows} rows do not fit the buffer");
+    Ok(rows)
 }
 
 #[cfg(test)]
@@ -174,9 +269,9 @@ mod tests {
     }
 
     #[test]
-    #[should_panic(expected = "no question has the number 13")]
-    fn a_thirteenth_refusal_is_none() {
-        let _ = result(answer(13, 0));
+    #[should_panic(expected = "no question has the number 15")]
+    fn a_fifteenth_refusal_is_none() {
+        let _ = result(answer(15, 0));
     }
 
     #[test]
@@ -186,10 +281,37 @@ mod tests {
     }
 
     #[test]
-    #[should_panic(expected = "3 words do not fit the buffer")]
-    fn written_words_are_in_the_buffer() {
-        assert_eq!(written(answer(0, 2), &[7, 7]), Ok(2));
-        let _ = written(answer(0, 3), &[7, 7]);
+    #[should_panic(expected = "no count and no place is 1048577")]
+    fn a_detail_is_at_most_so_great() {
+        let _ = result(answer(3, 1_048_577));
+    }
+
+    #[test]
+    #[should_panic(expected = "3 do not fit the buffer")]
+    fn what_is_written_is_in_the_buffer() {
+        assert_eq!(written(answer(0, 2), 2), Ok(2));
+        let _ = written(answer(0, 3), 2);
+    }
+
+    #[test]
+    #[should_panic(expected = "3 rows do not fit the buffer")]
+    fn rows_are_in_the_buffer() {
+        assert_eq!(rows_written(answer(0, 2), 12, 16), Ok(2));
+        assert_eq!(rows_written(answer(0, 2), 12, 23), Ok(2));
+        let _ = rows_written(answer(0, 3), 18, 23);
+    }
+
+    #[test]
+    #[should_panic(expected = "no count and no place is 2000001")]
+    fn a_place_in_a_long_text_is_at_most_its_length() {
+        for (number, refusal) in [(13, Refusal::Csv), (14, Refusal::Record)] {
+            let place = 2_000_000;
+            assert_eq!(
+                rows_written(answer(number, 2_000_000), place, 0),
+                Err(Refused { refusal, place })
+            );
+        }
+        let _ = rows_written(answer(13, 2_000_001), 2_000_000, 0);
     }
 
     #[test]

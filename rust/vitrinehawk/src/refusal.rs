@@ -3,7 +3,7 @@
 use std::error::Error;
 use std::fmt;
 
-/// The question that was answered with "no". The calls put them in this order.
+/// The question that was answered with "no". The calls put them in this order, but 13 and 14 right behind 1.
 #[derive(Clone, Copy, Debug, PartialEq, Eq, PartialOrd, Ord, Hash)]
 pub enum Refusal {
     /// 1: the table has a bad length (place 0) or a bad record (place: the predicate).
@@ -28,13 +28,17 @@ pub enum Refusal {
     Repeat = 10,
     /// 11: scratch has too few places (place 0).
     Scratch = 11,
-    /// 12: the result has more words than the buffer, or too many (place 0).
+    /// 12: the result does not fit the buffer, or has too many words (place 0).
     Room = 12,
+    /// 13: the text is not one that RFC 4180 allows (place: the first byte that cannot stand there, or the length).
+    Csv = 13,
+    /// 14: a record of the text is not a row, or not a good one (place: the record).
+    Record = 14,
 }
 
 impl Refusal {
     /// All refusals, by their numbers.
-    pub const ALL: [Refusal; 12] = [
+    pub const ALL: [Refusal; 14] = [
         Refusal::Table,
         Refusal::PolicyLength,
         Refusal::Shape,
@@ -47,14 +51,16 @@ impl Refusal {
         Refusal::Repeat,
         Refusal::Scratch,
         Refusal::Room,
+        Refusal::Csv,
+        Refusal::Record,
     ];
 
-    /// The number of the question, 1 to 12.
+    /// The number of the question, 1 to 14.
     pub const fn number(self) -> u32 {
         self as u32
     }
 
-    /// The refusal with a number, if it is 1 to 12.
+    /// The refusal with a number, if it is 1 to 14.
     pub fn from_number(number: u32) -> Option<Refusal> {
         Refusal::ALL.into_iter().find(|refusal| refusal.number() == number)
     }
@@ -75,11 +81,14 @@ impl fmt::Display for Refusal {
             Refusal::Repeat => "a row repeats the atom of an earlier one",
             Refusal::Scratch => "scratch has too few places",
             Refusal::Room => "the result does not fit the buffer",
+            Refusal::Csv => "the text is not one that RFC 4180 allows",
+            Refusal::Record => "a record of the text is not a row",
         })
     }
 }
 
-/// A refusal and its place: a word of the policy, a predicate of the table or a row of the log, as [`Refusal`] tells.
+/// A refusal and its place: a word of the policy, a predicate of the table, a row of the log, or a byte or a record of
+/// the text, as [`Refusal`] tells.
 #[derive(Clone, Copy, Debug, PartialEq, Eq, Hash)]
 pub struct Refused {
     /// The question that was answered with "no".

@@ -1,7 +1,10 @@
-//! Fixed inputs: the greatest policies, logs and residuals, and absurd counts.
+//! Fixed inputs: the greatest policies, logs, texts and residuals, and absurd counts.
 
-use inputs::{full_log, long_policy, Random, FULL_LOG_TABLE};
-use vitrinehawk::{audit, check_log, check_policy, dual, reduce, Refusal, Refused, MOST_WORDS, PLACE_WORDS};
+use inputs::{full_log, long_policy, spelled_text, Random, Spelling, FULL_LOG_TABLE};
+use vitrinehawk::{
+    audit, check_log, check_policy, dual, read_log, reduce, write_log, Refusal, Refused, MOST_ROWS, MOST_WORDS,
+    PLACE_WORDS,
+};
 
 /// send (open), consent (complete), believes (its argument is an input, open).
 const T: [i32; 9] = [3, 0, 0, 2, 0, 1, 1, 1, 0];
@@ -149,6 +152,117 @@ fn the_longest_logs() {
     assert_eq!(check_log(&FULL_LOG_TABLE, &repeated), refused(Refusal::Repeat, 4095));
     repeated[8 * 4095 + 7] = 1;
     assert_eq!(check_log(&FULL_LOG_TABLE, &repeated), refused(Refusal::Row, 4095));
+}
+
+/// The plain text of rows of the full log.
+fn text_of(log: &[i32]) -> Vec<u8> {
+    spelled_text(&mut Random::new(0), &FULL_LOG_TABLE, log, Spelling::PLAIN)
+}
+
+/// Reads over the full log's table into a buffer of so many words, full of others at first, and checks that only the
+/// rows' words are left in it.
+fn read(text: &[u8], room: usize) -> (Result<usize, Refused>, Vec<i32>) {
+    let mut buffer = vec![-1; room];
+    let answer = read_log(&FULL_LOG_TABLE, text, &mut buffer);
+    let rest = buffer.split_off(8 * answer.unwrap_or(0));
+    assert!(rest.iter().all(|word| *word == 0));
+    (answer, buffer)
+}
+
+#[test]
+fn the_longest_texts() {
+    let log = full_log(4097);
+    let rows = |count: usize| &log[..8 * count];
+    let full = text_of(rows(MOST_ROWS));
+    let words = 8 * MOST_ROWS;
+    for room in [words, words + 9] {
+        let (answer, read) = read(&full, room);
+        assert_eq!(answer, Ok(MOST_ROWS));
+        assert!(read == rows(MOST_ROWS));
+    }
+    for room in [0, 8, words - 1] {
+        assert_eq!(read(&full, room).0, refused(Refusal::Room, 0));
+    }
+    let mut buffer = vec![1; full.len() + 3];
+    assert_eq!(write_log(&FULL_LOG_TABLE, rows(MOST_ROWS), &mut buffer), Ok(full.len()));
+    assert!(buffer[..full.len()] == full && buffer[full.len()..] == [0; 3]);
+    buffer.fill(1);
+    let short = &mut buffer[..full.len() - 1];
+    assert_eq!(
+        write_log(&FULL_LOG_TABLE, rows(MOST_ROWS), short),
+        refused(Refusal::Room, 0)
+    );
+    assert!(short.iter().all(|byte| *byte == 0));
+    assert_eq!(
+        write_log(&FULL_LOG_TABLE, rows(4097), &mut buffer),
+        refused(Refusal::LogLength, 0)
+    );
+
+    // One row too many, whatever the buffer; a record behind it that is no row; a byte behind that one.
+    let mut text = text_of(rows(4097));
+    for room in [0, words, words + 8] {
+        assert_eq!(read(&text, room).0, refused(Refusal::LogLength, 0));
+    }
+    text.extend(full.repeat(2));
+    assert_eq!(read(&text, words).0, refused(Refusal::LogLength, 0));
+    text.extend(b"0,1\r\n");
+    assert_eq!(read(&text, words).0, refused(Refusal::Record, 4097 + 2 * 4096));
+    text.extend(b"\n");
+    assert_eq!(read(&text, words).0, refused(Refusal::Csv, text.len() - 1));
+}
+
+#[test]
+fn repeated_atoms_in_the_longest_texts() {
+    // The last row repeats the first, the middle one, or the one before. A short buffer makes no difference.
+    let log = full_log(4095);
+    for row in [0, 2047, 4094] {
+        let mut repeated = log.clone();
+        repeated.extend_from_within(8 * row..8 * row + 8);
+        let truth = 8 * 4095 + 1;
+        repeated[truth] = 1 - repeated[truth];
+        for room in [0, 8, 8 * 4095, 8 * 4096] {
+            assert_eq!(read(&text_of(&repeated), room).0, refused(Refusal::Repeat, 4095));
+        }
+        assert_eq!(
+            write_log(&FULL_LOG_TABLE, &repeated, &mut []),
+            refused(Refusal::Repeat, 4095)
+        );
+    }
+}
+
+/// Fields, records and texts with more bytes than a policy may have words.
+#[test]
+fn very_long_fields() {
+    let length = 2 * MOST_WORDS;
+    let row = b"0,1,7,7,7\r\n";
+    let digits = vec![b'1'; length];
+    let zeros = vec![b'0'; length];
+    let quotes = vec![b'"'; length];
+    let commas = vec![b','; length];
+    let line_ends = b"\r\n".repeat(length);
+    for bad in [&digits, &zeros, &quotes, &commas, &line_ends] {
+        assert_eq!(read(bad, 8).0, refused(Refusal::Record, 0));
+        assert_eq!(read(&[row, &bad[..]].concat(), 8).0, refused(Refusal::Record, 1));
+    }
+    // An odd number of quotes leaves the field open; the place is the end.
+    assert_eq!(read(&quotes[1..], 8).0, refused(Refusal::Csv, length - 1));
+    assert_eq!(
+        read(&[row, &quotes[1..]].concat(), 8).0,
+        refused(Refusal::Csv, row.len() + length - 1)
+    );
+    // A bad byte behind a long field, and the last of many records.
+    for byte in [b'\n', b'"', 0, 127, 255] {
+        assert_eq!(
+            read(&[&digits[..], &[byte]].concat(), 8).0,
+            refused(Refusal::Csv, length)
+        );
+    }
+    let many = b"1,1,1,2,3,4,5,6\r\n".repeat(100_000);
+    assert_eq!(read(&many, 8).0, refused(Refusal::LogLength, 0));
+    assert_eq!(
+        read(&[&many[..], b"1"].concat(), 8).0,
+        refused(Refusal::Record, 100_000)
+    );
 }
 
 /// A policy with 4,096 instances, the body of each an any-of of so many open atoms; with its table and its log.

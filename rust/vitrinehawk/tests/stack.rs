@@ -2,7 +2,7 @@
 
 use inputs::{full_log, FULL_LOG_TABLE};
 use reference::PLACE;
-use vitrinehawk::{check_log, check_policy, dual, reduce};
+use vitrinehawk::{check_log, check_policy, dual, read_log, reduce, write_log, Refusal, Refused};
 
 /// link (two arguments, open), seen (one argument, open), known (one argument, complete).
 const TABLE: [i32; 9] = [2, 0, 0, 1, 0, 0, 1, 0, 1];
@@ -155,4 +155,24 @@ fn the_longest_log_on_a_small_stack() {
     let log = full_log(4096);
     let checked = on_a_stack_of(64, move || check_log(&FULL_LOG_TABLE, &log));
     assert_eq!(checked, Ok(4096));
+}
+
+#[test]
+fn the_longest_log_as_text_on_a_small_stack() {
+    let log = full_log(4096);
+    let text = reference::text_of_log(&FULL_LOG_TABLE, &log).unwrap();
+    let (mut words, mut bytes) = (vec![1; log.len()], vec![2; text.len()]);
+    let (given_log, given_text) = (log.clone(), text.clone());
+    let (answers, words, bytes) = on_a_stack_of(256, move || {
+        let answers = [
+            read_log(&FULL_LOG_TABLE, &given_text, &mut words),
+            read_log(&FULL_LOG_TABLE, &given_text, &mut []),
+            write_log(&FULL_LOG_TABLE, &given_log, &mut bytes),
+        ];
+        (answers, words, bytes)
+    });
+    let refusal = Refusal::Room;
+    let no_room = Err(Refused { refusal, place: 0 });
+    assert_eq!(answers, [Ok(4096), no_room, Ok(text.len())]);
+    assert!(words == log && bytes == text);
 }

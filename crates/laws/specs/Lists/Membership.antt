@@ -1,8 +1,10 @@
 -- Membership in the lists that the definitions of model make.
+use Prim.Native.Nat.{ℕ, zero, suc}
 use mathlib.Core.Path.{_≡_, refl, sym, ap, _∙_, subst}
 use mathlib.Core.Logic.{⊎-elim}
 use mathlib.Core.Bool.{Bool, true, false, cond}
-use mathlib.Core.List.{List, [], _∷_, map, List·Memᴰ, List·Memᴰ·head, List·Memᴰ·tail, List·Memᴰ·not-nil, List·Memᴰ·cases-cons, List·Memᴰ·append-cases, Memᴰ·append-left, Memᴰ·append-right}
+use mathlib.Core.List.{List, [], _∷_, _++_, map, List·Memᴰ, List·Memᴰ·head, List·Memᴰ·tail, List·Memᴰ·not-nil, List·Memᴰ·cases-cons, List·Memᴰ·append-cases, Memᴰ·append-left, Memᴰ·append-right}
+use lib.ListN.{take, drop}
 use Rattle.model.specs.Lists.{all, keep, gather}
 use Rattle.laws.specs.Words.Tests.{and-left, and-right, and-true, decide}
 
@@ -16,6 +18,25 @@ module _ {A : Type 0} where
   unfolding all
   all-intro test [] h = refl
   all-intro test (x ∷ l) h = and-true (h x (List·Memᴰ·head refl)) (all-intro test l (λ y m. h y (List·Memᴰ·tail m)))
+
+  -- a test of all elements of two lists, one behind the other, and of a part of a list
+  pub all-append : (test : A → Bool) (l m : List A) → all test l ≡ true → all test m ≡ true → all test (l ++ m) ≡ true
+  unfolding all
+  all-append test [] m e h = h
+  all-append test (x ∷ l) m e h =
+      and-true (and-left (test x) _ e) (all-append test l m (and-right (test x) _ e) h)
+
+  pub all-take : (test : A → Bool) (n : ℕ) (l : List A) → all test l ≡ true → all test (take n l) ≡ true
+  unfolding all
+  all-take test zero l e = refl
+  all-take test (suc n) [] e = refl
+  all-take test (suc n) (x ∷ l) e = and-true (and-left (test x) _ e) (all-take test n l (and-right (test x) _ e))
+
+  pub all-drop : (test : A → Bool) (n : ℕ) (l : List A) → all test l ≡ true → all test (drop n l) ≡ true
+  unfolding all
+  all-drop test zero l e = e
+  all-drop test (suc n) [] e = refl
+  all-drop test (suc n) (x ∷ l) e = all-drop test n l (and-right (test x) _ e)
 
   pub mem-keep : (test : A → Bool) {x : A} {l : List A} → List·Memᴰ x l → test x ≡ true → List·Memᴰ x (keep test l)
   unfolding keep

@@ -27,6 +27,14 @@ and-right false b e = absurd (false≢true e)
 pub and-true : {a b : Bool} → a ≡ true → b ≡ true → a && b ≡ true
 and-true {a} {b} p q = ap₂ (λ (x y : Bool). x && y) p q
 
+pub and-false : (a : Bool) {b : Bool} → b ≡ false → a && b ≡ false
+and-false true e = e
+and-false false e = refl
+
+pub and-one : (a : Bool) → a && true ≡ a
+and-one true = refl
+and-one false = refl
+
 pub or-cases : (a b : Bool) → a || b ≡ true → (a ≡ true) ⊎ (b ≡ true)
 or-cases true b e = inl refl
 or-cases false b e = inr e

@@ -15,7 +15,7 @@ pub type Row = [i32; 8];
 const MOST_PREDICATES: usize = 256;
 
 /// The greatest number of rows.
-const MOST_ROWS: usize = 4096;
+pub const MOST_ROWS: usize = 4096;
 
 /// For each arity a mask of the unused arguments, so that no jump depends on the arity.
 const UNUSED: [[i32; 6]; 7] = [

@@ -3,6 +3,7 @@
 
 #define LENGTH(array) (sizeof(array) / sizeof((array)[0]))
 #define WORDS(array) array, LENGTH(array)
+#define BYTES(string) (const uint8_t *)string, sizeof(string) - 1
 
 /* send (open), consent (complete), believes (its argument is an input, open) */
 static const int32_t table[] = {3, 0, 0, 2, 0, 1, 1, 1, 0};
@@ -12,14 +13,20 @@ static const int32_t log_a[] = {0, 1, 7, 9, 100, 0, 0, 0, 1, 1, 9, 50, 0, 0, 0, 
 static const int32_t residual[] = {6, 2, 2, 2, 1, 0, 9, 8, 3, 1, 7, 9, 100, 2,
                                    0, 3, 1, 0, 1, 1, 1, 2, 2, 2, 1, 1, 1};
 
+/* The log as text, as it is written, and as another program may spell it. */
+#define TEXT_A "0,1,7,9,100\r\n1,1,9,50\r\n"
+#define QUOTED_A "\"0\",1,7,9,\"100\"\r\n1,1,\"9\",50"
+
 static int32_t scratch[35];
 static int32_t buffer[30];
+static uint8_t bytes[30];
 static uint64_t detail;
 
 static void make_dirty(void) {
     size_t i;
     for (i = 0; i < LENGTH(scratch); i++) scratch[i] = -3;
     for (i = 0; i < LENGTH(buffer); i++) buffer[i] = -5;
+    for (i = 0; i < LENGTH(bytes); i++) bytes[i] = 250;
     detail = UINT64_MAX;
 }
 
@@ -29,6 +36,16 @@ static int has(const int32_t *words, size_t count, size_t length) {
     for (i = 0; i < LENGTH(buffer); i++) {
         int32_t behind = i < length ? 0 : -5;
         if (buffer[i] != (i < count ? words[i] : behind)) return 0;
+    }
+    return 1;
+}
+
+/* The same of the buffer of bytes. */
+static int has_bytes(const uint8_t *text, size_t count, size_t length) {
+    size_t i;
+    for (i = 0; i < LENGTH(bytes); i++) {
+        uint8_t behind = i < length ? 0 : 250;
+        if (bytes[i] != (i < count ? text[i] : behind)) return 0;
     }
     return 1;
 }
@@ -50,6 +67,16 @@ static uint32_t dual(size_t buffer_len) {
 static uint32_t reduce(size_t scratch_len, size_t buffer_len) {
     make_dirty();
     return vh_reduce(WORDS(table), WORDS(policy), WORDS(log_a), scratch, scratch_len, buffer, buffer_len, &detail);
+}
+
+static uint32_t read_log(const uint8_t *text, size_t text_len, size_t buffer_len) {
+    make_dirty();
+    return vh_read_log(WORDS(table), text, text_len, buffer, buffer_len, &detail);
+}
+
+static uint32_t write_log(size_t log_len, size_t buffer_len) {
+    make_dirty();
+    return vh_write_log(WORDS(table), log_a, log_len, bytes, buffer_len, &detail);
 }
 
 int main(void) {
@@ -80,5 +107,29 @@ int main(void) {
     if (!has(residual, 0, 26) || !is_zero(34)) return 17;
     if (reduce(0, 0) != 11 || detail != 0) return 18;
     if (!has(residual, 0, 0) || !is_zero(0)) return 19;
+
+    if (read_log(BYTES(TEXT_A), 20) != 0 || detail != 2) return 20;
+    if (!has(log_a, 16, 20)) return 21;
+    if (read_log(BYTES(QUOTED_A), 16) != 0 || detail != 2) return 22;
+    if (!has(log_a, 16, 16)) return 23;
+    if (read_log(BYTES(""), 3) != 0 || detail != 0) return 24;
+    if (!has(log_a, 0, 3)) return 25;
+    if (read_log(BYTES(TEXT_A), 15) != 12 || detail != 0) return 26;
+    if (!has(log_a, 0, 15)) return 27;
+    if (read_log(BYTES(TEXT_A "\n"), 16) != 13 || detail != 23) return 28;
+    if (!has(log_a, 0, 16)) return 29;
+    if (read_log(BYTES(TEXT_A "\r\n"), 16) != 14 || detail != 2) return 30;
+    if (!has(log_a, 0, 16)) return 31;
+
+    if (write_log(16, 30) != 0 || detail != 23) return 32;
+    if (!has_bytes(BYTES(TEXT_A), 30)) return 33;
+    if (write_log(16, 23) != 0 || detail != 23) return 34;
+    if (!has_bytes(BYTES(TEXT_A), 23)) return 35;
+    if (write_log(0, 5) != 0 || detail != 0) return 36;
+    if (!has_bytes(BYTES(""), 5)) return 37;
+    if (write_log(16, 22) != 12 || detail != 0) return 38;
+    if (!has_bytes(BYTES(""), 22)) return 39;
+    if (write_log(15, 30) != 8 || detail != 0) return 40;
+    if (!has_bytes(BYTES(""), 30)) return 41;
     return 0;
 }

@@ -9,4 +9,5 @@ mod logs;
 mod policies;
 mod reductions;
 mod rooms;
+mod texts;
 mod tuples;

@@ -1,0 +1,4 @@
+pub mod Number
+pub mod Field
+pub mod Record
+pub mod Rows
