@@ -18,7 +18,7 @@ use Rattle.model.specs.Answer.{Outcome, passed, refused, ask, answer, count, _>
 use Rattle.model.specs.Table.{askTable}
 use Rattle.model.specs.Log.{rowCount, askLog}
 use Rattle.model.specs.LogText.{logText}
-use Rattle.model.specs.Calls.{inRoom, filledText, askWriting, checkLog, writeLogCall}
+use Rattle.model.specs.Calls.{inRoom, filledText, askWriting, checkLog, textResult, writeLogCall}
 use Rattle.laws.specs.Answer.{then-passed}
 use Rattle.writing.specs.declared.number.Put.{Put}
 use Rattle.writing.specs.declared.number.Put.the-variants.{Full, At}
@@ -103,5 +103,5 @@ pub write-cleared :
     n ≡ count r →
     after′ ≡ take n after ++ replicate (length after - n) 0 →
     (r ≡ writeLogCall table log (length buffer) .answer) × (after′ ≡ writeLogCall table log (length buffer) .buffer)
-unfolding writeLogCall
+unfolding textResult writeLogCall
 write-cleared table log buffer after after′ r n l k e c = (l .answered, c ∙ rw (e, k) (l .wrote))

@@ -7,6 +7,7 @@ pub mod Log
 pub mod Csv
 pub mod Decimal
 pub mod LogText
+pub mod Tptp
 pub mod Level
 pub mod Reading
 pub mod Mode

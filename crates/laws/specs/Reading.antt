@@ -5,3 +5,4 @@ pub mod Nodes
 pub mod Encoded
 pub mod Parts
 pub mod Back
+pub mod Trees

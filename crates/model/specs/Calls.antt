@@ -20,6 +20,8 @@ use Rattle.model.specs.Dual.{dual}
 use Rattle.model.specs.Bytes.{Text}
 use Rattle.model.specs.CsvReading.{readCsv}
 use Rattle.model.specs.LogText.{askRecords, logText}
+use Rattle.model.specs.Tptp.{policyText}
+use Rattle.model.specs.TptpReading.{readText}
 
 -- what a call that is lent a buffer leaves: its answer and all words of buffer and scratch
 pub record Result : Type 0 where
@@ -118,6 +120,28 @@ unfoldable pub filledText : ℕ → Outcome Text → Text
 filledText buffer (refused r p) = replicate buffer 0
 filledText buffer (passed t) = t ++ replicate (buffer - length t) 0
 
+unfoldable pub textResult : ℕ → Outcome Text → TextResult
+textResult buffer written = record { answer = answer length written; buffer = filledText buffer written }
+
 unfoldable pub writeLogCall : Words → Words → ℕ → TextResult
-writeLogCall table log buffer =
-    let written = askWriting table log buffer in record { answer = answer length written; buffer = filledText buffer written }
+writeLogCall table log buffer = textResult buffer (askWriting table log buffer)
+
+-- read a policy: 1, 15 (or 4, of parentheses), 2 to 7 of the words spelled, and 12; the words
+unfoldable pub askPolicyReading : Words → Text → ℕ → Outcome Words
+askPolicyReading table text buffer = do
+  _ ← askTable table
+  tree ← readText text
+  _ ← askPolicy table (encode tree)
+  inRoom buffer (encode tree)
+
+unfoldable pub readPolicyCall : Words → Text → ℕ → Result
+readPolicyCall table text buffer = result 0 buffer (askPolicyReading table text buffer)
+
+-- write a policy: 1 to 7 and 12; the bytes
+unfoldable pub askPolicyWriting : Words → Words → ℕ → Outcome Text
+askPolicyWriting table policy buffer = do
+  tree ← askPolicy table policy
+  inRoom buffer (policyText tree)
+
+unfoldable pub writePolicyCall : Words → Words → ℕ → TextResult
+writePolicyCall table policy buffer = textResult buffer (askPolicyWriting table policy buffer)

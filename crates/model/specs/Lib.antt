@@ -11,6 +11,8 @@ pub mod Decimal
 pub mod LogText
 pub mod Tag
 pub mod Tree
+pub mod Tptp
+pub mod TptpReading
 pub mod Level
 pub mod Reading
 pub mod Mode
@@ -24,3 +26,4 @@ pub mod Calls
 pub mod Runs
 pub mod Examples
 pub mod TextExamples
+pub mod TptpExamples

@@ -1,6 +1,5 @@
 -- Examples of logs as text, as one list of cases and one claim about the list.
 use Prim.Native.Nat.{ℕ}
-use Prim.Native.Char.{code}
 use Prim.Native.String as S
 use mathlib.Core.Path.{_≡_, refl}
 use mathlib.Core.List.{List, [], _∷_, _++_, map}
@@ -8,7 +7,7 @@ use lib.ListN.{length, replicate}
 use lib.IntN.{negsuc}
 use Rattle.model.specs.declared.Answer.{Answer}
 use Rattle.model.specs.Words.{Words}
-use Rattle.model.specs.Bytes.{Text}
+use Rattle.model.specs.Bytes.{Text, bytes}
 use Rattle.model.specs.Answer.{Outcome, passed, number, place, count}
 use Rattle.model.specs.CsvReading.{Records, readCsv}
 use Rattle.model.specs.Calls.{readLogCall, writeLogCall}
@@ -19,11 +18,6 @@ use Rattle.model.specs.CsvReading
 use Rattle.model.specs.Decimal
 use Rattle.model.specs.LogText
 use Rattle.model.specs.Calls
-
--- the bytes of a text whose characters are ASCII
-unfoldable pub bytes : S.String → Text
-bytes S.[] = []
-bytes (S._∷_ c s) = code c ∷ bytes s
 
 pub data TextCase : Type 0 where
   -- the fields of a text, record by record
@@ -126,5 +120,5 @@ cases =
 
 -- the claim
 pub textExamples : map comesOut cases ≡ map mustComeOut cases
-unfolding computing bytes textLeft comesOut mustComeOut no row extremes cases Bytes.digit Csv.textData Csv.quotable Csv.content Csv.doubled Csv.spellField Csv.spellRecord Csv.spell CsvReading.moveBehind CsvReading.moveBare CsvReading.moveFirst CsvReading.move CsvReading.addByte CsvReading.addField CsvReading.addRecord CsvReading.atEnd CsvReading.follow CsvReading.readFrom CsvReading.readCsv Decimal.numeral Decimal.plainDigits Decimal.goodNumber Decimal.numberOf Decimal.digits Decimal.decimal LogText.rowOf LogText.spellsRow LogText.askRecords LogText.logLines LogText.logText Calls.inRoom Calls.askReading Calls.readLogCall Calls.askWriting Calls.filledText Calls.writeLogCall
+unfolding computing Bytes.bytes textLeft comesOut mustComeOut no row extremes cases Bytes.digit Csv.textData Csv.quotable Csv.content Csv.doubled Csv.spellField Csv.spellRecord Csv.spell CsvReading.moveBehind CsvReading.moveBare CsvReading.moveFirst CsvReading.move CsvReading.addByte CsvReading.addField CsvReading.addRecord CsvReading.atEnd CsvReading.follow CsvReading.readFrom CsvReading.readCsv Decimal.numeral Decimal.plainDigits Decimal.goodNumber Decimal.numberOf Decimal.digits Decimal.decimal LogText.rowOf LogText.spellsRow LogText.askRecords LogText.logLines LogText.logText Calls.inRoom Calls.askReading Calls.readLogCall Calls.askWriting Calls.filledText Calls.textResult Calls.writeLogCall
 textExamples = refl

@@ -18,6 +18,7 @@ pub enum Refusal {
     Room,
     Csv,
     Record,
+    Tptp,
 }
 
 // Accepted, with the call's count; or refused, with the question and the place.
@@ -45,5 +46,6 @@ pub fn number(refusal: Refusal) -> u32
         Refusal::Room => 12,
         Refusal::Csv => 13,
         Refusal::Record => 14,
+        Refusal::Tptp => 15,
     }
 }

@@ -246,7 +246,7 @@ fn bind_any(
 }
 
 // The variables of two sets.
-fn both(a: [bool; 16], b: [bool; 16]) -> [bool; 16]
+pub fn both(a: [bool; 16], b: [bool; 16]) -> [bool; 16]
     ensures { λ r. ⌜ (length r ≡ 16) × ((x : ℕ) → setOf r x ≡ (setOf a x && setOf b x)) ⌝ }
 {
     let mut set = a;
@@ -295,7 +295,7 @@ fn bind_some(
 }
 
 // The variables bound after a restriction, from those bound before it.
-fn bind(
+pub fn bind(
     table: &[i32],
     words: &[i32],
     bound: [bool; 16],
@@ -328,7 +328,7 @@ fn bind(
 }
 
 // The variables below the next free one.
-fn outer(scope: usize) -> [bool; 16]
+pub fn outer(scope: usize) -> [bool; 16]
     requires { ⌜ scope ≤ 16 ⌝ }
     ensures { λ r. ⌜ (length r ≡ 16) × ((x : ℕ) → setOf r x ≡ ltb x scope) ⌝ }
 {
@@ -342,7 +342,7 @@ fn outer(scope: usize) -> [bool; 16]
 }
 
 // The v variables from the next free one on are in the set.
-fn introduced(set: [bool; 16], scope: usize, v: usize) -> bool
+pub fn introduced(set: [bool; 16], scope: usize, v: usize) -> bool
     requires { ⌜ scope + v ≤ 16 ⌝ }
     ensures { λ r. ⌜ r ≡ all (setOf set) (span scope v) ⌝ }
 {

@@ -23,7 +23,7 @@ pub enum Line {
 }
 
 // A number of 32 bits becomes a word of a row.
-fn put(row: &mut [i32], k: usize, magnitude: usize, negative: bool)
+pub fn put(row: &mut [i32], k: usize, magnitude: usize, negative: bool)
     requires { ⌜ (k < length (now row)) × Sized negative magnitude ⌝ }
     ensures { λ _. ⌜ now (row .exit) ≡ set (now (row .entry)) k (signed negative magnitude) ⌝ }
 {

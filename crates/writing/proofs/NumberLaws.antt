@@ -110,6 +110,27 @@ module _ (old : Text) (from next n : ℕ) (fits : next ≤ length old) where
         (length-append (take from old) (lastDigits (next - from) n)
         ∙ omega (arith, length-take-le from old (omega (arith, e .low, e .high)), length-last (next - from) n, e .low, e .high))
 
+-- a number that is not negative
+module _ (n r : ℕ) (w : Width n r) where
+  pub natural-long : length (digits 10 n) ≡ r
+  natural-long = ap length (w .is) ∙ length-last r n
+
+  pub natural-stands :
+      (out out′ : Text) (at : ℕ) →
+      at + r ≤ length out →
+      take (at + r) out′ ≡ take at out ++ lastDigits (at + r - at) n →
+      Wrote (digits 10 n) at out out′ (at + r)
+  natural-stands out out′ at h stands =
+      let count : at + r - at ≡ r = omega arith in
+      record {
+        ends = omega (arith, natural-long);
+        fits = h;
+        stands =
+            stands
+            ∙ ap (λ (k : ℕ). take at out ++ lastDigits k n) count
+            ∙ ap (λ (t : Text). take at out ++ t) (sym (w .is));
+      }
+
 -- a minus or none
 sign : Bool → Text
 sign true = minus ∷ []

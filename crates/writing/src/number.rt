@@ -6,7 +6,7 @@ ghost use mathlib.Core.List.{_++_};
 ghost use Prim.Native.Nat.{_≤_, _-_};
 ghost use lib.ListN.{length, take};
 ghost use Rattle.model.specs.Words.{word};
-ghost use Rattle.model.specs.Decimal.{decimal};
+ghost use Rattle.model.specs.Decimal.{digits, decimal};
 ghost use Rattle.writing.specs.Number as N;
 ghost use Rattle.writing.specs.Put.{Puts};
 
@@ -62,6 +62,19 @@ fn put_digits(out: &mut [u8], from: usize, next: usize, n: usize)
         out[i] = bytes::NOUGHT + (left % 10) as u8;
         left /= 10;
     }
+}
+
+// A number that is not negative, written at an index of a text.
+pub fn put_natural(out: &mut [u8], at: usize, n: usize) -> Put
+    requires { ⌜ at ≤ length (now out) ⌝ }
+    ensures { λ r. ⌜ Puts (digits 10 n) at (now (out .entry)) (now (out .exit)) r ⌝ }
+{
+    let next = at + width(n);
+    if out.len() < next {
+        return Put::Full;
+    }
+    put_digits(out, at, next, n);
+    Put::At(next)
 }
 
 // The word at an index of a slice, written at an index of a text. A number that is not negative is written over the minus.

@@ -1,8 +1,8 @@
 -- Membership in the lists that the definitions of model make.
 use Prim.Native.Nat.{ℕ, zero, suc}
-use mathlib.Core.Path.{_≡_, refl, sym, ap, _∙_, subst}
+use mathlib.Core.Path.{_≡_, refl, sym, ap, ap₂, _∙_, subst}
 use mathlib.Core.Logic.{⊎-elim}
-use mathlib.Core.Bool.{Bool, true, false, cond}
+use mathlib.Core.Bool.{Bool, true, false, cond, _&&_}
 use mathlib.Core.List.{List, [], _∷_, _++_, map, List·Memᴰ, List·Memᴰ·head, List·Memᴰ·tail, List·Memᴰ·not-nil, List·Memᴰ·cases-cons, List·Memᴰ·append-cases, Memᴰ·append-left, Memᴰ·append-right}
 use lib.ListN.{take, drop}
 use Rattle.model.specs.Lists.{all, keep, gather}
@@ -19,12 +19,19 @@ module _ {A : Type 0} where
   all-intro test [] h = refl
   all-intro test (x ∷ l) h = and-true (h x (List·Memᴰ·head refl)) (all-intro test l (λ y m. h y (List·Memᴰ·tail m)))
 
-  -- a test of all elements of two lists, one behind the other, and of a part of a list
+  -- a test of all elements of two lists, one behind the other, and back; of a part of a list
   pub all-append : (test : A → Bool) (l m : List A) → all test l ≡ true → all test m ≡ true → all test (l ++ m) ≡ true
   unfolding all
   all-append test [] m e h = h
   all-append test (x ∷ l) m e h =
       and-true (and-left (test x) _ e) (all-append test l m (and-right (test x) _ e) h)
+
+  pub all-parts : (test : A → Bool) (l m : List A) → all test (l ++ m) ≡ true → (all test l ≡ true) × (all test m ≡ true)
+  unfolding all
+  all-parts test [] m e = (refl, e)
+  all-parts test (x ∷ l) m e =
+      let (front, back) = all-parts test l m (and-right (test x) _ e) in
+      (and-true (and-left (test x) _ e) front, back)
 
   pub all-take : (test : A → Bool) (n : ℕ) (l : List A) → all test l ≡ true → all test (take n l) ≡ true
   unfolding all
@@ -67,6 +74,16 @@ module _ {A : Type 0} where
       go ih false e k = (List·Memᴰ·tail (ih k .0), ih k .1)
 
 module _ {A B : Type 0} where
+  -- tests that agree on the elements of a list and on what h makes of them
+  pub all-map :
+      (f : A → Bool) (g : B → Bool) (h : A → B) (l : List A) →
+      ((x : A) → List·Memᴰ x l → f x ≡ g (h x)) →
+      all f l ≡ all g (map h l)
+  unfolding all
+  all-map f g h [] e = refl
+  all-map f g h (x ∷ l) e =
+      ap₂ (λ (a b : Bool). a && b) (e x (List·Memᴰ·head refl)) (all-map f g h l (λ y m. e y (List·Memᴰ·tail m)))
+
   pub mem-gather : (f : A → List B) {x : A} {y : B} {l : List A} → List·Memᴰ x l → List·Memᴰ y (f x) → List·Memᴰ y (gather f l)
   unfolding gather
   mem-gather f {y} (List·Memᴰ·head p) k = Memᴰ·append-left _ (subst (λ (z : A). List·Memᴰ y (f z)) p k)

@@ -17,7 +17,7 @@ use Rattle.model.specs.Log.{rowCount, askLog}
 use Rattle.model.specs.Bytes.{Text}
 use Rattle.model.specs.CsvReading.{readCsv}
 use Rattle.model.specs.LogText.{askRecords, logText}
-use Rattle.model.specs.Calls.{zeros, filled, inRoom, askReading, readLogCall, askWriting, filledText, writeLogCall}
+use Rattle.model.specs.Calls.{zeros, filled, inRoom, askReading, readLogCall, askWriting, filledText, textResult, writeLogCall}
 use Rattle.laws.specs.Answer.{ask-passed, ask-true, passed-same, then-passed, pass-then, answer-accepted}
 use Rattle.laws.specs.Log as log-laws
 use Rattle.laws.specs.LogText.Back.{rows-whole, text-back}
@@ -96,7 +96,7 @@ writing-text :
     (table log : Words) (room n : ℕ) →
     writeLogCall table log room .answer ≡ Accepted n →
     WrittenText table log (take n (writeLogCall table log room .buffer))
-unfolding writeLogCall filledText
+unfolding textResult writeLogCall filledText
 writing-text table log room n e =
     let (t, passes, long) = answer-accepted length (askWriting table log room) n e in
     let is = ap (λ (o : Outcome Text). take n (filledText room o)) passes ∙ take-at t _ n long in
@@ -122,7 +122,7 @@ pub write-accepted :
     askLog table log ≡ passed tt →
     length (logText table log) ≤ room →
     writeLogCall table log room .answer ≡ Accepted (length (logText table log))
-unfolding writeLogCall askWriting answer
+unfolding textResult writeLogCall askWriting answer
 write-accepted table log room ok e l =
     ap (answer length) (pass-then _ ok (pass-then _ e (fit-pass room (logText table log) l)))
 

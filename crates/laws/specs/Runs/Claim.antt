@@ -13,7 +13,7 @@ use lib.Dec.{leb, eqb}
 use borrow.Author.Tests.{leb-true}
 use Rattle.model.specs.declared.Answer.the-variants.{Accepted}
 use Rattle.model.specs.declared.Refusal.{Refusal}
-use Rattle.model.specs.declared.Refusal.the-variants.{Table, PolicyLength, Shape, Level, Predicate, Variable, Mode, LogLength, Row, Repeat, Scratch, Room, Csv, Record}
+use Rattle.model.specs.declared.Refusal.the-variants.{Table, PolicyLength, Shape, Level, Predicate, Variable, Mode, LogLength, Row, Repeat, Scratch, Room, Csv, Record, Tptp}
 use Rattle.model.specs.Words.{Words, policyLimit, placeWords}
 use Rattle.model.specs.Answer.{Outcome, passed, refused, ask, answer, question, number, count, _>>=_}
 use Rattle.model.specs.Table.{askTable}
@@ -50,6 +50,7 @@ asked Scratch = refl
 asked Room = refl
 asked Csv = refl
 asked Record = refl
+asked Tptp = refl
 
 -- an answer is accepted exactly if all questions passed
 pub accepted-passed : {A : Type 0} (size : A → ℕ) (o : Outcome A) → accepted (answer size o) ≡ true → (a : A) × (o ≡ passed a)

@@ -1,0 +1,27 @@
+-- `parsing::behind::then_token` meets its contract.
+use mathlib.Core.Path.{subst}
+use Rattle.parsing.specs.Steps.{Within}
+use Rattle.parsing.proofs.BehindLaws.{behind-same, behind-read, steps-within}
+use Rattle.model.specs.TptpReading.{token}
+use borrow.Author.Needs.{needs}
+use borrow.Author.Needs.{needs}
+use Rattle.parsing.proofs.behind.then_token.Statement.{statement}
+use Rattle.parsing.proofs.behind.then_token.Tie as tie
+
+enum-known-before : tie.Need-enum-known-before
+enum-known-before c = search needs
+
+enum-told : tie.Need-enum-told
+enum-told c = search needs
+
+returns : tie.Need-returns
+returns c = (behind-same _ (c .enum-told .given .1), c .before .before .before .before .pre)
+
+token-requires : tie.Need-token-requires
+token-requires c κs = subst (Within (c .before .before .before .before .before .args .text .now)) (c .before .before2 .given .1) (c .before .before .before .before .before .pre)
+
+returns-2 : tie.Need-returns-2
+returns-2 c = (behind-read _ (c .before .before .before2 .given .1) (c .token .ensures), steps-within (token (c .before .before .before .before .before .before .args .word .now)) (c .before .before .before .before .before .before .args .text .now) (c .before .before .before2 .given .0 .0) (c .token .result) (c .token .ensures))
+
+pub then-token-spec : {M : Type 1} → statement M
+then-token-spec = tie.close (tie.spec enum-known-before enum-told returns token-requires returns-2)

@@ -1,0 +1,21 @@
+-- `parsing::laying::lay` meets its contract.
+use native.Mathlib.Omega.{arith}
+use borrow.Author.Needs.{needs}
+use borrow.Author.Needs.{needs}
+use Rattle.parsing.proofs.laying.lay.Statement.{statement}
+use Rattle.parsing.proofs.laying.lay.Tie as tie
+
+lay-signed-requires : tie.Need-lay-signed-requires
+lay-signed-requires c κs = search needs
+
+same-length : tie.Need-same-length
+same-length c = search needs
+
+returns : tie.Need-returns
+returns c = search needs
+
+returns-2 : tie.Need-returns-2
+returns-2 c = λ h. absurd (omega (arith, h, c .if1 .left))
+
+pub lay-spec : {M : Type 1} → statement M
+lay-spec = tie.close (tie.spec lay-signed-requires same-length returns returns-2)

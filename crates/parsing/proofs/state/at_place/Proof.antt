@@ -1,0 +1,23 @@
+-- `parsing::state::at_place` meets its contract.
+use Rattle.parsing.specs.Told.{moved}
+use borrow.Author.Needs.{needs}
+use borrow.Author.Needs.{needs}
+use Rattle.parsing.proofs.state.at_place.Statement.{statement}
+use Rattle.parsing.proofs.state.at_place.Tie as tie
+
+enum-told : tie.Need-enum-told
+enum-told c = search needs
+
+enum-known-checked : tie.Need-enum-known-checked
+enum-known-checked c = search needs
+
+returns : tie.Need-returns
+unfolding moved
+returns c = rw (c .enum-told .given .1)
+
+returns-2 : tie.Need-returns-2
+unfolding moved
+returns-2 c = rw (c .before .checked .given .1)
+
+pub at-place-spec : {M : Type 1} → statement M
+at-place-spec = tie.close (tie.spec enum-told enum-known-checked returns returns-2)

@@ -1,0 +1,12 @@
+-- `parsing::tokens::is_blank` meets its contract: the same test.
+use mathlib.Core.Path.{refl}
+use Rattle.model.specs.Bytes.{blank}
+use Rattle.parsing.proofs.tokens.is_blank.Statement.{statement}
+use Rattle.parsing.proofs.tokens.is_blank.Tie as tie
+
+returns : tie.Need-returns
+unfolding blank
+returns c = refl
+
+pub is-blank-spec : {M : Type 1} → statement M
+is-blank-spec = tie.close (tie.spec returns)

@@ -1,0 +1,11 @@
+// Policies in the TPTP typed form: the reading of a text, with the questions that are asked of its words.
+pub mod ahead;
+pub mod behind;
+pub mod binder;
+pub mod laying;
+pub mod leaves;
+pub mod numbers;
+pub mod state;
+pub mod terms;
+pub mod tokens;
+pub mod tuples;

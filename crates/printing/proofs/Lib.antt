@@ -1,0 +1,10 @@
+-- Laws that several proofs of this crate cite.
+pub mod AddLaws
+pub mod TokenLaws
+pub mod TextLaws
+pub mod TupleLaws
+pub mod NodeTextLaws
+pub mod PrintLaws
+pub mod HereLaws
+pub mod WalkLaws
+pub mod PolicyLaws
