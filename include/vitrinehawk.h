@@ -1,6 +1,6 @@
 /*
- * The auditor's static library: checks of policies and logs, duals, residuals of policies over logs, and logs as
- * comma-separated text.
+ * The auditor's static library: checks of policies and logs, duals, residuals of policies over logs, logs as
+ * comma-separated text, and policies in the TPTP typed form.
  *
  * Tables, policies, logs, scratch and buffers are arrays of signed 32-bit words; texts, and the buffer that one is
  * written to, are arrays of bytes. Each is passed as a pointer and the number of its words or bytes, which may be any
@@ -14,8 +14,8 @@
  *     1  table           the first bad predicate; 0 if the length is bad
  *     2  policy length   0
  *     3  shape           the word where the node begins, where one is missing, or the first one behind the tree
- *     4  level           the word where the node begins
- *     5  predicate       the same
+ *     4  level           the word where the node begins; the byte of a 257th parenthesis that a text opens at once
+ *     5  predicate       the word where the node begins
  *     6  variable        the same
  *     7  mode            the word where the atom, "some" or quantifier begins
  *     8  log length      0
@@ -23,10 +23,12 @@
  *    10  repeated atom   the row
  *    11  scratch         0
  *    12  room            0
- *    13  text            the first byte that RFC 4180 does not allow there; the length if the text ends too soon
+ *    13  text of a log   the first byte that RFC 4180 does not allow there; the length if the text ends too soon
  *    14  record          the first record that is not a row, or not a good one
+ *    15  text of a       the first byte that the TPTP typed form, as it is read here, does not allow there; the length
+ *        policy          if the text ends too soon
  *
- * Words, predicates, rows, bytes and records are counted from 0. 13 and 14 are asked right after 1.
+ * Words, predicates, rows, bytes and records are counted from 0. 13, 14 and 15 are asked right after 1.
  */
 #ifndef VITRINEHAWK_H
 #define VITRINEHAWK_H
@@ -77,6 +79,23 @@ uint32_t vh_read_log(const int32_t *table, size_t table_len, const uint8_t *text
  */
 uint32_t vh_write_log(const int32_t *table, size_t table_len, const int32_t *log, size_t log_len, uint8_t *buffer,
                       size_t buffer_len, uint64_t *detail);
+
+/*
+ * Reads a policy from a text in the TPTP typed form, one axiom, and writes its words (questions 1, 15, 2 to 7 and 12,
+ * in this order; 4 is asked of parentheses with 15). Counts its words. The rest of the buffer, or all of it if the call
+ * is refused, becomes zero. The axiom may have any name, and blanks and line ends (bytes 32, 10 and 13) may stand
+ * around its tokens. The places of 2 to 7, but that of a parenthesis, are places in the words. No text has more words
+ * than bytes.
+ */
+uint32_t vh_read_policy(const int32_t *table, size_t table_len, const uint8_t *text, size_t text_len, int32_t *buffer,
+                        size_t buffer_len, uint64_t *detail);
+
+/*
+ * Writes a policy as such a text, named a and without blanks (questions 1 to 7 and 12). Counts its bytes, which are at
+ * most 18 for each word and 14 more. The rest of the buffer, or all of it if the call is refused, becomes zero.
+ */
+uint32_t vh_write_policy(const int32_t *table, size_t table_len, const int32_t *policy, size_t policy_len,
+                         uint8_t *buffer, size_t buffer_len, uint64_t *detail);
 
 #ifdef __cplusplus
 }

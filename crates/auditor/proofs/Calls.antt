@@ -16,6 +16,7 @@ use Rattle.model.specs.Calls.{askPolicy, checkPolicy, checkLog}
 use Rattle.laws.specs.Answer.{answer-accepted, answer-refused}
 use Rattle.policies.specs.Policy.{toldPolicy}
 use Rattle.policies.specs.declared.policy.Walked.the-variants as walked
+use Rattle.auditor.specs.Reduce.{Accepts}
 
 -- what an answer says of the questions
 pub was-refused : {A : Type 0} (count : A → ℕ) (o : Outcome A) {r : Refusal} {p : ℕ} → Refused r p ≡ answer count o → o ≡ refused r p
@@ -39,6 +40,15 @@ told-read policy (refused r p) e = absurd (let z : _≡_ {A = ℕ} 0 1 = cc in o
 told-read policy (passed t) e = (t, refl, cc)
 
 module _ (table policy : Words) where
+  -- what the check of a policy says of questions 1 to 7
+  pub policy-was-refused : {r : Refusal} {p : ℕ} → Refused r p ≡ checkPolicy table policy → askPolicy table policy ≡ refused r p
+  unfolding checkPolicy
+  policy-was-refused e = was-refused (λ tree. greatest tree formula 0) (askPolicy table policy) e
+
+  pub policy-was-passed : {k : ℕ} → Accepted k ≡ checkPolicy table policy → Accepts table policy
+  unfolding checkPolicy
+  policy-was-passed e = was-passed (λ tree. greatest tree formula 0) (askPolicy table policy) e
+
   pub policy-table-refused : {r : Refusal} {p : ℕ} → askTable table ≡ refused r p → checkPolicy table policy ≡ Refused r p
   unfolding checkPolicy askPolicy answer _>>=_
   policy-table-refused e = rw e

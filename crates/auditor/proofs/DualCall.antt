@@ -12,17 +12,17 @@ use Rattle.model.specs.declared.Answer.the-variants.{Accepted, Refused}
 use Rattle.model.specs.declared.Refusal.{Refusal}
 use Rattle.model.specs.declared.Refusal.the-variants.{Room}
 use Rattle.model.specs.Words.{Words, policyLimit}
-use Rattle.model.specs.Answer.{passed, ask, answer, _>>=_}
+use Rattle.model.specs.Answer.{ask, answer, _>>=_}
 use Rattle.model.specs.Tree.{Tree, encode}
-use Rattle.model.specs.Level.{formula, greatest}
 use Rattle.model.specs.Mode.{size}
 use Rattle.model.specs.Dual.{dual}
-use Rattle.model.specs.Calls.{zeros, filled, result, askPolicy, write, checkPolicy, dualCall}
+use Rattle.model.specs.Calls.{zeros, filled, result, write, checkPolicy, dualCall}
 use Rattle.laws.specs.Dual.{dual-size}
 use Rattle.laws.specs.Calls.Policy.{accepted-asked}
 use Rattle.laws.specs.Reading.Encoded.{read-length}
 use Rattle.preorder.specs.Grown.{Tupled}
-use Rattle.auditor.proofs.Calls.{was-refused, was-passed}
+use Rattle.auditor.specs.Reduce.{Accepts}
+use Rattle.auditor.proofs.Calls.{policy-was-refused, policy-was-passed}
 use Rattle.auditor.proofs.DualFormed.{accepted-written}
 
 module _ (table policy old buffer : Words) where
@@ -37,15 +37,12 @@ module _ (table policy old buffer : Words) where
   all-zero e = e ∙ ap zeros (omega arith)
 
   pub dual-refused : {r : Refusal} {p : ℕ} → Refused r p ≡ checkPolicy table policy → Cleared → Dualled (Refused r p)
-  unfolding checkPolicy dualCall result answer filled _>>=_
-  dual-refused e z =
-      let was = was-refused (λ tree. greatest tree formula 0) (askPolicy table policy) e in
-      rw was (refl, all-zero z)
+  unfolding dualCall result answer filled _>>=_
+  dual-refused e z = rw (policy-was-refused table policy e) (refl, all-zero z)
 
   module _ {k : ℕ} (e : Accepted k ≡ checkPolicy table policy) where
-    accepted-tree : (tree : Tree) × (askPolicy table policy ≡ passed tree)
-    unfolding checkPolicy
-    accepted-tree = was-passed (λ tree. greatest tree formula 0) (askPolicy table policy) e
+    accepted-tree : Accepts table policy
+    accepted-tree = policy-was-passed table policy e
 
     -- its words are the policy
     pub tree-written : (tree : Tree) × Tupled tree × (encode tree ≡ policy)

@@ -1,7 +1,10 @@
 -- Laws that several proofs of this crate cite.
 pub mod Calls
 pub mod LogReading
+pub mod TextWriting
 pub mod LogWriting
+pub mod PolicyWriting
+pub mod PolicyReading
 pub mod DualBuffer
 pub mod DualTrees
 pub mod DualAfter

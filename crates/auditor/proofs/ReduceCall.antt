@@ -9,13 +9,13 @@ use Rattle.model.specs.declared.Answer.the-variants.{Accepted, Refused}
 use Rattle.model.specs.declared.Refusal.{Refusal}
 use Rattle.model.specs.Words.{Words, placeWords}
 use Rattle.model.specs.Answer.{passed, refused, count, _>>=_}
-use Rattle.model.specs.Level.{formula, greatest}
+use Rattle.model.specs.Level.{formula}
 use Rattle.model.specs.Log.{rows, rowCount, askLog}
 use Rattle.model.specs.Table.{askTable}
 use Rattle.model.specs.Reading.{readPolicy}
 use Rattle.model.specs.Mode.{askModes}
 use Rattle.model.specs.Reduction.{reduce, need}
-use Rattle.model.specs.Calls.{zeros, result, askPolicy, checkPolicy, reduceCall}
+use Rattle.model.specs.Calls.{zeros, result, checkPolicy, reduceCall}
 use Rattle.laws.specs.Table as T
 use Rattle.laws.specs.Log as L
 use Rattle.laws.specs.Calls.Policy.{accepted-asked}
@@ -25,7 +25,7 @@ use Rattle.logs.specs.Chain.{Chained}
 use Rattle.logs.specs.Key.{rowKey, atomKeys, TrueRows}
 use Rattle.listing.specs.Restrictions.{Chains}
 use Rattle.auditor.specs.Reduce.{Reduces, Accepts, settled, asked, Leaves}
-use Rattle.auditor.proofs.Calls.{was-refused, was-passed}
+use Rattle.auditor.proofs.Calls.{policy-was-refused, policy-was-passed}
 use Rattle.auditor.proofs.ReduceSettling.{leaves-refused}
 
 module _ (table policy log : Words) (scratch buffer : ℕ) where
@@ -35,14 +35,13 @@ module _ (table policy log : Words) (scratch buffer : ℕ) where
       a ≡ checkPolicy table policy →
       a ≡ Refused r p →
       Leaves (asked table policy log scratch buffer) buffer after a
-  unfolding checkPolicy asked _>>=_
+  unfolding asked _>>=_
   policy-refused after {a} {r} {p} e f =
-      let was = was-refused (λ tree. greatest tree formula 0) (askPolicy table policy) (sym f ∙ e) in
+      let was = policy-was-refused table policy (sym f ∙ e) in
       subst (Leaves (asked table policy log scratch buffer) buffer after) (sym f) (leaves-refused buffer after (rw was refl))
 
   pub policy-accepted : {a : Answer} {n : ℕ} → a ≡ checkPolicy table policy → a ≡ Accepted n → Accepts table policy
-  unfolding checkPolicy
-  policy-accepted e f = was-passed (λ tree. greatest tree formula 0) (askPolicy table policy) (sym f ∙ e)
+  policy-accepted e f = policy-was-passed table policy (sym f ∙ e)
 
   module _ (accepts : Accepts table policy) where
     tree-asked :

@@ -2,4 +2,6 @@ pub mod Dual
 pub mod Reduce
 pub mod Runs
 pub mod RunsExample
+pub mod TextWriting
 pub mod LogText
+pub mod PolicyText

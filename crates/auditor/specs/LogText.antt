@@ -2,16 +2,17 @@
 use Prim.Native.Nat.{ℕ, _*_, _-_, _≤_, _<_}
 use mathlib.Core.Path.{_≡_}
 use mathlib.Core.List.{_++_}
-use lib.ListN.{length, take, replicate}
+use lib.ListN.{length, take}
 use Rattle.model.specs.declared.Answer.{Answer}
 use Rattle.model.specs.Words.{Words}
 use Rattle.model.specs.Bytes.{Text}
 use Rattle.model.specs.Answer.{Outcome, passed, answer, count, _>>=_}
 use Rattle.model.specs.Log.{rowCount, askLog}
-use Rattle.model.specs.Calls.{zeros, filled, inRoom, askReading, filledText, askWriting}
+use Rattle.model.specs.Calls.{zeros, filled, inRoom, askReading, askWriting}
 use Rattle.tables.specs.declared.Checked.{Checked}
 use Rattle.tables.specs.Checked.{outcome}
 use Rattle.texts.specs.Rows.{askText}
+use Rattle.auditor.specs.TextWriting.{LeavesText}
 
 -- a text passes 13 and 14, with so many rows
 abbrev pub Spelled : Words → Text → ℕ → Type 0
@@ -41,7 +42,5 @@ pub record ReadsLog (table : Words) (text : Text) (room : ℕ) (after : Words) (
   pub wrote : take (8 * count r) after ++ zeros (room - 8 * count r) ≡ filled room (askReading table text room)
 
 -- the answer of the whole writing, and the bytes that it counts, at the front of so many
-pub record WritesLog (table log : Words) (room : ℕ) (after : Text) (r : Answer) : Type 0 where
-  pub answered : r ≡ answer length (askWriting table log room)
-  pub fits : count r ≤ room
-  pub wrote : take (count r) after ++ replicate (room - count r) 0 ≡ filledText room (askWriting table log room)
+abbrev pub WritesLog : Words → Words → ℕ → Text → Answer → Type 0
+WritesLog table log room after r = LeavesText (askWriting table log room) room after r

@@ -1,6 +1,7 @@
 // The public calls of the auditor. Each makes every check itself and answers as model's definition of it says.
 mod dual_words;
 mod log_text;
+mod policy_text;
 mod residual;
 
 ghost use mathlib.Core.Path.{_≡_};
@@ -11,12 +12,14 @@ ghost use Rattle.model.specs.Log.{askLog};
 ghost use Rattle.model.specs.Calls as C;
 ghost use Rattle.tables.specs.Checked.{outcome};
 ghost use Rattle.auditor.specs.Reduce.{Reduces};
+ghost use Rattle.auditor.specs.TextWriting as W;
 use clearing::clear;
 use clearing::clear_bytes;
 use model::Answer;
 use model::Refusal;
 use policies::policy::Walked;
 use tables::Checked;
+use writing::number::Put;
 
 // Check a policy over a table: questions 1 to 7. Accepted, the count is the greatest level.
 pub fn check_policy(table: &[i32], policy: &[i32]) -> Answer
@@ -99,6 +102,16 @@ fn counted(answer: Answer) -> usize
     }
 }
 
+// The answer about a text that was written, or found too little room.
+fn written(put: Put) -> Answer
+    ensures { λ r. ⌜ r ≡ W.written put ⌝ }
+{
+    match put {
+        Put::Full => Answer::Refused(Refusal::Room, 0),
+        Put::At(bytes) => Answer::Accepted(bytes),
+    }
+}
+
 // Write the residual of a policy over a log: questions 1 to 12. Accepted, the count is its length.
 pub fn reduce(
     table: &[i32],
@@ -141,6 +154,35 @@ pub fn write_log(table: &[i32], log: &[i32], buffer: &mut [u8]) -> Answer
         ⌝ }
 {
     let answer = log_text::write(table, log, buffer);
+    clear_bytes(buffer, counted(answer));
+    answer
+}
+
+// Read a policy from text in the TPTP typed form over a table: questions 1, 15 (or 4, of parentheses), 2 to 7 of the words that it
+// spells, and 12. Accepted, the count is the number of words.
+pub fn read_policy(table: &[i32], text: &[u8], buffer: &mut [i32]) -> Answer
+    ensures { λ r. ⌜
+        r ≡ C.readPolicyCall (now (table .entry)) (now (text .entry)) (length (now (buffer .entry))) .answer
+        ⌝ }
+    ensures { λ _. ⌜
+        now (buffer .exit) ≡ C.readPolicyCall (now (table .entry)) (now (text .entry)) (length (now (buffer .entry))) .buffer
+        ⌝ }
+{
+    let answer = policy_text::read(table, text, buffer);
+    clear(buffer, counted(answer));
+    answer
+}
+
+// Write a policy as text in the TPTP typed form: questions 1 to 7 and 12. Accepted, the count is the number of bytes.
+pub fn write_policy(table: &[i32], policy: &[i32], buffer: &mut [u8]) -> Answer
+    ensures { λ r. ⌜
+        r ≡ C.writePolicyCall (now (table .entry)) (now (policy .entry)) (length (now (buffer .entry))) .answer
+        ⌝ }
+    ensures { λ _. ⌜
+        now (buffer .exit) ≡ C.writePolicyCall (now (table .entry)) (now (policy .entry)) (length (now (buffer .entry))) .buffer
+        ⌝ }
+{
+    let answer = policy_text::write(table, policy, buffer);
     clear_bytes(buffer, counted(answer));
     answer
 }

@@ -1,12 +1,12 @@
 // Logs as comma-separated text, read to the front of a buffer and written there. What stands behind is left open.
 use crate::check_log;
 use crate::check_rows;
+use crate::written;
 use model::Answer;
 use model::Refusal;
 use tables::Checked;
 use texts::rows::Rows;
 use texts::rows::read_rows;
-use writing::number::Put;
 use writing::write_rows;
 ghost use mathlib.Core.Path.{_≡_};
 ghost use Prim.Native.Nat.{_*_, _≤_};
@@ -92,8 +92,5 @@ pub fn write(table: &[i32], log: &[i32], buffer: &mut [u8]) -> Answer
         return checked;
     };
     let put = write_rows(table, log, buffer);
-    match put {
-        Put::Full => Answer::Refused(Refusal::Room, 0),
-        Put::At(bytes) => Answer::Accepted(bytes),
-    }
+    written(put)
 }

@@ -2,6 +2,7 @@
 // words or bytes of the buffer, and of reduce, on a second line, those of scratch. Table T, log A, formula F and the cases P are those of the
 // specification.
 mod log_texts;
+mod policy_texts;
 mod print;
 mod reductions;
 
@@ -245,4 +246,14 @@ fn main() {
     log_texts::no_rows();
     log_texts::other_rows();
     log_texts::written();
+    policy_texts::formulas();
+    policy_texts::joined();
+    policy_texts::bound();
+    policy_texts::refused();
+    policy_texts::formulas_read();
+    policy_texts::joined_read();
+    policy_texts::bound_read();
+    policy_texts::not_spelled();
+    policy_texts::other_policies();
+    policy_texts::parentheses();
 }

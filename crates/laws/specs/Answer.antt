@@ -67,6 +67,19 @@ module _ {A B : Type 0} where
   unfolding _>>=_
   pass-then next e f = rw e f
 
+  -- the same questions, and behind them the same ones
+  pub then-both : (o : Outcome A) {f g : A → Outcome B} → ((a : A) → f a ≡ g a) → (o >>= f) ≡ (o >>= g)
+  unfolding _>>=_
+  then-both (refused r p) h = refl
+  then-both (passed a) h = h a
+
+module _ {A B C : Type 0} where
+  -- questions one behind another, however they are grouped
+  pub then-assoc : (o : Outcome A) (f : A → Outcome B) (g : B → Outcome C) → (o >>= f >>= g) ≡ (o >>= λ a. f a >>= g)
+  unfolding _>>=_
+  then-assoc (refused r p) f g = refl
+  then-assoc (passed a) f g = refl
+
 module _ {A : Type 0} where
   -- questions asked at each element in turn pass at every element
   pub inTurn-mem :

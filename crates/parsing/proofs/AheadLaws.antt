@@ -76,7 +76,7 @@ module _ (text : Text) (at i depth : ℕ) (s : Scans text at i depth) where
           (rw (here text i h, ne-eqb (getD text i 0) 40 opens, ne-eqb (getD text i 0) 41 closes, e, is))
 
 -- what blanks leave is the text behind them
-blanks-rest : (text : Text) (p : ℕ) → (q : ℕ) × (blanks text p ≡ passed (record { what = tt; rest = behindBlanks text; at = q }))
+pub blanks-rest : (text : Text) (p : ℕ) → (q : ℕ) × (blanks text p ≡ passed (record { what = tt; rest = behindBlanks text; at = q }))
 unfolding blanks behindBlanks
 blanks-rest [] p = (p, refl)
 blanks-rest (b ∷ t) p =
@@ -95,7 +95,7 @@ unfolding begins beginsTuple
 tuple-one text v e = rw e
 
 module _ (text : Text) (at i : ℕ) (s : Skips text at i) where
-  behind-skip : behindBlanks (drop at text) ≡ drop i text
+  pub behind-skip : behindBlanks (drop at text) ≡ drop i text
   behind-skip = ap (λ (g : Got (Unit {0})). g .rest) (passed-same (sym (blanks-rest (drop at text) at .1) ∙ s .reads))
 
   pub begins-over : (c : ℕ) → length text ≤ i → false ≡ begins c (drop at text)

@@ -23,10 +23,6 @@ valued-within reader facts text at (Refused q p) v = tt
 pub falls : (next : ℕ → Step → Type 0) {s r : Step} {q : Refusal} {p : ℕ} → Behind next s r → s ≡ Refused q p → r ≡ Refused q p
 falls next {r = r} b e = subst (λ (x : Step). Behind next x r) e b
 
--- what is known of the step behind an index
-pub behind-at : (next : ℕ → Step → Type 0) {s r : Step} {n : ℕ} → Behind next s r → s ≡ At n → next n r
-behind-at next {r = r} b e = subst (λ (x : Step). Behind next x r) e b
-
 -- a call behind an index, and the refusal that is passed on by it
 pub behind-read : (next : ℕ → Step → Type 0) {s r : Step} {n : ℕ} → s ≡ At n → next n r → Behind next s r
 behind-read next {r = r} e b = subst (λ (x : Step). Behind next x r) (sym e) b

@@ -63,6 +63,16 @@ module _ {B : Type 0} (whole : Reader B) (text : Text) (at : ℕ) where
     going-value {A} reader more left (Refused q p) r g b =
         subst (Goes whole (λ (y : X × A). facts (y .0) × more (y .1)) (λ y. left (y .0) (y .1)) text at) (sym b) g
 
+    -- what is left is read as something else
+    pub goes-as :
+        (left left′ : X → Reader B) (s : Step) →
+        ((x : X) → facts x → (n : ℕ) → from (left x) text n ≡ from (left′ x) text n) →
+        Goes whole facts left text at s →
+        Goes whole facts left′ text at s
+    goes-as left left′ (At n) h g =
+        record { x = g .x; goes = g .goes ∙ h (g .x) (g .holds) n; low = g .low; high = g .high; holds = g .holds }
+    goes-as left left′ (Refused q p) h g = g
+
     -- all was read
     pub going-end :
         (made : X → B) (good : B → Type 0) → ((x : X) → facts x → good (made x)) → (r : Step) →

@@ -16,7 +16,7 @@ use Rattle.model.specs.Reading.{questions, build, readNode, isFormula}
 use Rattle.model.specs.Mode.{Variables, size, bindings, askModes}
 use Rattle.model.specs.Tptp.{goodTree}
 use Rattle.model.specs.declared.Refusal.{Refusal}
-use Rattle.laws.specs.Answer.{refused-passed}
+use Rattle.laws.specs.Answer.{refused-passed, then-both}
 use Rattle.laws.specs.Words.Tests.{clash}
 use Rattle.laws.specs.Putting.Modes.{terms-length}
 use Rattle.laws.specs.Words.Standing.{Stands, stands-first, three-stand, code, tag-code}
@@ -33,12 +33,6 @@ use Rattle.parsing.specs.Told.{moved, Told, LeafBound}
 use Rattle.parsing.specs.declared.state.State.{State}
 use Rattle.parsing.proofs.LeafLaws.{term-two}
 use Rattle.parsing.proofs.StateLaws.{asked-passed}
-
--- the same questions, and behind them the same ones
-pub then-same : {A B : Type 0} (o : Outcome A) {f g : A → Outcome B} → ((a : A) → f a ≡ g a) → (o >>= f) ≡ (o >>= g)
-unfolding _>>=_
-then-same (refused r p) h = refl
-then-same (passed a) h = h a
 
 -- what passes with something comes to the same as what it was asked for
 unfoldable dropped : {A : Type 0} → Outcome A → Outcome (Unit {0})
@@ -183,13 +177,16 @@ module _
     questions-told : outcome asked ≡ (outcome (s .asked) >>= λ _. askTree t table role above scope (s .words))
     questions-told =
         told-asked
-        ∙ then-same (outcome (s .asked)) λ _.
+        ∙ then-both (outcome (s .asked)) λ _.
         ap (moved (s .words)) (leaf-questions table own t role above scope stand good long)
         ∙ leaf-moved t table role above scope (s .words) (stand .leaf)
 
     counted : words ≡ min (s .words + size t) mostWords
     unfolding size
     counted = count ∙ ap (λ (k : ℕ). min (s .words + k) mostWords) sized
+
+    passes : asked ≡ Passed → s .asked ≡ Passed
+    passes p = asked-passed asked (s .asked) _ told-asked p .0
 
     -- in a formula nothing is bound
     pub leaf-formula :
@@ -198,6 +195,7 @@ module _
     leaf-formula f marks = record {
       counted = counted;
       marks = marks;
+      passes = passes;
       settled = λ _. record {
         asked = questions-told;
         modes = λ _. rw f (unbound t (stand .leaf));
@@ -217,11 +215,12 @@ module _
     leaf-restricted f b bound node = record {
       counted = counted;
       marks = bound .marks;
+      passes = passes;
       settled = λ _. record {
         asked = questions-told;
         modes = λ passes. rw f (
             bound .modes passes t (length (encode t)) (node passes)
-            ∙ then-same (told (s .moded) (s .set)) λ vs. leaf-binds t table vs scope (s .words) (stand .leaf));
+            ∙ then-both (told (s .moded) (s .set)) λ vs. leaf-binds t table vs scope (s .words) (stand .leaf));
         laid = words-laid;
       };
     }

@@ -1,27 +1,32 @@
 -- Laws for what is known behind a part that was read: questions behind others, and words laid one behind another.
-use Prim.Native.Nat.{ℕ, _+_, _<_}
+use Prim.Native.Nat.{ℕ, _+_, _≤_, _<_}
 use native.Mathlib.Numerals.{add-one}
 use native.Mathlib.Omega.{arith}
-use mathlib.Core.Path.{_≡_, refl, sym, ap, subst, _∙_}
-use mathlib.Core.Bool.{Bool, false}
+use mathlib.Core.Path.{_≡_, refl, sym, ap, subst, fun-ext, _∙_}
+use mathlib.Core.Bool.{Bool, true, false, not, _&&_}
 use mathlib.Core.List.{List}
-use lib.ListN.{length, take, set, getD}
+use lib.ListN.{length, take, set, getD, length-set}
 use lib.Seq.{sets, take-suc, length-take-le}
+use lib.Dec.{eqb}
 use lib.IntN.{pos}
 use Rattle.model.specs.Words.{Words, word}
-use Rattle.model.specs.Answer.{Outcome, passed, refused, _>>=_}
+use Rattle.model.specs.Lists.{span, all}
+use Rattle.model.specs.Answer.{Outcome, passed, refused, ask, _>>=_}
 use Rattle.model.specs.Level.{restriction}
 use Rattle.model.specs.Mode.{Variables, bindings}
 use Rattle.model.specs.Tree.{Tree}
 use Rattle.model.specs.declared.Refusal.{Refusal}
+use Rattle.model.specs.declared.Refusal.the-variants.{Mode}
 use Rattle.tables.specs.Checked.{outcome}
 use Rattle.tables.specs.declared.Checked.{Checked}
 use Rattle.tables.specs.declared.Checked.the-variants.{Passed, Refused}
 use Rattle.laws.specs.Answer.{refused-passed}
+use Rattle.laws.specs.Words.Tests.{clash}
 use Rattle.laws.specs.Reading.Nodes.{Node}
 use Rattle.policies.specs.Mode.{setOf, told, Here, Binds}
 use Rattle.policies.specs.declared.mode.Bound.{Bound}
-use Rattle.parsing.specs.Told.{moved, Ready, LeafBound}
+use Rattle.policies.proofs.ModeTerms.{set-dropped}
+use Rattle.parsing.specs.Told.{moved, Ready, LeafBound, Dropped, Introduced, Handed, Joined}
 use Rattle.parsing.specs.declared.state.State.{State}
 use Rattle.parsing.proofs.TupleLaws.{sets-last}
 
@@ -116,3 +121,85 @@ pub asked-passed :
 unfolding _>>=_
 asked-passed a Passed k e p = (refl, sym e ∙ ap outcome p)
 asked-passed a (Refused q n) k e p = refused-passed (sym e ∙ ap outcome p)
+
+-- a question of what is bound, and what is bound behind it
+told-ask :
+    (m k : Checked) (marks marks′ : List Bool) (b : Bool) (q : Refusal) (w : ℕ) (g : Variables → Bool) (f : Variables → Variables) →
+    outcome k ≡ (outcome m >>= λ _. ask b q w) →
+    b ≡ g (setOf marks) →
+    setOf marks′ ≡ f (setOf marks) →
+    told k marks′ ≡ (told m marks >>= λ bound. ask (g bound) q w >>= λ _. passed (f bound))
+unfolding _>>=_ ask carried
+told-ask Passed Passed marks marks′ true q w g f e is same = rw (sym is, sym same)
+told-ask Passed (Refused r n) marks marks′ true q w g f e is same = refused-passed e
+told-ask Passed Passed marks marks′ false q w g f e is same = refused-passed (sym e)
+told-ask Passed (Refused r n) marks marks′ false q w g f e is same = rw (sym is) (ap carried e)
+told-ask (Refused r n) Passed marks marks′ b q w g f e is same = refused-passed (sym e)
+told-ask (Refused r n) (Refused s l) marks marks′ b q w g f e is same = ap carried e
+
+-- a question of what is bound
+told-asked :
+    (m k : Checked) (marks : List Bool) (q : Refusal) (w : ℕ) (g : Variables → Bool) →
+    outcome k ≡ (outcome m >>= λ _. ask (g (setOf marks)) q w) →
+    outcome k ≡ (told m marks >>= λ bound. ask (g bound) q w)
+unfolding _>>=_
+told-asked Passed k marks q w g e = e
+told-asked (Refused r n) k marks q w g e = e
+
+-- the variable of a "some" is dropped
+pub dropped :
+    (s : State) (scope x w : ℕ) (m : Checked) →
+    outcome m ≡ (outcome (s .moded) >>= λ _. ask (getD (s .set) x false) Mode w) →
+    x ≡ scope →
+    Dropped scope w s (record { words = s .words; asked = s .asked; moded = m; set = set (s .set) scope false })
+dropped s scope x w m e is = record {
+  words = refl;
+  asked = refl;
+  marks = λ long. length-set (s .set) scope false ∙ long;
+  modes = λ long h.
+      told-ask (s .moded) m (s .set) (set (s .set) scope false) (getD (s .set) x false) Mode w (λ inner. inner scope)
+      (λ inner y. inner y && not (eqb y scope)) e (ap (λ (k : ℕ). getD (s .set) k false) is)
+      (fun-ext λ y. set-dropped (s .set) scope y (omega (arith, long)));
+}
+
+pub dropped-none : (s : State) (scope w : ℕ) → 16 ≤ scope → Dropped scope w s s
+dropped-none s scope w h = record { words = refl; asked = refl; marks = λ long. long; modes = λ long l. absurd (omega arith) }
+
+-- the variables of a quantifier are bound
+pub introduces :
+    (s : State) (scope v n w : ℕ) (m : Checked) →
+    outcome m ≡ (outcome (s .moded) >>= λ _. ask (all (setOf (s .set)) (span scope n)) Mode w) →
+    n ≡ v →
+    Introduced scope v w s (record { words = s .words; asked = s .asked; moded = m; set = s .set })
+introduces s scope v n w m e is = record {
+  words = refl;
+  asked = refl;
+  set = refl;
+  modes = λ _.
+      told-asked (s .moded) m (s .set) Mode w (λ bound. all bound (span scope v))
+      (e ∙ ap (λ (k : ℕ). outcome (s .moded) >>= λ _. ask (all (setOf (s .set)) (span scope k)) Mode w) is);
+}
+
+pub introduces-none : (s : State) (scope v w : ℕ) → 16 < scope + v → Introduced scope v w s s
+introduces-none s scope v w h = record { words = refl; asked = refl; set = refl; modes = λ l. absurd (omega arith) }
+
+-- what an operand is handed
+pub handed-every : {b : Bool} (s : State) (start : List Bool) → b ≡ true → Handed b start s s
+handed-every s start e = rw e
+
+pub handed-some :
+    {b : Bool} (s : State) (start : List Bool) → b ≡ false →
+    Handed b start s (record { words = s .words; asked = s .asked; moded = s .moded; set = start })
+handed-some s start e = rw e
+
+-- what is known behind an operand
+pub joins-every : {b : Bool} (s child : State) → b ≡ true → Joined b s child child
+joins-every s child e =
+    record { words = refl; asked = refl; moded = refl; marks = λ long. long; every = λ _. refl; some = λ f. clash e f }
+
+pub joins-some :
+    {b : Bool} (s child : State) (joint : List Bool) → b ≡ false → length joint ≡ 16 →
+    ((x : ℕ) → setOf joint x ≡ (setOf (s .set) x && setOf (child .set) x)) →
+    Joined b s child (record { words = child .words; asked = child .asked; moded = child .moded; set = joint })
+joins-some s child joint e long both =
+    record { words = refl; asked = refl; moded = refl; marks = λ _. long; every = λ f. clash f e; some = λ _. both }

@@ -9,8 +9,8 @@ use lib.ListN.{length, drop, getD, drop-of-length-le}
 use lib.Seq.{drop-cons}
 use borrow.Author.Tests.{eq-eqb, ne-eqb}
 use Rattle.model.specs.Bytes.{Text, blank, bytes}
-use Rattle.model.specs.Answer.{passed, refused}
-use Rattle.model.specs.TptpReading.{Reader, onwards, _>>=_, stop, blanks, peek, literal, look, token, opening}
+use Rattle.model.specs.Answer.{Outcome, passed, refused}
+use Rattle.model.specs.TptpReading.{Got, Reader, give, onwards, _>>=_, stop, blanks, peek, literal, look, token, opening}
 use Rattle.model.specs.declared.Refusal.{Refusal}
 use Rattle.model.specs.declared.Refusal.the-variants.{Level, Tptp}
 use Rattle.parsing.specs.declared.tokens.Step.{Step}
@@ -34,10 +34,38 @@ module _ {A B : Type 0} (reader : Reader A) (next : A → Reader B) (text : Text
   unfolding _>>=_ onwards
   halt q p e = rw e
 
--- blanks are passed one after another
-pub skip-none : (text : Text) (at : ℕ) → from blanks text at ≡ from blanks text at
-skip-none text at = refl
+-- readings one behind another, however they are grouped
+pub grouped :
+    {A B C : Type 0} (one : Reader A) (next : A → Reader B) (last : B → Reader C) (t : Text) (p : ℕ) →
+    (one >>= next >>= last) t p ≡ (one >>= λ a. next a >>= last) t p
+unfolding _>>=_ onwards
+grouped {A} one next last t p = go (one t p)
+  where
+    go : (o : Outcome (Got A)) → onwards (onwards o next) last ≡ onwards o (λ a. next a >>= last)
+    go (refused q k) = refl
+    go (passed g) = refl
 
+-- what was read and changed, and something behind it
+pub given-then :
+    {A B C : Type 0} (one : Reader A) (f : A → B) (next : B → Reader C) (t : Text) (p : ℕ) →
+    (one >>= (λ a. give (f a)) >>= next) t p ≡ (one >>= λ a. next (f a)) t p
+unfolding _>>=_ onwards give
+given-then one f next t p = grouped one (λ a. give (f a)) next t p
+
+-- a reading with the token behind it, and something behind both
+pub closed-then :
+    {A B : Type 0} (one : Reader A) (word : Text) (next : A → Reader B) (t : Text) (p : ℕ) →
+    (one >>= λ a. token word >>= λ _. next a) t p ≡ (one >>= (λ a. token word >>= λ _. give a) >>= next) t p
+unfolding _>>=_ onwards give
+closed-then {A} one word next t p = go (one t p)
+  where
+    go :
+        (o : Outcome (Got A)) →
+        onwards o (λ a. token word >>= λ _. next a) ≡ onwards (onwards o (λ a. token word >>= λ _. give a)) next
+    go (refused q k) = refl
+    go (passed g) = sym (grouped (token word) (λ _. give (g .what)) next (g .rest) (g .at))
+
+-- blanks are passed one after another
 pub skip-more : (text : Text) (i : ℕ) → i < length text → blank (getD text i 0) ≡ true → from blanks text i ≡ from blanks text (i + 1)
 unfolding blanks
 skip-more text i h e = rw (here text i h, e, sym (add-one i))

@@ -3,22 +3,25 @@ use Prim.Native.Nat.{ℕ, zero, suc, _+_, _-_, _≤_, _<_}
 use native.Mathlib.Numerals.{add-one}
 use native.Mathlib.Omega.{arith}
 use mathlib.Core.Path.{_≡_, refl, sym, ap, subst, _∙_}
+use mathlib.Core.Logic.{⊎-elim}
 use mathlib.Core.List.{List, [], _∷_, _++_, append-nil}
 use lib.ListN.{length, drop, set, length-append}
 use lib.Seq.{sets}
 use lib.IntN.{ℤ}
-use borrow.Author.Tests.{eq-eqb, ne-eqb}
+use lib.Dec.{eqb}
+use borrow.Author.Tests.{eq-eqb, ne-eqb, eqb-true, eqb-false}
 use Rattle.model.specs.Words.{Words}
 use Rattle.model.specs.Bytes.{Text, bytes}
 use Rattle.model.specs.Answer.{Outcome, passed, refused}
 use Rattle.model.specs.Tptp.{variableToken, excludes, goodTuple}
 use Rattle.model.specs.TptpReading.{Got, Reader, give, onwards, token, opening, integer, unequal, readUnequals, readTuple, _>>=_}
 use Rattle.model.specs.declared.Refusal.{Refusal}
+use Rattle.laws.specs.Words.Tests.{decide}
 use Rattle.laws.specs.Tptp.Lists.{tuple-reads}
 use Rattle.laws.specs.Tptp.Sound.{item-sound}
 use Rattle.parsing.specs.Steps.{from, got, Steps, Valued, Within, Behind}
 use Rattle.parsing.specs.Laying.{Stored}
-use Rattle.parsing.specs.Tuples.{StoredAll, furtherUnequals}
+use Rattle.parsing.specs.Tuples.{StoredAll, Opened, Closed, furtherUnequals}
 use Rattle.parsing.specs.declared.tokens.Step.{Step}
 use Rattle.parsing.specs.declared.tokens.Step.the-variants.{At, Refused}
 use Rattle.parsing.proofs.TokenLaws.{onward, halt}
@@ -221,7 +224,7 @@ unequals-read text x v w out out₁ out′ h (Refused q p) s r f g = falls _ g f
 
 -- an excluded tuple: of one variable, or in parentheses
 module _ (text : Text) (at room v x w : ℕ) (out out′ : Words) where
-  pub tuple-one :
+  tuple-one :
       v ≡ 1 → (r : Step) →
       Valued (readUnequals (v - 1) x) (StoredAll v w out out′) text at r →
       Valued (readTuple room v x) (StoredAll v w out out′) text at r
@@ -232,7 +235,7 @@ module _ (text : Text) (at room v x w : ℕ) (out out′ : Words) where
       (omega arith)
       r
 
-  pub tuple-many :
+  tuple-many :
       (v ≡ 1 → ⊥) → at ≤ length text → (r₁ r₂ r : Step) →
       Steps (opening room) text at r₁ →
       Behind (Valued (readUnequals (v - 1) x) (StoredAll v w out out′) text) r₁ r₂ →
@@ -246,6 +249,23 @@ module _ (text : Text) (at room v x w : ℕ) (out out′ : Words) where
       let g₃ = going-token u text at _ (token (41 ∷ [])) _ r₂ r g₂ s in
       valued-from (readTuple room v x) u (StoredAll v w out out′) text at at (rw (ne-eqb v 1 e)) (omega arith) r
       (going-end u text at _ (λ y. y .1) (StoredAll v w out out′) (λ y f. f .1) r g₃)
+
+  pub tuple-read :
+      at ≤ length text → (r₁ r₂ r : Step) →
+      Opened room v text at r₁ →
+      Behind (Valued (readUnequals (v - 1) x) (StoredAll v w out out′) text) r₁ r₂ →
+      Closed v text r₂ r →
+      Valued (readTuple room v x) (StoredAll v w out out′) text at r
+  unfolding bytes
+  tuple-read h r₁ r₂ r o s c =
+      ⊎-elim
+      (λ e.
+      let one = eqb-true v 1 e in
+      subst (Valued (readTuple room v x) (StoredAll v w out out′) text at) (sym (c .one one))
+      (tuple-one one r₂
+      (subst (λ (y : Step). Behind (Valued (readUnequals (v - 1) x) (StoredAll v w out out′) text) y r₂) (o .one one) s)))
+      (λ e. let ne = eqb-false v 1 e in tuple-many ne h r₁ r₂ r (o .more ne) s (c .more ne))
+      (decide (eqb v 1))
 
 -- a tuple takes a byte at least
 pub tuple-strict :

@@ -20,7 +20,7 @@ use Rattle.parsing.proofs.UpTo.{attach, attach-none, attach-attach, upt
 use Rattle.parsing.proofs.TupleLaws.{tuple-strict}
 
 -- words laid one list behind another
-sets-append : (xs ys out : Words) (w : ℕ) → sets (sets out w xs) (w + length xs) ys ≡ sets out w (xs ++ ys)
+pub sets-append : (xs ys out : Words) (w : ℕ) → sets (sets out w xs) (w + length xs) ys ≡ sets out w (xs ++ ys)
 sets-append [] ys out w = ap (λ (n : ℕ). sets out n ys) (let e : w + 0 ≡ w = omega arith in e)
 sets-append (x ∷ xs) ys out w =
     ap (λ (n : ℕ). sets (sets (set out w x) (suc w) xs) n ys) (let e : w + suc (length xs) ≡ suc w + length xs = omega arith in e)
@@ -96,7 +96,7 @@ module _ (room v x w : ℕ) (text : Text) (at : ℕ) (old : Words) where
               ∙ ap (attach (t .ts)) (upto-stop (readTuple room v x) ampersand text next f i s h e)
               ∙ ap (λ (us : List (List ℤ)). got text us i) (append-nil (t .ts));
         };
-        holds = record { number = t .number; laid = t .laid };
+        holds = record { number = t .number; size = t .size; laid = t .laid };
       }
 
       module _ (e : getD text i 0 ≡ 38) where

@@ -7,3 +7,6 @@ pub mod Laying
 pub mod Tuples
 pub mod Ahead
 pub mod Told
+pub mod Known
+pub mod Formula
+pub mod Policy

@@ -1,11 +1,14 @@
 -- What is known behind a part of a policy that was read.
-use Prim.Native.Nat.{ℕ, _+_, _≤_, min}
+use Prim.Native.Nat.{ℕ, _+_, _≤_, _<_, min}
 use mathlib.Core.Path.{_≡_}
-use mathlib.Core.Bool.{Bool, true, false}
+use mathlib.Core.Bool.{Bool, true, false, cond, not, _&&_}
+use mathlib.Core.List.{List}
 use lib.ListN.{length}
 use lib.Seq.{sets}
+use lib.Dec.{ltb, eqb}
 use Rattle.model.specs.Words.{Words, policyLimit, levelLimit, scopeLimit}
-use Rattle.model.specs.Answer.{Outcome, passed, refused, _>>=_}
+use Rattle.model.specs.Lists.{span, all}
+use Rattle.model.specs.Answer.{Outcome, passed, refused, ask, _>>=_}
 use Rattle.model.specs.Table.{predicates}
 use Rattle.model.specs.Tree.{Tree, encode}
 use Rattle.model.specs.Level.{Role, restriction}
@@ -16,7 +19,8 @@ use Rattle.laws.specs.Reading.Nodes.{Node}
 use Rattle.laws.specs.Reading.Trees.{askTree}
 use Rattle.tables.specs.Checked.{outcome}
 use Rattle.tables.specs.declared.Checked.the-variants.{Passed}
-use Rattle.policies.specs.Mode.{told}
+use Rattle.model.specs.declared.Refusal.the-variants.{Level, Variable, Mode}
+use Rattle.policies.specs.Mode.{setOf, told}
 use Rattle.parsing.specs.Laying.{mostWords}
 use Rattle.parsing.specs.Leaves.{LeafStands}
 use Rattle.parsing.specs.declared.state.State.{State}
@@ -51,6 +55,7 @@ pub record Settled (table : Words) (t : Tree) (role : Role) (above scope : ℕ) 
 pub record Told (table : Words) (t : Tree) (role : Role) (above scope : ℕ) (s r : State) (out out′ : Words) : Type 0 where
   pub counted : r .words ≡ min (s .words + size t) mostWords
   pub marks : length (r .set) ≡ 16
+  pub passes : r .asked ≡ Passed → s .asked ≡ Passed
   pub settled : s .words + size t ≤ policyLimit → Settled table t role above scope s r out out′
 
 -- question 7 of a node of a restriction whose words stand apart
@@ -67,3 +72,47 @@ pub record LeafBound (table own : Words) (above scope : ℕ) (s r : State) : Typ
 abbrev pub LeafTold : Words → Words → Role → ℕ → ℕ → State → State → Words → Words → Type 0
 LeafTold table own role above scope s r out out′ =
     (t : Tree) → LeafStands own t → goodTree t (isFormula role) ≡ true → Told table t role above scope s r out out′
+
+-- behind the first words of a node, which are so many: questions 4 and 6 at it, and the marks for what is below
+pub record Entered (n : ℕ) (level range : Bool) (marks : List Bool) (s r : State) : Type 0 where
+  pub words : r .words ≡ min (s .words + n) mostWords
+  pub asked : outcome (r .asked) ≡ (outcome (s .asked) >>= λ _. ask level Level (s .words) >>= λ _. ask range Variable (s .words))
+  pub moded : r .moded ≡ s .moded
+  pub set : r .set ≡ marks
+
+-- the variable of a "some" at an index was bound by its child, and is dropped
+pub record Dropped (scope w : ℕ) (s r : State) : Type 0 where
+  pub words : r .words ≡ s .words
+  pub asked : r .asked ≡ s .asked
+  pub marks : length (s .set) ≡ 16 → length (r .set) ≡ 16
+  pub modes :
+      length (s .set) ≡ 16 → scope < scopeLimit →
+      told (r .moded) (r .set)
+      ≡ (told (s .moded) (s .set) >>= λ inner. ask (inner scope) Mode w >>= λ _. passed (λ x. inner x && not (eqb x scope)))
+
+-- the variables of a quantifier at an index are bound by its restriction
+pub record Introduced (scope v w : ℕ) (s r : State) : Type 0 where
+  pub words : r .words ≡ s .words
+  pub asked : r .asked ≡ s .asked
+  pub set : r .set ≡ s .set
+  pub modes :
+      scope + v ≤ scopeLimit →
+      outcome (r .moded) ≡ (told (s .moded) (s .set) >>= λ bound. ask (all bound (span scope v)) Mode w)
+
+-- the marks of the variables below a number, if it is at most sixteen
+pub record Outer (scope : ℕ) (marks : List Bool) : Type 0 where
+  pub sixteen : length marks ≡ 16
+  pub holds : scope ≤ scopeLimit → (x : ℕ) → setOf marks x ≡ ltb x scope
+
+-- what an operand of an all-of (true) or any-of is handed: the marks of the one before, or those of the start
+abbrev pub Handed : Bool → List Bool → State → State → Type 0
+Handed b start s r = r ≡ record { words = s .words; asked = s .asked; moded = s .moded; set = cond b (s .set) start }
+
+-- what is known behind an operand: as behind it, with the marks of those bound by all so far
+pub record Joined (b : Bool) (s child r : State) : Type 0 where
+  pub words : r .words ≡ child .words
+  pub asked : r .asked ≡ child .asked
+  pub moded : r .moded ≡ child .moded
+  pub marks : length (child .set) ≡ 16 → length (r .set) ≡ 16
+  pub every : b ≡ true → r .set ≡ child .set
+  pub some : b ≡ false → (x : ℕ) → setOf (r .set) x ≡ (setOf (s .set) x && setOf (child .set) x)

@@ -8,9 +8,11 @@ use lib.IntN.{ℤ}
 use Rattle.model.specs.Words.{Words}
 use Rattle.model.specs.Lists.{gather}
 use Rattle.model.specs.Bytes.{Text, bytes, ampersand}
-use Rattle.model.specs.TptpReading.{Reader, give, token, more, readUnequals, readTuple, _>>=_}
-use Rattle.parsing.specs.Steps.{Valued}
+use Rattle.model.specs.TptpReading.{Reader, give, token, opening, more, readUnequals, readTuple, _>>=_}
+use Rattle.parsing.specs.Steps.{Steps, Valued, Within, Behind}
 use Rattle.parsing.specs.Laying.{mostWords}
+use Rattle.parsing.specs.declared.tokens.Step.{Step}
+use Rattle.parsing.specs.declared.tokens.Step.the-variants.{At}
 use Rattle.parsing.specs.declared.binder.Counted.{Counted}
 
 -- numbers, so many, are the words from an index on, as far as there are words
@@ -25,9 +27,20 @@ furtherUnequals (suc n) x = do
   _ ← token (bytes "|")
   readUnequals n x
 
+-- a tuple of v variables begins, and ends: those of more than one stand in parentheses
+pub record Opened (room v : ℕ) (text : Text) (at : ℕ) (r : Step) : Type 0 where
+  pub one : v ≡ 1 → r ≡ At at
+  pub more : (v ≡ 1 → ⊥) → Steps (opening room) text at r
+  pub within : Within text r
+
+pub record Closed (v : ℕ) (text : Text) (before r : Step) : Type 0 where
+  pub one : v ≡ 1 → r ≡ before
+  pub more : (v ≡ 1 → ⊥) → Behind (Steps (token (bytes ")")) text) before r
+
 -- tuples, so many; their numbers are the words from an index on, unless these are too many to be counted
 pub record StoredTuples (v w count : ℕ) (out out′ : Words) (ts : List (List ℤ)) : Type 0 where
   pub number : length ts ≡ count
+  pub size : length (gather (λ tuple. tuple) ts) ≡ v * count
   pub laid : w + v * count ≤ mostWords → out′ ≡ sets out w (gather (λ tuple. tuple) ts)
 
 abbrev pub TuplesRead : ℕ → ℕ → ℕ → ℕ → Text → ℕ → Words → Words → Counted → Type 0

@@ -4,7 +4,7 @@ use crate::tokens::skip;
 ghost use mathlib.Core.Path.{_≡_};
 ghost use Prim.Native.Nat.{_≤_};
 ghost use lib.ListN.{length, drop};
-ghost use Rattle.model.specs.TptpReading.{beginsTuple, beginsExcluding};
+ghost use Rattle.model.specs.TptpReading.{beginsWith, beginsTuple, beginsExcluding};
 ghost use Rattle.parsing.specs.Ahead.{StopsAt, begins};
 
 // The first index from one on where a connective or a closing parenthesis stands outside the parentheses opened from there on; or the
@@ -32,8 +32,18 @@ pub fn stop_index(text: &[u8], at: usize) -> usize
     i
 }
 
+// The byte at an index is this one.
+pub fn stands(text: &[u8], at: usize, c: u8) -> bool
+    ensures { λ r. ⌜ r ≡ beginsWith c (drop at (now (text .entry))) ⌝ }
+{
+    if text.len() <= at {
+        return false;
+    }
+    text[at] == c
+}
+
 // The first byte behind blanks is this one.
-fn begins(text: &[u8], at: usize, c: u8) -> bool
+pub fn begins(text: &[u8], at: usize, c: u8) -> bool
     requires { ⌜ at ≤ length (now text) ⌝ }
     ensures { λ r. ⌜ r ≡ begins c (drop at (now (text .entry))) ⌝ }
 {

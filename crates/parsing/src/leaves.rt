@@ -27,7 +27,7 @@ ghost use Rattle.parsing.specs.Leaves as L;
 ghost use Rattle.parsing.specs.Steps.{Valued, Within, Behind};
 
 // One of two numbers.
-fn either(b: bool, x: usize, y: usize) -> usize
+pub fn either(b: bool, x: usize, y: usize) -> usize
     ensures { λ r. ⌜ r ≡ cond b x y ⌝ }
 {
     if b { x } else { y }

@@ -2,9 +2,13 @@
 pub mod ahead;
 pub mod behind;
 pub mod binder;
+pub mod formula;
+pub mod known;
 pub mod laying;
 pub mod leaves;
+pub mod name;
 pub mod numbers;
+pub mod policy;
 pub mod state;
 pub mod terms;
 pub mod tokens;

@@ -7,13 +7,12 @@ use policies::node;
 use policies::node::Role;
 use tables::Checked;
 ghost use mathlib.Core.Path.{_≡_};
-ghost use mathlib.Core.Bool.{Bool, true};
-ghost use Prim.Native.Nat.{ℕ, _+_, _≤_, _<_, _^_};
+ghost use mathlib.Core.Bool.{true};
+ghost use Prim.Native.Nat.{_+_, _≤_, _<_, _^_};
 ghost use lib.ListN.{length, take, set};
 ghost use lib.Seq.{sets};
 ghost use Rattle.model.specs.Words as W;
 ghost use Rattle.model.specs.Answer as M;
-ghost use Rattle.model.specs.Table.{predicates};
 ghost use Rattle.model.specs.Tag.{tagOf};
 ghost use Rattle.model.specs.Tree.{Tree};
 ghost use Rattle.model.specs.Level as L;
@@ -181,5 +180,86 @@ pub fn settle_leaf(
         asked,
         moded: told,
         set: marks,
+    }
+}
+
+// Behind the first words of a node, which are so many: whether its level and its variables fit is asked there.
+pub fn enter(before: State, n: usize, level: bool, range: bool, set: [bool; 16]) -> State
+    requires { ⌜ (before .words ≤ mostWords) × (n ≤ 3) ⌝ }
+    ensures { λ r. ⌜ T.Entered n level range set before r ⌝ }
+{
+    let w = before.words;
+    let first = before.asked;
+    let leveled = then_ask(first, level, Refusal::Level, w);
+    let asked = then_ask(leveled, range, Refusal::Variable, w);
+    let moded = before.moded;
+    State {
+        words: more_words(w, n),
+        asked,
+        moded,
+        set,
+    }
+}
+
+// The variable of a "some" was bound by its child, and is dropped.
+pub fn drop_variable(before: State, scope: usize, w: usize) -> State
+    ensures { λ r. ⌜ T.Dropped scope w before r ⌝ }
+{
+    let words = before.words;
+    let asked = before.asked;
+    let moded = before.moded;
+    let mut set = before.set;
+    if scope >= node::SCOPE_LIMIT {
+        return State {
+            words,
+            asked,
+            moded,
+            set,
+        };
+    }
+    let told = then_ask(moded, set[scope], Refusal::Mode, w);
+    set[scope] = false;
+    State {
+        words,
+        asked,
+        moded: told,
+        set,
+    }
+}
+
+// The variables in scope, if they are at most sixteen.
+pub fn outer_variables(scope: usize) -> [bool; 16]
+    ensures { λ r. ⌜ T.Outer scope r ⌝ }
+{
+    if node::SCOPE_LIMIT < scope {
+        return [false; 16];
+    }
+    mode::outer(scope)
+}
+
+// The variables of a quantifier are bound by its restriction.
+pub fn introduce(before: State, scope: usize, v: usize, w: usize) -> State
+    requires { ⌜ scope + v < 2 ^ 32 ⌝ }
+    ensures { λ r. ⌜ T.Introduced scope v w before r ⌝ }
+{
+    let words = before.words;
+    let asked = before.asked;
+    let moded = before.moded;
+    let set = before.set;
+    if node::SCOPE_LIMIT < scope + v {
+        return State {
+            words,
+            asked,
+            moded,
+            set,
+        };
+    }
+    let bound = mode::introduced(set, scope, v);
+    let told = then_ask(moded, bound, Refusal::Mode, w);
+    State {
+        words,
+        asked,
+        moded: told,
+        set,
     }
 }

@@ -3,13 +3,15 @@ use crate::behind::then_expect;
 use crate::behind::then_token;
 use crate::binder::Counted;
 use crate::binder::then_variable;
+use crate::laying::MOST;
 use crate::laying::more_words;
 use crate::laying::then_integer;
 use crate::tokens::Step;
 use crate::tokens::opening;
 use crate::tokens::skip;
 use model::Refusal;
-ghost use Prim.Native.Nat.{_+_, _-_, _≤_, _<_, _^_};
+ghost use mathlib.Core.Path.{_≡_};
+ghost use Prim.Native.Nat.{_+_, _*_, _-_, _≤_, _<_, _^_, min};
 ghost use lib.ListN.{length};
 ghost use Rattle.model.specs.TptpReading as R;
 ghost use Rattle.parsing.specs.Steps.{Valued, Within, Behind};
@@ -50,17 +52,36 @@ fn unequals(text: &[u8], before: Step, x: usize, v: usize, out: &mut [i32], w: u
     further(text, first, x + 1, v - 1, out, w + 1)
 }
 
+// A tuple of v variables begins here: those of more than one stand in parentheses.
+fn opened(text: &[u8], at: usize, room: usize, v: usize) -> Step
+    requires { ⌜ at ≤ length (now text) ⌝ }
+    ensures { λ r. ⌜ T.Opened room v (now (text .entry)) at r ⌝ }
+{
+    if v == 1 {
+        return Step::At(at);
+    }
+    opening(text, at, room)
+}
+
+// A tuple of v variables ends.
+fn closed(text: &[u8], before: Step, v: usize) -> Step
+    requires { ⌜ Within (now text) before ⌝ }
+    ensures { λ r. ⌜ T.Closed v (now (text .entry)) before r ⌝ }
+{
+    if v == 1 {
+        return before;
+    }
+    then_expect(text, before, 41)
+}
+
 // An excluded tuple of v variables from x on.
 fn tuple(text: &[u8], at: usize, room: usize, v: usize, x: usize, out: &mut [i32], w: usize) -> Step
     requires { ⌜ (at ≤ length (now text)) × (1 ≤ v) × (x + v < 2 ^ 32) × (w + v < 2 ^ 32) ⌝ }
     ensures { λ r. ⌜ Valued (R.readTuple room v x) (T.StoredAll v w (now (out .entry)) (now (out .exit))) (now (text .entry)) at r ⌝ }
 {
-    if v == 1 {
-        return unequals(text, Step::At(at), x, v, out, w);
-    }
-    let open = opening(text, at, room);
+    let open = opened(text, at, room, v);
     let inside = unequals(text, open, x, v, out, w);
-    then_expect(text, inside, 41)
+    closed(text, inside, v)
 }
 
 // Excluded tuples of v variables from x on, each behind a connective. Their numbers become the words from an index on.
@@ -101,4 +122,15 @@ pub fn tuples(
         count += 1;
         to = more_words(to, v);
     }
+}
+
+// The words behind so many excluded tuples of v variables.
+pub fn behind_tuples(w: usize, v: usize, count: usize) -> usize
+    requires { ⌜ (w ≤ L.mostWords) × (1 ≤ v) × (v ≤ 4) ⌝ }
+    ensures { λ r. ⌜ r ≡ min (w + v * count) L.mostWords ⌝ }
+{
+    if MOST < count {
+        return MOST;
+    }
+    more_words(w, v * count)
 }

@@ -136,7 +136,7 @@ fn variables(words: &[i32], scope: usize, first: usize, n: usize) -> bool
 }
 
 // A node in this role is a formula.
-fn is_formula(role: Role) -> bool
+pub fn is_formula(role: Role) -> bool
     ensures { λ r. ⌜ r ≡ isFormula (asRole role) ⌝ }
 {
     match role {

@@ -158,3 +158,53 @@ pub extern "C" fn vh_write_log(
     *detail = detail_of(answer);
     number_of(answer)
 }
+
+// Reads a policy from text in the TPTP typed form: questions 1, 15 (or 4, of parentheses), 2 to 7 of the words that it spells, and
+// 12. The count is the number of words. The rest of the buffer, or all of it if the call is refused, becomes zero.
+#[no_mangle]
+pub extern "C" fn vh_read_policy(
+    table: &[i32],
+    text: &[u8],
+    buffer: &mut [i32],
+    detail: &mut u64,
+) -> u32
+    ensures { λ r. ⌜
+        r ≡ number (C.readPolicyCall (now (table .entry)) (now (text .entry)) (length (now (buffer .entry))) .answer)
+        ⌝ }
+    ensures { λ _. ⌜
+        now (detail .exit)
+        ≡ detailed (C.readPolicyCall (now (table .entry)) (now (text .entry)) (length (now (buffer .entry))) .answer)
+        ⌝ }
+    ensures { λ _. ⌜
+        now (buffer .exit) ≡ C.readPolicyCall (now (table .entry)) (now (text .entry)) (length (now (buffer .entry))) .buffer
+        ⌝ }
+{
+    let answer = auditor::read_policy(table, text, buffer);
+    *detail = detail_of(answer);
+    number_of(answer)
+}
+
+// Writes a policy as text in the TPTP typed form: questions 1 to 7 and 12. The count is the number of bytes. The rest of the
+// buffer, or all of it if the call is refused, becomes zero.
+#[no_mangle]
+pub extern "C" fn vh_write_policy(
+    table: &[i32],
+    policy: &[i32],
+    buffer: &mut [u8],
+    detail: &mut u64,
+) -> u32
+    ensures { λ r. ⌜
+        r ≡ number (C.writePolicyCall (now (table .entry)) (now (policy .entry)) (length (now (buffer .entry))) .answer)
+        ⌝ }
+    ensures { λ _. ⌜
+        now (detail .exit)
+        ≡ detailed (C.writePolicyCall (now (table .entry)) (now (policy .entry)) (length (now (buffer .entry))) .answer)
+        ⌝ }
+    ensures { λ _. ⌜
+        now (buffer .exit) ≡ C.writePolicyCall (now (table .entry)) (now (policy .entry)) (length (now (buffer .entry))) .buffer
+        ⌝ }
+{
+    let answer = auditor::write_policy(table, policy, buffer);
+    *detail = detail_of(answer);
+    number_of(answer)
+}

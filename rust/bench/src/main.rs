@@ -1,19 +1,22 @@
 //! Measures the library against the reference and, for some calls, against hand-written code: same run, same inputs, in
 //! turns.
 //!
-//! The policy has 1,048,576 words, the greatest number allowed. The logs have 256, 1,024 and 4,096 rows, to see whether
-//! the time grows with the rows; 4,096 is the greatest number allowed. What is reduced is said with each input.
+//! The policies have 1,048,576 words, the greatest number allowed, or nearly. The logs have 256, 1,024 and 4,096 rows,
+//! to see whether the time grows with the rows; 4,096 is the greatest number allowed. What is reduced is said with each
+//! input.
 //!
-//! The reference reads a policy into a tree, a text into records of fields, and keeps the rows of a log in a hash
-//! table, so a ratio to it that is below 1 says little about the library alone. Of the hand-written code, the log check
-//! and the writing of a log allocate nothing, like the library; the reading of a log allocates the rows, the reduction
-//! the residual, a list of the policy's quantifiers and a hash table of tuples.
+//! The reference reads a policy and its text into trees, a log's text into records of fields, and keeps the rows of a
+//! log in a hash table, so a ratio to it that is below 1 says little about the library alone. Of the hand-written code,
+//! the log check, the writing of a log, and reading and writing of a policy allocate nothing, like the library, unless
+//! a policy that is read does not fit the buffer; the reading of a log allocates the rows, the reduction the residual,
+//! a list of the policy's quantifiers and a hash table of tuples.
 
 mod hospital;
 mod keys;
 mod logs;
 mod measure;
 mod peer;
+mod policy_texts;
 mod reductions;
 mod report;
 mod texts;
@@ -42,6 +45,7 @@ fn main() {
     policies();
     let measured = logs();
     let texts = texts::measure_all();
+    let policy_texts = policy_texts::measure_all();
     let reductions = reductions::measure_all();
     println!();
     println!("The ratios are those of the medians.");
@@ -49,6 +53,8 @@ fn main() {
     print_rows(&measured);
     println!();
     texts::print(&texts);
+    println!();
+    policy_texts::print(&policy_texts);
     println!();
     reductions::print(&reductions);
 }

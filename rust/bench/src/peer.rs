@@ -1,4 +1,4 @@
-//! The log check, logs as text and the reduction as one would write them by hand for speed.
+//! The log check, logs and policies as text and the reduction as one would write them by hand for speed.
 //!
 //! They are the measure for the library, and nothing else uses them. A policy stays words: the check notes where each
 //! quantifier's restriction and body begin, and the walk goes over the words. Environments lie in the lent scratch, one
@@ -11,12 +11,14 @@ mod listing;
 mod log;
 mod log_text;
 mod policy;
+mod policy_text;
 mod reduction;
 #[cfg(test)]
 mod tests;
 
 pub use log::check_log;
 pub use log_text::{read_log, write_log};
+pub use policy_text::{read_policy, write_policy};
 
 use listing::{Lists, WORDS};
 use log::{check_table, Index, Slots, SLOTS};

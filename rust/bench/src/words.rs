@@ -5,6 +5,11 @@ pub fn constant(value: i32) -> [i32; 2] {
     [0, value]
 }
 
+/// A variable.
+pub fn variable(number: i32) -> [i32; 2] {
+    [1, number]
+}
+
 /// An atom holds.
 pub fn holds(predicate: i32, terms: &[[i32; 2]]) -> Vec<i32> {
     [&[2, predicate, terms.len() as i32], terms.as_flattened()].concat()

@@ -7,6 +7,7 @@ mod cases;
 mod damage;
 mod logs;
 mod policies;
+mod policy_texts;
 mod random;
 mod recipe;
 mod shrink;
@@ -17,6 +18,10 @@ pub use cases::Case;
 pub use damage::{boundary_word, damage, noise};
 pub use logs::{counting_log, damaged_log, decimal_log, extension, full_log, good_log, random_log, FULL_LOG_TABLE};
 pub use policies::{long_policy, policy};
+pub use policy_texts::{
+    damage_policy_text, deep_policy_texts, noise_policy_text, slipping_policy_text, spelled_policy, DeepText,
+    PolicySpelling, POLICY_TEXT_BYTES,
+};
 pub use random::Random;
 pub use recipe::Recipe;
 pub use shrink::shrink;

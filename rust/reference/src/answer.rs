@@ -49,7 +49,7 @@ pub enum Question {
     PolicyLength = 2,
     /// Are the nodes well formed, and do they make up one tree?
     Shape = 3,
-    /// Is the node within the limit of levels?
+    /// Is the node within the limit of levels, or the parenthesis within that of open ones?
     Level = 4,
     /// Does the atom fit a predicate?
     Predicate = 5,
@@ -71,6 +71,8 @@ pub enum Question {
     Csv = 13,
     /// Is the record a row, and good by itself?
     Record = 14,
+    /// Is the text a policy in the TPTP typed form?
+    Tptp = 15,
 }
 
 impl Question {

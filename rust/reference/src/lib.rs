@@ -1,8 +1,9 @@
 //! An independent implementation of the calls, for comparison.
 //!
 //! It is written for its readers: a policy is read into a tree of enums, the trees are worked on by plain recursion
-//! (an accepted policy has at most 64 levels), and the result is written back as words. A text is read into records of
-//! fields, and these into rows. Nothing here is proved.
+//! (an accepted policy has at most 64 levels), and the result is written back as words. The text of a log is read into
+//! records of fields, and these into rows; the text of a policy into a tree, and this into words. Nothing here is
+//! proved.
 //!
 //! ```
 //! use reference::{check_policy, Answer};
@@ -19,15 +20,18 @@ pub mod listing;
 mod log;
 mod log_text;
 mod mode;
+mod policy_text;
 mod reader;
 mod reduction;
 mod table;
+pub mod tptp;
 pub mod tree;
 pub mod truth;
 
 pub use answer::{Answer, Question, Refused};
 pub use log::{GroundAtom, Log, ROW};
-pub use reader::{read_policy, Policy, MOST_WORDS};
+pub use policy_text::words_of;
+pub use reader::{Policy, MOST_WORDS};
 pub use table::{read_table, Predicate};
 
 use reduction::{Reducer, Residual};
@@ -37,7 +41,7 @@ pub const PLACE: usize = 17;
 
 /// Checks a policy (questions 1 to 7). The count is the greatest level.
 pub fn check_policy(table: &[i32], policy: &[i32]) -> Answer {
-    let policy = read_table(table).and_then(|predicates| read_policy(&predicates, policy));
+    let policy = read_table(table).and_then(|predicates| Policy::read(&predicates, policy));
     policy.map(|policy| policy.greatest_level).into()
 }
 
@@ -54,7 +58,7 @@ pub fn check_log(table: &[i32], log: &[i32]) -> Answer {
 pub fn dual(table: &[i32], policy: &[i32], buffer: &mut [i32]) -> Answer {
     buffer.fill(0);
     read_table(table)
-        .and_then(|predicates| read_policy(&predicates, policy))
+        .and_then(|predicates| Policy::read(&predicates, policy))
         .and_then(|policy| put(&dual::dual(policy.root).to_words(), buffer))
         .into()
 }
@@ -89,6 +93,23 @@ pub fn write_log(table: &[i32], log: &[i32], buffer: &mut [u8]) -> Answer {
     text_of_log(table, log).and_then(|text| put(&text, buffer)).into()
 }
 
+/// Reads a policy from text in the TPTP typed form and writes its words (questions 1, 15, 2 to 7 and 12; question 4
+/// also of the text's parentheses). The count is the number of words.
+///
+/// Behind the words the buffer has zeros; if the call is refused, zeros only.
+pub fn read_policy(table: &[i32], text: &[u8], buffer: &mut [i32]) -> Answer {
+    buffer.fill(0);
+    policy_of_text(table, text).and_then(|words| put(&words, buffer)).into()
+}
+
+/// Writes a policy as text in the TPTP typed form (questions 1 to 7 and 12). The count is the number of bytes.
+///
+/// Behind the text the buffer has zeros; if the call is refused, zeros only.
+pub fn write_policy(table: &[i32], policy: &[i32], buffer: &mut [u8]) -> Answer {
+    buffer.fill(0);
+    text_of_policy(table, policy).and_then(|text| put(&text, buffer)).into()
+}
+
 /// The words of a log that is given as text (questions 1, 13, 14, 8 and 10).
 pub fn log_of_text(table: &[i32], text: &[u8]) -> Result<Vec<i32>, Refused> {
     let predicates = read_table(table)?;
@@ -106,6 +127,21 @@ pub fn text_of_log(table: &[i32], log: &[i32]) -> Result<Vec<u8>, Refused> {
     Ok(log_text::write_rows(&predicates, log))
 }
 
+/// The words of a policy that is given as text (questions 1, 15 and 2 to 7).
+pub fn policy_of_text(table: &[i32], text: &[u8]) -> Result<Vec<i32>, Refused> {
+    let predicates = read_table(table)?;
+    let words = words_of(&tptp::read_tree(text)?);
+    Policy::read(&predicates, &words)?;
+    Ok(words)
+}
+
+/// The text of a policy (questions 1 to 7).
+pub fn text_of_policy(table: &[i32], policy: &[i32]) -> Result<Vec<u8>, Refused> {
+    let predicates = read_table(table)?;
+    let policy = Policy::read(&predicates, policy)?;
+    Ok(policy_text::text_of(&policy.root).into_bytes())
+}
+
 /// The places of scratch that reducing a policy over a log needs (questions 1 to 10).
 pub fn places(table: &[i32], policy: &[i32], log: &[i32]) -> Result<usize, Refused> {
     places_within(table, policy, log, usize::MAX)
@@ -114,7 +150,7 @@ pub fn places(table: &[i32], policy: &[i32], log: &[i32]) -> Result<usize, Refus
 /// The same, if the need is at most so many places (question 11).
 pub fn places_within(table: &[i32], policy: &[i32], log: &[i32], most: usize) -> Result<usize, Refused> {
     let predicates = read_table(table)?;
-    let policy = read_policy(&predicates, policy)?;
+    let policy = Policy::read(&predicates, policy)?;
     let log = Log::read(&predicates, log)?;
     reduction::places(&log, &policy.root, most).ok_or(Question::Scratch.at(0))
 }
@@ -122,7 +158,7 @@ pub fn places_within(table: &[i32], policy: &[i32], log: &[i32], most: usize) ->
 /// The words of the residual, if so many words of scratch and a buffer of so many are enough (questions 1 to 12).
 pub fn residual(table: &[i32], policy: &[i32], log: &[i32], scratch: usize, room: usize) -> Result<Vec<i32>, Refused> {
     let predicates = read_table(table)?;
-    let policy = read_policy(&predicates, policy)?;
+    let policy = Policy::read(&predicates, policy)?;
     let log = Log::read(&predicates, log)?;
     reduction::places(&log, &policy.root, scratch / PLACE).ok_or(Question::Scratch.at(0))?;
     let reducer = Reducer {

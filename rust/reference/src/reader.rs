@@ -23,26 +23,28 @@ pub struct Policy {
     pub greatest_level: usize,
 }
 
-/// Questions 2 to 7: reads a policy.
-pub fn read_policy(predicates: &[Predicate], words: &[i32]) -> Result<Policy, Refused> {
-    if words.is_empty() || words.len() > MOST_WORDS {
-        return Err(Question::PolicyLength.at(0));
+impl Policy {
+    /// Questions 2 to 7: reads a policy.
+    pub fn read(predicates: &[Predicate], words: &[i32]) -> Result<Self, Refused> {
+        if words.is_empty() || words.len() > MOST_WORDS {
+            return Err(Question::PolicyLength.at(0));
+        }
+        let mut reader = Reader {
+            predicates,
+            words,
+            next: 0,
+            greatest_level: 0,
+        };
+        let root = reader.formula(0, None, 0)?;
+        if reader.next < words.len() {
+            return Err(Question::Shape.at(reader.next));
+        }
+        mode::check(predicates, &root)?;
+        Ok(Policy {
+            root,
+            greatest_level: reader.greatest_level,
+        })
     }
-    let mut reader = Reader {
-        predicates,
-        words,
-        next: 0,
-        greatest_level: 0,
-    };
-    let root = reader.formula(0, None, 0)?;
-    if reader.next < words.len() {
-        return Err(Question::Shape.at(reader.next));
-    }
-    mode::check(predicates, &root)?;
-    Ok(Policy {
-        root,
-        greatest_level: reader.greatest_level,
-    })
 }
 
 /// The own words of a node of tag 0 to 7, with nothing asked of predicates and variables yet.

@@ -2,7 +2,7 @@
 
 use inputs::{extension, good_log, good_table, policy, small_table, Random, Recipe};
 use reference::truth::Structure;
-use reference::{check_policy, read_policy, read_table, reduce, Answer, Log, Predicate};
+use reference::{check_policy, read_table, reduce, Answer, Log, Policy, Predicate};
 
 /// Constants and rows use 0 to 2; 3 is a value that no row has, in the log that is reduced over.
 const VALUES: usize = 3;
@@ -79,8 +79,8 @@ impl Case {
     /// Checks a policy held at the end: the same truth in extensions of the whole log, and no work left in it.
     /// Returns the truths.
     fn judge(&self, random: &mut Random, held: &[i32]) -> Vec<Option<bool>> {
-        let before = read_policy(&self.predicates, &self.policy).unwrap().root;
-        let after = read_policy(&self.predicates, held).unwrap().root;
+        let before = Policy::read(&self.predicates, &self.policy).unwrap().root;
+        let after = Policy::read(&self.predicates, held).unwrap().root;
         let whole = Log::read(&self.predicates, &self.log).unwrap();
         assert!(structure(&whole).is_settled(&after));
         let mut again = held.to_vec();

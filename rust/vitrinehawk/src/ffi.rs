@@ -58,6 +58,26 @@ extern "C" {
         buffer_len: usize,
         detail: *mut u64,
     ) -> u32;
+
+    fn vh_read_policy(
+        table: *const i32,
+        table_len: usize,
+        text: *const u8,
+        text_len: usize,
+        buffer: *mut i32,
+        buffer_len: usize,
+        detail: *mut u64,
+    ) -> u32;
+
+    fn vh_write_policy(
+        table: *const i32,
+        table_len: usize,
+        policy: *const i32,
+        policy_len: usize,
+        buffer: *mut u8,
+        buffer_len: usize,
+        detail: *mut u64,
+    ) -> u32;
 }
 
 /// The number of a call, and its count or place.
@@ -149,6 +169,38 @@ pub fn write_log(table: &[i32], log: &[i32], buffer: &mut [u8]) -> Answer {
             table.len(),
             log.as_ptr(),
             log.len(),
+            buffer.as_mut_ptr(),
+            buffer.len(),
+            detail,
+        )
+    })
+}
+
+/// The answer of reading a policy from text, whose words are then in the buffer.
+pub fn read_policy(table: &[i32], text: &[u8], buffer: &mut [i32]) -> Answer {
+    // SAFETY: pointers and lengths are those of live slices; the borrows keep the buffer apart from the others.
+    answer(|detail| unsafe {
+        vh_read_policy(
+            table.as_ptr(),
+            table.len(),
+            text.as_ptr(),
+            text.len(),
+            buffer.as_mut_ptr(),
+            buffer.len(),
+            detail,
+        )
+    })
+}
+
+/// The answer of writing a policy as text, which is then in the buffer.
+pub fn write_policy(table: &[i32], policy: &[i32], buffer: &mut [u8]) -> Answer {
+    // SAFETY: pointers and lengths are those of live slices; the borrows keep the buffer apart from the others.
+    answer(|detail| unsafe {
+        vh_write_policy(
+            table.as_ptr(),
+            table.len(),
+            policy.as_ptr(),
+            policy.len(),
             buffer.as_mut_ptr(),
             buffer.len(),
             detail,

@@ -56,8 +56,34 @@
 //! assert_eq!(buffer[..bytes], *b"0,1,7,9,100\r\n1,1,9,50\r\n");
 //! # Ok::<(), vitrinehawk::Refused>(())
 //! ```
+//!
+//! A policy may come as text in the TPTP typed form, and may be written so, for provers and lawyers' tools.
+//!
+//! ```
+//! use vitrinehawk::{declarations, read_policy, write_policy};
+//!
+//! let table = [3, 0, 0, 2, 0, 1, 1, 1, 0];
+//! let text = b"tff(believes, axiom,
+//!     ! [X0: $int, X1: $int, X2: $int]: (p0(X0, X1, X2) => p2(X1))).";
+//!
+//! // No text has more words than bytes.
+//! let mut policy = vec![0; text.len()];
+//! let words = read_policy(&table, text, &mut policy)?;
+//! policy.truncate(words);
+//! assert_eq!(policy, [8, 3, 0, 2, 0, 3, 1, 0, 1, 1, 1, 2, 2, 2, 1, 1, 1]);
+//!
+//! let mut buffer = [0; 100];
+//! let bytes = write_policy(&table, &policy, &mut buffer)?;
+//! let written = b"tff(a,axiom,![X0:$int,X1:$int,X2:$int]:(p0(X0,X1,X2)=>p2(X1))).";
+//! assert_eq!(buffer[..bytes], *written);
+//!
+//! // What a prover has to be told first.
+//! assert!(declarations(&table).starts_with("tff(p0,type,p0:($int*$int*$int)>$o).\n"));
+//! # Ok::<(), vitrinehawk::Refused>(())
+//! ```
 
 mod audit;
+mod declarations;
 mod ffi;
 mod refusal;
 
@@ -67,6 +93,7 @@ mod refusal;
 mod readme {}
 
 pub use audit::audit;
+pub use declarations::declarations;
 pub use refusal::{Refusal, Refused};
 
 /// The greatest number of words of a policy, a residual or a dual.
@@ -204,11 +231,69 @@ pub fn write_log(table: &[i32], log: &[i32], buffer: &mut [u8]) -> Result<usize,
     written(ffi::write_log(table, log, buffer), buffer.len())
 }
 
+/// Reads a policy from text in the TPTP typed form, writes its words to the front of a buffer (questions 1, 15, 2 to 7
+/// and 12) and returns their number.
+///
+/// The text is one axiom with any name, and blanks and line ends may stand between its tokens. Question 4 is asked of
+/// its parentheses too, of which at most 256 are open at once; all other places of questions 2 to 7 are places in the
+/// words. No text has more words than bytes. All of the buffer is written: behind the policy it has zeros, and if the
+/// call is refused zeros only.
+///
+/// ```
+/// use vitrinehawk::{read_policy, Refusal, Refused};
+///
+/// let table = [3, 0, 0, 2, 0, 1, 1, 1, 0];
+/// let mut buffer = [0; 16];
+/// let exists = b"tff(by_100, axiom, ?[X0:$int]: (p1(9,X0) & $lesseq($sum(X0,0),100))).";
+/// assert_eq!(read_policy(&table, exists, &mut buffer), Ok(16));
+/// assert_eq!(buffer, [9, 1, 0, 2, 1, 2, 0, 9, 1, 0, 4, 0, 1, 0, 0, 100]);
+///
+/// // Connectives are not mixed without parentheses. The words are asked like those of any policy.
+/// let mixed = read_policy(&table, b"tff(a,axiom,p2(1)&p2(2)|p2(3)).", &mut buffer);
+/// assert_eq!(mixed, Err(Refused { refusal: Refusal::Tptp, place: 23 }));
+/// let unbound = read_policy(&table, b"tff(a,axiom,![X0:$int]:(p2(X0)=>$true)).", &mut buffer);
+/// assert_eq!(unbound, Err(Refused { refusal: Refusal::Mode, place: 3 }));
+/// ```
+///
+/// # Errors
+///
+/// The first question answered with "no", and where.
+pub fn read_policy(table: &[i32], text: &[u8], buffer: &mut [i32]) -> Result<usize, Refused> {
+    words_read(ffi::read_policy(table, text, buffer), text.len(), buffer.len())
+}
+
+/// Writes a policy as text in the TPTP typed form to the front of a buffer (questions 1 to 7 and 12) and returns the
+/// number of bytes.
+///
+/// Its name is `a`, and there are no blanks. [`read_policy`] reads the same policy from it. 18 bytes for each word and
+/// 14 more are enough for every policy. All of the buffer is written: behind the text it has zeros, and if the call is
+/// refused zeros only.
+///
+/// ```
+/// use vitrinehawk::{write_policy, Refusal};
+///
+/// let table = [3, 0, 0, 2, 0, 1, 1, 1, 0];
+/// // For all x other than 7 that consented at time 50: x does not believe, or x is at most 0.
+/// let policy = [8, 1, 1, 7, 2, 1, 2, 1, 0, 0, 50, 7, 2, 3, 2, 1, 1, 0, 4, 0, 1, 0, 0, 0];
+/// let text = b"tff(a,axiom,![X0:$int]:((p1(X0,50)&X0!=7)=>(~p2(X0)|$lesseq($sum(X0,0),0)))).";
+/// let mut buffer = [0; 77];
+/// assert_eq!(write_policy(&table, &policy, &mut buffer), Ok(77));
+/// assert_eq!(buffer, *text);
+/// assert_eq!(write_policy(&table, &policy, &mut buffer[1..]).unwrap_err().refusal, Refusal::Room);
+/// ```
+///
+/// # Errors
+///
+/// The first question answered with "no", and where.
+pub fn write_policy(table: &[i32], policy: &[i32], buffer: &mut [u8]) -> Result<usize, Refused> {
+    text_written(ffi::write_policy(table, policy, buffer), buffer.len())
+}
+
 /// The count of an answer, or its refusal.
 ///
 /// # Panics
 ///
-/// If the library breaks its promise: numbers are 0 to 14, counts and places at most 1,048,576.
+/// If the library breaks its promise: numbers are 0 to 15, counts and places at most 1,048,576.
 fn result(answer: ffi::Answer) -> Result<usize, Refused> {
     result_up_to(answer, MOST_WORDS)
 }
@@ -247,6 +332,28 @@ fn rows_written(answer: ffi::Answer, bytes: usize, room: usize) -> Result<usize,
     Ok(rows)
 }
 
+/// The same for a call that reads a text of so many bytes and writes words to a buffer of so many.
+///
+/// # Panics
+///
+/// If the library breaks its promise: no place is behind the end of a long text, and the words are in the buffer.
+fn words_read(answer: ffi::Answer, bytes: usize, room: usize) -> Result<usize, Refused> {
+    let words = result_up_to(answer, MOST_WORDS.max(bytes))?;
+    assert!(words <= room, "{words} do not fit the buffer");
+    Ok(words)
+}
+
+/// The same for a call that writes a text to a buffer of so many bytes.
+///
+/// # Panics
+///
+/// If the library breaks its promise: the text, which may be long, is in the buffer.
+fn text_written(answer: ffi::Answer, room: usize) -> Result<usize, Refused> {
+    let bytes = result_up_to(answer, MOST_WORDS.max(room))?;
+    assert!(bytes <= room, "{bytes} do not fit the buffer");
+    Ok(bytes)
+}
+
 #[cfg(test)]
 mod tests {
     use super::*;
@@ -269,9 +376,9 @@ mod tests {
     }
 
     #[test]
-    #[should_panic(expected = "no question has the number 15")]
-    fn a_fifteenth_refusal_is_none() {
-        let _ = result(answer(15, 0));
+    #[should_panic(expected = "no question has the number 16")]
+    fn a_sixteenth_refusal_is_none() {
+        let _ = result(answer(16, 0));
     }
 
     #[test]
@@ -312,6 +419,25 @@ mod tests {
             );
         }
         let _ = rows_written(answer(13, 2_000_001), 2_000_000, 0);
+    }
+
+    #[test]
+    #[should_panic(expected = "3 do not fit the buffer")]
+    fn words_of_a_text_are_in_the_buffer() {
+        let (refusal, place) = (Refusal::Tptp, 2_000_000);
+        assert_eq!(
+            words_read(answer(15, 2_000_000), place, 0),
+            Err(Refused { refusal, place })
+        );
+        assert_eq!(words_read(answer(0, 2), 20, 2), Ok(2));
+        let _ = words_read(answer(0, 3), 20, 2);
+    }
+
+    #[test]
+    #[should_panic(expected = "no count and no place is 2000001")]
+    fn a_long_text_is_in_the_buffer() {
+        assert_eq!(text_written(answer(0, 2_000_000), 2_000_000), Ok(2_000_000));
+        let _ = text_written(answer(0, 2_000_001), 2_000_000);
     }
 
     #[test]

@@ -3,7 +3,7 @@
 use std::error::Error;
 use std::fmt;
 
-/// The question that was answered with "no". The calls put them in this order, but 13 and 14 right behind 1.
+/// The question that was answered with "no". The calls put them in this order, but 13, 14 and 15 right behind 1.
 #[derive(Clone, Copy, Debug, PartialEq, Eq, PartialOrd, Ord, Hash)]
 pub enum Refusal {
     /// 1: the table has a bad length (place 0) or a bad record (place: the predicate).
@@ -12,7 +12,8 @@ pub enum Refusal {
     PolicyLength = 2,
     /// 3: a node is malformed or not allowed there, a node is missing, or words follow the tree (place: a word).
     Shape = 3,
-    /// 4: a node lies deeper than 64 levels (place: its first word).
+    /// 4: a node lies deeper than 64 levels (place: its first word); or a text opens a 257th parenthesis at once
+    /// (place: its byte).
     Level = 4,
     /// 5: an atom's predicate does not exist or has another arity (place: the atom's first word).
     Predicate = 5,
@@ -34,11 +35,14 @@ pub enum Refusal {
     Csv = 13,
     /// 14: a record of the text is not a row, or not a good one (place: the record).
     Record = 14,
+    /// 15: the text is not a policy in the TPTP typed form (place: the first byte that cannot stand there, or the
+    /// length).
+    Tptp = 15,
 }
 
 impl Refusal {
     /// All refusals, by their numbers.
-    pub const ALL: [Refusal; 14] = [
+    pub const ALL: [Refusal; 15] = [
         Refusal::Table,
         Refusal::PolicyLength,
         Refusal::Shape,
@@ -53,14 +57,15 @@ impl Refusal {
         Refusal::Room,
         Refusal::Csv,
         Refusal::Record,
+        Refusal::Tptp,
     ];
 
-    /// The number of the question, 1 to 14.
+    /// The number of the question, 1 to 15.
     pub const fn number(self) -> u32 {
         self as u32
     }
 
-    /// The refusal with a number, if it is 1 to 14.
+    /// The refusal with a number, if it is 1 to 15.
     pub fn from_number(number: u32) -> Option<Refusal> {
         Refusal::ALL.into_iter().find(|refusal| refusal.number() == number)
     }
@@ -72,7 +77,7 @@ impl fmt::Display for Refusal {
             Refusal::Table => "the predicate table is not good",
             Refusal::PolicyLength => "the policy has no word or too many",
             Refusal::Shape => "the policy's words do not make up one tree",
-            Refusal::Level => "a node lies too deep",
+            Refusal::Level => "a node or a parenthesis lies too deep",
             Refusal::Predicate => "an atom does not fit a predicate",
             Refusal::Variable => "a variable is out of scope, or too many are in scope",
             Refusal::Mode => "the mode rule is broken",
@@ -83,6 +88,7 @@ impl fmt::Display for Refusal {
             Refusal::Room => "the result does not fit the buffer",
             Refusal::Csv => "the text is not one that RFC 4180 allows",
             Refusal::Record => "a record of the text is not a row",
+            Refusal::Tptp => "the text is not a policy in the TPTP typed form",
         })
     }
 }

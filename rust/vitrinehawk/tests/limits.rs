@@ -1,9 +1,9 @@
 //! Fixed inputs: the greatest policies, logs, texts and residuals, and absurd counts.
 
-use inputs::{full_log, long_policy, spelled_text, Random, Spelling, FULL_LOG_TABLE};
+use inputs::{full_log, long_policy, spelled_policy, spelled_text, PolicySpelling, Random, Spelling, FULL_LOG_TABLE};
 use vitrinehawk::{
-    audit, check_log, check_policy, dual, read_log, reduce, write_log, Refusal, Refused, MOST_ROWS, MOST_WORDS,
-    PLACE_WORDS,
+    audit, check_log, check_policy, dual, read_log, read_policy, reduce, write_log, write_policy, Refusal, Refused,
+    MOST_ROWS, MOST_WORDS, PLACE_WORDS,
 };
 
 /// send (open), consent (complete), believes (its argument is an input, open).
@@ -262,6 +262,155 @@ fn very_long_fields() {
     assert_eq!(
         read(&[&many[..], b"1"].concat(), 8).0,
         refused(Refusal::Record, 100_000)
+    );
+}
+
+/// Reads a policy's text into a buffer of so many words, full of others at first, and checks that only the policy's
+/// words are left in it.
+fn read_words(text: &[u8], room: usize) -> (Result<usize, Refused>, Vec<i32>) {
+    let mut buffer = vec![-1; room];
+    let answer = read_policy(&T, text, &mut buffer);
+    let rest = buffer.split_off(answer.unwrap_or(0));
+    assert!(rest.iter().all(|word| *word == 0));
+    (answer, buffer)
+}
+
+/// Checks that a long policy is written and read back, with buffers that just fit, are longer, and are too short.
+/// Returns its text.
+fn check_text(policy: &[i32]) -> Vec<u8> {
+    let text = spelled_policy(&mut Random::new(0), policy, PolicySpelling::PLAIN);
+    let (words, bytes) = (policy.len(), text.len());
+    assert!(words <= bytes && bytes <= 18 * words + 14);
+    for room in [words, words + 9] {
+        let (answer, read) = read_words(&text, room);
+        assert!(answer == Ok(words) && read == policy);
+    }
+    for room in [0, words - 1] {
+        assert_eq!(read_words(&text, room).0, refused(Refusal::Room, 0));
+    }
+    let mut buffer = vec![1; bytes + 3];
+    assert_eq!(write_policy(&T, policy, &mut buffer), Ok(bytes));
+    assert!(buffer[..bytes] == text && buffer[bytes..] == [0; 3]);
+    buffer.fill(1);
+    let short = &mut buffer[..bytes - 1];
+    assert_eq!(write_policy(&T, policy, short), refused(Refusal::Room, 0));
+    assert!(short.iter().all(|byte| *byte == 0));
+    text
+}
+
+/// So many operands of an any-of.
+fn wide_text(operand: &str, count: usize) -> Vec<u8> {
+    format!("tff(a,axiom,{}).", vec![operand; count].join("|")).into_bytes()
+}
+
+#[test]
+fn the_longest_policy_texts() {
+    // Wide: one any-of with a million children. With one child more it is refused, whatever the buffer.
+    let mut wide = vec![1; MOST_WORDS];
+    wide[..2].copy_from_slice(&[7, MOST_WORDS as i32 - 2]);
+    assert!(check_text(&wide) == wide_text("$true", MOST_WORDS - 2));
+    let longer = wide_text("$true", MOST_WORDS - 1);
+    for room in [0, MOST_WORDS, MOST_WORDS + 1] {
+        assert_eq!(read_words(&longer, room).0, refused(Refusal::PolicyLength, 0));
+    }
+    // Whatever else is wrong with the words, but not with the text.
+    let atoms = |count| wide_text("p9(1)", count);
+    assert_eq!(read_words(&atoms(209_714), 0).0, refused(Refusal::Predicate, 2));
+    assert_eq!(read_words(&atoms(209_715), 0).0, refused(Refusal::PolicyLength, 0));
+    let text = atoms(3_000_000);
+    assert_eq!(read_words(&text, 9).0, refused(Refusal::PolicyLength, 0));
+    let last = text.len() - 1;
+    assert_eq!(read_words(&text[..last], 9).0, refused(Refusal::Tptp, last));
+    assert_eq!(
+        read_words(&[&text[..], b"%"].concat(), 9).0,
+        refused(Refusal::Tptp, last + 1)
+    );
+    let mut buffer = [1; 9];
+    let words = [&[6, MOST_WORDS as i32 - 1], &vec![1; MOST_WORDS - 1][..]].concat();
+    assert_eq!(write_policy(&T, &words, &mut buffer), refused(Refusal::PolicyLength, 0));
+    assert_eq!(buffer, [0; 9]);
+
+    // Mixed: children of all kinds.
+    let mixed = long_policy(&mut Random::new(0x5EED_0004), &T, MOST_WORDS);
+    check_text(&mixed);
+}
+
+#[test]
+fn the_longest_policy_texts_with_excluded_tuples() {
+    // A for-all that binds so many variables from a number on, each by an atom, with tuples of the least number.
+    let for_all = |from: i32, variables: i32, tuples: usize| {
+        let atoms = (from..from + variables).flat_map(|number| [2, 1, 2, 1, number, 1, number]);
+        let tuple = vec![i32::MIN; variables as usize];
+        let front = [8, variables, tuples as i32];
+        [
+            &front,
+            &tuple.repeat(tuples)[..],
+            &[6, variables],
+            &atoms.collect::<Vec<_>>(),
+        ]
+        .concat()
+    };
+    // Sixteen variables in all. A tuple of the last two takes 36 bytes, and so 18 for each word.
+    let outer = [for_all(0, 4, 0), for_all(4, 4, 0), for_all(8, 4, 0), for_all(12, 2, 0)].concat();
+    let policy = |tuples| [&outer[..], &for_all(14, 2, tuples), &[1]].concat();
+    let tuples = (MOST_WORDS - policy(0).len()) / 2;
+    assert!(policy(tuples).len() >= MOST_WORDS - 1);
+    let text = check_text(&policy(tuples));
+    assert!(text.len() > 18 * MOST_WORDS - 3_000);
+    let longer = spelled_policy(&mut Random::new(0), &policy(tuples + 1), PolicySpelling::PLAIN);
+    assert_eq!(read_words(&longer, 0).0, refused(Refusal::PolicyLength, 0));
+    // The last atom of the restriction, behind them all, breaks the mode rule.
+    let mut unbound = policy(tuples);
+    let last = unbound.len() - 1;
+    assert_eq!(unbound[last - 7..last], [2, 1, 2, 1, 15, 1, 15]);
+    unbound[last - 7] = 3;
+    let text = spelled_policy(&mut Random::new(0), &unbound, PolicySpelling::PLAIN);
+    for room in [0, MOST_WORDS] {
+        assert_eq!(read_words(&text, room).0, refused(Refusal::Mode, last - 7));
+    }
+    assert_eq!(write_policy(&T, &unbound, &mut []), refused(Refusal::Mode, last - 7));
+}
+
+/// Names, numbers and blanks with more bytes than a policy may have words.
+#[test]
+fn very_long_tokens() {
+    let length = 2 * MOST_WORDS;
+    let [letters, digits, blanks] = [b'a', b'1', b' '].map(|byte| vec![byte; length]);
+    let with = |front: &str, long: &[u8], back: &str| [front.as_bytes(), long, back.as_bytes()].concat();
+    assert_eq!(
+        read_words(&with("tff(", &letters, ",axiom,$true)."), 1),
+        (Ok(1), vec![1])
+    );
+    assert_eq!(
+        read_words(&with("tff(", &letters, "%"), 1).0,
+        refused(Refusal::Tptp, 4 + length)
+    );
+    for (front, back) in [
+        ("", "tff(a,axiom,$true)."),
+        ("tff(a,axiom,", "$true)."),
+        ("tff(a,axiom,$true).", ""),
+    ] {
+        assert_eq!(read_words(&with(front, &blanks, back), 1), (Ok(1), vec![1]));
+        assert_eq!(
+            read_words(&with(front, &blanks, "%"), 1).0,
+            refused(Refusal::Tptp, front.len() + length)
+        );
+    }
+    // A tenth digit is the last one, and an eleventh is too many.
+    for front in [
+        "tff(a,axiom,p2(",
+        "tff(a,axiom,p2(X",
+        "tff(a,axiom,p2(-",
+        "tff(a,axiom,p",
+    ] {
+        assert_eq!(
+            read_words(&with(front, &digits, ""), 1).0,
+            refused(Refusal::Tptp, front.len() + 10)
+        );
+    }
+    assert_eq!(
+        read_words(&with("tff(a,axiom,p2(", &vec![b'0'; length], ""), 1).0,
+        refused(Refusal::Tptp, 16)
     );
 }
 

@@ -6,7 +6,7 @@
 
 use inputs::{extension, shrink, Case, Random};
 use reference::truth::Structure;
-use reference::{read_policy, read_table, Answer, Log, PLACE};
+use reference::{read_table, Answer, Log, Policy, PLACE};
 use vitrinehawk::{check_policy, reduce, Refused};
 
 /// Rows use 0 to 2; 3 is a value that only rows of extensions have.
@@ -54,7 +54,7 @@ fn run(parts: &[Vec<i32>]) -> Result<Seen, String> {
     let Ok(predicates) = read_table(table) else {
         return Ok(seen);
     };
-    let (Ok(first), Ok(whole)) = (read_policy(&predicates, policy), Log::read(&predicates, log)) else {
+    let (Ok(first), Ok(whole)) = (Policy::read(&predicates, policy), Log::read(&predicates, log)) else {
         return Ok(seen);
     };
     if log
@@ -82,12 +82,12 @@ fn run(parts: &[Vec<i32>]) -> Result<Seen, String> {
             other => return Err(format!("the residual {held:?} is checked with {other:?}")),
         }
         let part = Log::read(&predicates, part).expect("a front part of a good log");
-        let residual = read_policy(&predicates, &held).expect("checked").root;
+        let residual = Policy::read(&predicates, &held).expect("checked").root;
         if !structure(&part).is_settled(&residual) {
             return Err(format!("{held:?} has something left to work"));
         }
     }
-    let last = read_policy(&predicates, &held).expect("checked").root;
+    let last = Policy::read(&predicates, &held).expect("checked").root;
     let mut random = Random::new(0xC000);
     let extensions = (0..4).map(|most| extension(&mut random, table, log, &UNIVERSE, 10 * most));
     for extended in extensions {

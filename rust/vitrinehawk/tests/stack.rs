@@ -1,8 +1,10 @@
-//! The deepest policies and the longest logs on a small stack.
+//! The deepest policies and the longest logs, as words and as text, on a small stack.
 
-use inputs::{full_log, FULL_LOG_TABLE};
+use inputs::{deep_policy_texts, full_log, FULL_LOG_TABLE};
 use reference::PLACE;
-use vitrinehawk::{check_log, check_policy, dual, read_log, reduce, write_log, Refusal, Refused};
+use vitrinehawk::{
+    check_log, check_policy, dual, read_log, read_policy, reduce, write_log, write_policy, Refusal, Refused,
+};
 
 /// link (two arguments, open), seen (one argument, open), known (one argument, complete).
 const TABLE: [i32; 9] = [2, 0, 0, 1, 0, 0, 1, 0, 1];
@@ -15,7 +17,7 @@ fn on_a_stack_of<T: Send + 'static>(kibibytes: usize, run: impl FnOnce() -> T + 
     small.spawn(run).unwrap().join().unwrap()
 }
 
-/// Makes the three calls on a small stack, with just enough scratch and buffer, and compares them with the reference.
+/// Makes the calls on a small stack, with just enough scratch and buffers, and compares them with the reference.
 /// Returns the residual.
 fn check(policy: &[i32], log: &[i32], level: usize, places: usize) -> Vec<i32> {
     let needed = reference::places(&TABLE, policy, log).unwrap();
@@ -23,6 +25,8 @@ fn check(policy: &[i32], log: &[i32], level: usize, places: usize) -> Vec<i32> {
     let residual = reference::residual(&TABLE, policy, log, PLACE * places, usize::MAX).unwrap();
     let mut opposite = vec![0; policy.len()];
     reference::dual(&TABLE, policy, &mut opposite);
+    check_text(policy);
+    check_text(&residual);
 
     let (policy, log, length) = (policy.to_vec(), log.to_vec(), residual.len());
     let (mut scratch, mut buffer, mut swapped) = (vec![1; PLACE * places], vec![2; length], vec![3; policy.len()]);
@@ -38,6 +42,58 @@ fn check(policy: &[i32], log: &[i32], level: usize, places: usize) -> Vec<i32> {
     assert!(scratch.iter().all(|word| *word == 0));
     assert!(buffer == residual && swapped == opposite);
     residual
+}
+
+/// Writes a policy as text on a small stack and reads it back, with just enough room and with none.
+fn check_text(policy: &[i32]) {
+    let text = reference::text_of_policy(&TABLE, policy).unwrap();
+    let (mut words, mut bytes) = (vec![1; policy.len()], vec![2; text.len()]);
+    let (given_policy, given_text) = (policy.to_vec(), text.clone());
+    let (answers, words, bytes) = on_a_stack_of(256, move || {
+        let answers = [
+            write_policy(&TABLE, &given_policy, &mut bytes),
+            write_policy(&TABLE, &given_policy, &mut []),
+            read_policy(&TABLE, &given_text, &mut words),
+            read_policy(&TABLE, &given_text, &mut []),
+        ];
+        (answers, words, bytes)
+    });
+    let refusal = Refusal::Room;
+    let no_room = Err(Refused { refusal, place: 0 });
+    assert_eq!(answers, [Ok(text.len()), no_room, Ok(policy.len()), no_room]);
+    assert!(words == policy && bytes == text);
+}
+
+/// As many parentheses open at once as there may be, and one more, at all depths between.
+#[test]
+fn the_deepest_texts() {
+    for open in [60, 80, 128, 200, 256, 257, 400] {
+        for deep in deep_policy_texts(open) {
+            let mut words = vec![0; 2_000];
+            let expected = reference::read_policy(&TABLE, &deep.text, &mut words);
+            let text = deep.text;
+            let (answer, read) = on_a_stack_of(256, move || {
+                let mut buffer = vec![1; 2_000];
+                let answer = read_policy(&TABLE, &text, &mut buffer);
+                assert!(read_policy(&TABLE, &text, &mut []).is_err());
+                (answer, buffer)
+            });
+            let (number, place) = answer.map_or_else(|refused| (refused.refusal.number(), refused.place), |_| (0, 0));
+            assert_eq!((number, place), (expected.number, expected.place), "{}", deep.name);
+            assert!(read == words, "{}", deep.name);
+        }
+    }
+}
+
+/// Parentheses without anything between them, more than any stack could hold.
+#[test]
+fn a_million_parentheses() {
+    for (front, place) in [("tff(a,axiom,", 12 + 255), ("tff(a,axiom,$true&", 18 + 255), ("tff", 4)] {
+        let text = [front.as_bytes(), &vec![b'('; 1_000_000]].concat();
+        let answer = on_a_stack_of(256, move || read_policy(&TABLE, &text, &mut [1; 9]));
+        let refusal = if place == 4 { Refusal::Tptp } else { Refusal::Level };
+        assert_eq!(answer, Err(Refused { refusal, place }));
+    }
 }
 
 /// An atom that no log here knows.

@@ -1,5 +1,6 @@
 -- `auditor::write_log` meets its contract: what the writing left, and zeros.
-use Rattle.auditor.proofs.LogWriting.{write-cleared}
+use Rattle.model.specs.Calls.{writeLogCall}
+use Rattle.auditor.proofs.TextWriting.{text-cleared}
 use borrow.Author.Needs.{needs}
 use Rattle.auditor.proofs.write_log.Statement.{statement}
 use Rattle.auditor.proofs.write_log.Tie as tie
@@ -17,11 +18,15 @@ same-length : tie.Need-same-length
 same-length c = search needs
 
 returns : tie.Need-returns
+unfolding writeLogCall
 returns c =
     let k = c .before .before .before in
     let w = k .before .before .before .before in
-    let a = w .before .before .before .args in
-    write-cleared (a .table .now) (a .log .now) (a .buffer .now) (w .write .last .1 .1 .0) _ _ _ (w .write .ensures) (w .write .kept .1 .1 .0) (k .counted .ensures) (c .before .before .clear-bytes .ensures)
+    text-cleared _ (w .before .before .before .args .buffer .now) (w .write .last .1 .1 .0) _ _ _
+    (w .write .ensures)
+    (w .write .kept .1 .1 .0)
+    (k .counted .ensures)
+    (c .before .before .clear-bytes .ensures)
 
 pub write-log-spec : {M : Type 1} → statement M
 write-log-spec =

@@ -29,7 +29,7 @@ use Rattle.laws.specs.Reading.Nodes.{under-kind, kind-restriction}
 use Rattle.laws.specs.Reading.Back.{cost-one, encode-nonempty}
 use Rattle.laws.specs.Lists.Membership.{all-mem, all-map}
 use Rattle.laws.specs.Tptp.Good.{good-atom, good-compare, good-join, good-quantifier, good-some, good-trees, good-tuple}
-use Rattle.laws.specs.Answer.{ask-true, pass-then}
+use Rattle.laws.specs.Answer.{ask-true, pass-then, then-both, then-assoc}
 
 -- a term is no variable, or one of those in scope
 unfoldable pub termInScope : ℕ → Term → Bool
@@ -69,23 +69,6 @@ unfoldable mutual
   askTrees (cons t ts) table role above scope at = do
     _ ← askTree t table role above scope at
     askTrees ts table role above scope (at + size t)
-
-module _ {A B C : Type 0} where
-  -- questions one behind another, however they are grouped
-  then-assoc : (o : Outcome A) (f : A → Outcome B) (g : B → Outcome C) → (o >>= f >>= g) ≡ (o >>= λ a. f a >>= g)
-  unfolding _>>=_
-  then-assoc (refused r p) f g = refl
-  then-assoc (passed a) f g = refl
-
-module _ {A B : Type 0} where
-  -- the same questions, and behind them the same ones
-  then-both :
-      (o : Outcome A) {f g : A → Outcome B} →
-      ((a : A) → f a ≡ g a) →
-      (o >>= f) ≡ (o >>= g)
-  unfolding _>>=_
-  then-both (refused r p) h = refl
-  then-both (passed a) h = h a
 
 -- in the scope of every variable there can be
 abbrev widest : ℕ

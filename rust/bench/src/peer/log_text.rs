@@ -206,7 +206,7 @@ fn write_rows(table: &[i32], log: &[i32], buffer: &mut [u8]) -> Result<usize, Re
 }
 
 /// Puts a number into a line and returns where it ends.
-fn put_number(line: &mut [u8; LINE], mut at: usize, number: i32) -> usize {
+pub fn put_number<const N: usize>(line: &mut [u8; N], mut at: usize, number: i32) -> usize {
     if number < 0 {
         line[at] = b'-';
         at += 1;

@@ -1,5 +1,5 @@
 //! The policy: questions 2 to 7 in one pass over its words. Question 7 is asked on the way, and its first "no" is kept
-//! until the whole policy has passed the others.
+//! until the whole policy has passed the others. The reduction has the quantifiers noted.
 
 use super::log::Record;
 use super::{Refused, MOST_WORDS};
@@ -28,12 +28,22 @@ pub struct Quantifier {
     pub closed: bool,
 }
 
+/// Asks questions 2 to 7.
+pub fn accept(predicates: &[Record], words: &[i32]) -> Result<(), Refused> {
+    read::<false>(predicates, words).map(|_| ())
+}
+
 /// Asks questions 2 to 7 and returns the quantifiers.
 pub fn check(predicates: &[Record], words: &[i32]) -> Result<Vec<Quantifier>, Refused> {
+    read::<true>(predicates, words)
+}
+
+/// Asks questions 2 to 7 and returns the quantifiers, or none of them.
+fn read<const NOTED: bool>(predicates: &[Record], words: &[i32]) -> Result<Vec<Quantifier>, Refused> {
     if words.is_empty() || words.len() > MOST_WORDS {
         return Err((2, 0));
     }
-    let mut reader = Reader {
+    let mut reader = Reader::<NOTED> {
         predicates,
         words,
         next: 0,
@@ -51,8 +61,8 @@ pub fn check(predicates: &[Record], words: &[i32]) -> Result<Vec<Quantifier>, Re
     }
 }
 
-/// Goes through the words from front to back.
-struct Reader<'a> {
+/// Goes through the words from front to back, and notes the quantifiers if it is to.
+struct Reader<'a, const NOTED: bool> {
     predicates: &'a [Record],
     words: &'a [i32],
     /// The first word not yet read.
@@ -67,7 +77,7 @@ struct Reader<'a> {
 /// An atom's predicate, and its terms as pairs of words.
 type Atom<'a> = (usize, &'a [[i32; 2]]);
 
-impl<'a> Reader<'a> {
+impl<'a, const NOTED: bool> Reader<'a, NOTED> {
     /// Reads a formula below a node of level `above` and with tag `under`.
     fn formula(&mut self, above: usize, under: i32, scope: usize) -> Result<(), Refused> {
         let place = self.next;
@@ -100,13 +110,15 @@ impl<'a> Reader<'a> {
         check_level(place, level)?;
         let inner = bind(place, scope, variables as usize)?;
         let number = self.quantifiers.len();
-        self.quantifiers.push(Quantifier {
-            restriction,
-            body: 0,
-            next: 0,
-            after: 0,
-            closed: false,
-        });
+        if NOTED {
+            self.quantifiers.push(Quantifier {
+                restriction,
+                body: 0,
+                next: 0,
+                after: 0,
+                closed: false,
+            });
+        }
 
         self.next = restriction;
         self.closed = true;
@@ -117,13 +129,15 @@ impl<'a> Reader<'a> {
         let closed = self.closed;
         let body = self.next;
         self.formula(level, 0, inner)?;
-        self.quantifiers[number] = Quantifier {
-            restriction,
-            body,
-            next: self.next,
-            after: self.quantifiers.len(),
-            closed,
-        };
+        if NOTED {
+            self.quantifiers[number] = Quantifier {
+                restriction,
+                body,
+                next: self.next,
+                after: self.quantifiers.len(),
+                closed,
+            };
+        }
         Ok(())
     }
 

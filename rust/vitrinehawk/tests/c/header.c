@@ -17,9 +17,14 @@ static const int32_t residual[] = {6, 2, 2, 2, 1, 0, 9, 8, 3, 1, 7, 9, 100, 2,
 #define TEXT_A "0,1,7,9,100\r\n1,1,9,50\r\n"
 #define QUOTED_A "\"0\",1,7,9,\"100\"\r\n1,1,\"9\",50"
 
+/* The policy as text, as it is written, and as another program may spell it; and the unbound one. */
+#define TEXT_P "tff(a,axiom,![X0:$int,X1:$int,X2:$int]:(p0(X0,X1,X2)=>p2(X1)))."
+#define SPACED_P "tff(sent, axiom,\r\n  ! [X0: $int, X1: $int, X2: $int]: (p0(X0, X1, X2) => p2(X1))).\n"
+#define TEXT_UNBOUND "tff(a,axiom,![X0:$int]:(p2(X0)=>$true))."
+
 static int32_t scratch[35];
 static int32_t buffer[30];
-static uint8_t bytes[30];
+static uint8_t bytes[70];
 static uint64_t detail;
 
 static void make_dirty(void) {
@@ -79,6 +84,16 @@ static uint32_t write_log(size_t log_len, size_t buffer_len) {
     return vh_write_log(WORDS(table), log_a, log_len, bytes, buffer_len, &detail);
 }
 
+static uint32_t read_policy(const uint8_t *text, size_t text_len, size_t buffer_len) {
+    make_dirty();
+    return vh_read_policy(WORDS(table), text, text_len, buffer, buffer_len, &detail);
+}
+
+static uint32_t write_policy(size_t policy_len, size_t buffer_len) {
+    make_dirty();
+    return vh_write_policy(WORDS(table), policy, policy_len, bytes, buffer_len, &detail);
+}
+
 int main(void) {
     int32_t opposite[LENGTH(policy)];
     size_t i;
@@ -131,5 +146,27 @@ int main(void) {
     if (!has_bytes(BYTES(""), 22)) return 39;
     if (write_log(15, 30) != 8 || detail != 0) return 40;
     if (!has_bytes(BYTES(""), 30)) return 41;
+
+    if (read_policy(BYTES(TEXT_P), 20) != 0 || detail != 17) return 42;
+    if (!has(policy, 17, 20)) return 43;
+    if (read_policy(BYTES(SPACED_P), 17) != 0 || detail != 17) return 44;
+    if (!has(policy, 17, 17)) return 45;
+    if (read_policy(BYTES(TEXT_P), 16) != 12 || detail != 0) return 46;
+    if (!has(policy, 0, 16)) return 47;
+    if (read_policy(BYTES(TEXT_P "%"), 17) != 15 || detail != 63) return 48;
+    if (!has(policy, 0, 17)) return 49;
+    if (read_policy(BYTES(""), 3) != 15 || detail != 0) return 50;
+    if (!has(policy, 0, 3)) return 51;
+    if (read_policy(BYTES(TEXT_UNBOUND), 0) != 7 || detail != 3) return 52;
+    if (!has(policy, 0, 0)) return 53;
+
+    if (write_policy(17, 70) != 0 || detail != 63) return 54;
+    if (!has_bytes(BYTES(TEXT_P), 70)) return 55;
+    if (write_policy(17, 63) != 0 || detail != 63) return 56;
+    if (!has_bytes(BYTES(TEXT_P), 63)) return 57;
+    if (write_policy(17, 62) != 12 || detail != 0) return 58;
+    if (!has_bytes(BYTES(""), 62)) return 59;
+    if (write_policy(16, 70) != 3 || detail != 12) return 60;
+    if (!has_bytes(BYTES(""), 70)) return 61;
     return 0;
 }

@@ -61,6 +61,8 @@ enum Call {
     Reduce,
     ReadLog,
     WriteLog,
+    ReadPolicy,
+    WritePolicy,
 }
 
 impl Call {
@@ -73,6 +75,8 @@ impl Call {
             Call::Reduce => &["table", "policy", "log", "scratch", "buffer"],
             Call::ReadLog => &["table", "text", "buffer"],
             Call::WriteLog => &["table", "log", "buffer"],
+            Call::ReadPolicy => &["table", "text", "buffer"],
+            Call::WritePolicy => &["table", "policy", "buffer"],
         }
     }
 
@@ -110,6 +114,16 @@ impl Call {
                 let result = vitrinehawk::write_log(table, log, buffer.inner());
                 (result, vec![words(&buffer.into_inner())])
             }
+            (Call::ReadPolicy, [table, text, buffer]) => {
+                let mut buffer = Fenced::new(buffer);
+                let result = vitrinehawk::read_policy(table, &bytes(text), buffer.inner());
+                (result, vec![buffer.into_inner()])
+            }
+            (Call::WritePolicy, [table, policy, buffer]) => {
+                let mut buffer = Fenced::new(&bytes(buffer));
+                let result = vitrinehawk::write_policy(table, policy, buffer.inner());
+                (result, vec![words(&buffer.into_inner())])
+            }
             _ => panic!("a call has its own parts"),
         };
         let answer = match result {
@@ -140,6 +154,15 @@ impl Call {
                 let mut buffer = bytes(buffer);
                 (reference::write_log(table, log, &mut buffer), vec![words(&buffer)])
             }
+            (Call::ReadPolicy, [table, text, buffer]) => {
+                let mut buffer = buffer.clone();
+                (reference::read_policy(table, &bytes(text), &mut buffer), vec![buffer])
+            }
+            (Call::WritePolicy, [table, policy, buffer]) => {
+                let mut buffer = bytes(buffer);
+                let answer = reference::write_policy(table, policy, &mut buffer);
+                (answer, vec![words(&buffer)])
+            }
             _ => panic!("a call has its own parts"),
         };
         Outcome { answer, lent }
@@ -150,7 +173,7 @@ impl Call {
 pub struct Comparison {
     seed: u64,
     pub random: Random,
-    seen: [usize; 15],
+    seen: [usize; 16],
 }
 
 impl Comparison {
@@ -159,7 +182,7 @@ impl Comparison {
         Comparison {
             seed,
             random: Random::new(seed),
-            seen: [0; 15],
+            seen: [0; 16],
         }
     }
 
@@ -234,6 +257,24 @@ impl Comparison {
         let dirt = self.dirt(room).iter().map(|word| word & 0xFF).collect();
         let parts = vec![table.to_vec(), log.to_vec(), dirt];
         let Outcome { answer, lent } = self.compare(Call::WriteLog, parts);
+        (answer, bytes(&lent[0][..answer.count]))
+    }
+
+    /// Compares the reading of a policy's text with a buffer of so many words, full of other words at first. Returns
+    /// the words of the policy too.
+    pub fn read_policy(&mut self, table: &[i32], text: &[u8], room: usize) -> (Answer, Vec<i32>) {
+        let parts = vec![table.to_vec(), words(text), self.dirt(room)];
+        let Outcome { answer, mut lent } = self.compare(Call::ReadPolicy, parts);
+        lent[0].truncate(answer.count);
+        (answer, lent.remove(0))
+    }
+
+    /// Compares the writing of a policy with a buffer of so many bytes, full of other bytes at first. Returns the text
+    /// too.
+    pub fn write_policy(&mut self, table: &[i32], policy: &[i32], room: usize) -> (Answer, Vec<u8>) {
+        let dirt = self.dirt(room).iter().map(|word| word & 0xFF).collect();
+        let parts = vec![table.to_vec(), policy.to_vec(), dirt];
+        let Outcome { answer, lent } = self.compare(Call::WritePolicy, parts);
         (answer, bytes(&lent[0][..answer.count]))
     }
 

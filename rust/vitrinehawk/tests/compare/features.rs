@@ -5,7 +5,7 @@ use std::collections::{BTreeMap, BTreeSet};
 use inputs::{Case, Random};
 use reference::listing::list;
 use reference::tree::{Formula, Quantifier, Restriction};
-use reference::{read_policy, read_table, Log};
+use reference::{read_table, Log, Policy};
 
 use crate::reductions::need;
 
@@ -133,7 +133,7 @@ fn random_reductions_are_worth_trying() {
         };
         tried += 1;
         let predicates = read_table(&case.table).unwrap();
-        let root = read_policy(&predicates, &case.policy).unwrap().root;
+        let root = Policy::read(&predicates, &case.policy).unwrap().root;
         let mut found = Found::default();
         found.walk(&Log::read(&predicates, &case.log).unwrap(), &root, 0);
         found.see("residual is not plain", residual.len() > 1);

@@ -7,6 +7,7 @@ mod comparison;
 mod features;
 mod logs;
 mod policies;
+mod policy_texts;
 mod reductions;
 mod rooms;
 mod texts;

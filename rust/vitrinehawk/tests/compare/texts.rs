@@ -31,18 +31,18 @@ fn table_and_text(random: &mut Random, most_rows: usize) -> (Vec<i32>, Vec<u8>, 
 }
 
 /// Lengths of a buffer: more than enough, just enough, too short and none.
-fn rooms(enough: usize) -> [usize; 5] {
+pub fn rooms(enough: usize) -> [usize; 5] {
     [enough + 20, enough + 1, enough, enough.saturating_sub(1), 0]
 }
 
 /// One of these, enough more often than not.
-fn room(random: &mut Random, enough: usize) -> usize {
+pub fn room(random: &mut Random, enough: usize) -> usize {
     let [more, one_more, just, short, none] = rooms(enough);
     random.pick(&[more, more, one_more, just, just, just, short, none])
 }
 
 /// What has to be answered if so much is needed, with what the call counts.
-fn expected(needed: usize, room: usize, count: usize) -> Answer {
+pub fn expected(needed: usize, room: usize, count: usize) -> Answer {
     if needed <= room {
         Answer::accepted(count)
     } else {
