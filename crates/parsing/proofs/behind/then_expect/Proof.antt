@@ -5,7 +5,6 @@ use Rattle.parsing.proofs.BehindLaws.{behind-same, behind-read, steps-w
 use mathlib.Core.List.{[], _∷_}
 use Rattle.model.specs.TptpReading.{token}
 use borrow.Author.Needs.{needs}
-use borrow.Author.Needs.{needs}
 use Rattle.parsing.proofs.behind.then_expect.Statement.{statement}
 use Rattle.parsing.proofs.behind.then_expect.Tie as tie
 

@@ -5,7 +5,6 @@ use Rattle.parsing.proofs.BehindLaws.{behind-same, behind-read, valued-
 use Rattle.parsing.specs.Terms.{TermStands}
 use Rattle.model.specs.TptpReading.{term}
 use borrow.Author.Needs.{needs}
-use borrow.Author.Needs.{needs}
 use Rattle.parsing.proofs.behind.then_term.Statement.{statement}
 use Rattle.parsing.proofs.behind.then_term.Tie as tie
 

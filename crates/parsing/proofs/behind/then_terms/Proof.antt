@@ -5,7 +5,6 @@ use Rattle.parsing.proofs.BehindLaws.{behind-same, behind-read, valued-
 use Rattle.parsing.specs.Terms.{TermsStand}
 use Rattle.model.specs.TptpReading.{terms}
 use borrow.Author.Needs.{needs}
-use borrow.Author.Needs.{needs}
 use Rattle.parsing.proofs.behind.then_terms.Statement.{statement}
 use Rattle.parsing.proofs.behind.then_terms.Tie as tie
 

@@ -4,7 +4,6 @@ use Rattle.parsing.specs.Steps.{Within}
 use Rattle.parsing.proofs.BehindLaws.{behind-same, behind-read, steps-within}
 use Rattle.model.specs.TptpReading.{token}
 use borrow.Author.Needs.{needs}
-use borrow.Author.Needs.{needs}
 use Rattle.parsing.proofs.behind.then_token.Statement.{statement}
 use Rattle.parsing.proofs.behind.then_token.Tie as tie
 

@@ -4,7 +4,6 @@ use Rattle.model.specs.TptpReading.{token}
 use Rattle.parsing.proofs.BehindLaws.{steps-within}
 use Rattle.parsing.proofs.BinderLaws.{binder-read}
 use borrow.Author.Needs.{needs}
-use borrow.Author.Needs.{needs}
 use Rattle.parsing.proofs.binder.binder.Statement.{statement}
 use Rattle.parsing.proofs.binder.binder.Tie as tie
 

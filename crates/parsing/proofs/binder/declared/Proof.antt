@@ -2,7 +2,6 @@
 use Rattle.model.specs.Bytes.{bytes}
 use Rattle.parsing.proofs.BinderLaws.{declared-read}
 use borrow.Author.Needs.{needs}
-use borrow.Author.Needs.{needs}
 use Rattle.parsing.proofs.binder.declared.Statement.{statement}
 use Rattle.parsing.proofs.binder.declared.Tie as tie
 

@@ -9,7 +9,6 @@ use Rattle.writing.specs.Put.{Puts}
 use Rattle.parsing.specs.Steps.{Steps, Behind}
 use Rattle.parsing.proofs.BinderLaws.{never-full, variable-word}
 use borrow.Author.Needs.{needs}
-use borrow.Author.Needs.{needs}
 use Rattle.parsing.proofs.binder.named.Statement.{statement}
 use Rattle.parsing.proofs.binder.named.Tie as tie
 

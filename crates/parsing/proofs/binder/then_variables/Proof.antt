@@ -5,7 +5,6 @@ use Rattle.parsing.specs.Steps.{Within}
 use Rattle.parsing.specs.Binder.{IsCount}
 use Rattle.parsing.proofs.BehindLaws.{behind-same, behind-read, valued-within}
 use borrow.Author.Needs.{needs}
-use borrow.Author.Needs.{needs}
 use Rattle.parsing.proofs.binder.then_variables.Statement.{statement}
 use Rattle.parsing.proofs.binder.then_variables.Tie as tie
 

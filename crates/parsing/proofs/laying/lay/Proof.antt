@@ -1,7 +1,6 @@
 -- `parsing::laying::lay` meets its contract.
 use native.Mathlib.Omega.{arith}
 use borrow.Author.Needs.{needs}
-use borrow.Author.Needs.{needs}
 use Rattle.parsing.proofs.laying.lay.Statement.{statement}
 use Rattle.parsing.proofs.laying.lay.Tie as tie
 

@@ -3,7 +3,6 @@ use native.Mathlib.Omega.{arith}
 use mathlib.Core.Path.{sym}
 use lib.Seq.{set-out}
 use borrow.Author.Needs.{needs}
-use borrow.Author.Needs.{needs}
 use Rattle.parsing.proofs.laying.lay_signed.Statement.{statement}
 use Rattle.parsing.proofs.laying.lay_signed.Tie as tie
 

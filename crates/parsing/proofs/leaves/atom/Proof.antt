@@ -9,7 +9,6 @@ use Rattle.model.specs.TptpReading.{token}
 use Rattle.parsing.proofs.BehindLaws.{steps-within}
 use Rattle.parsing.proofs.LeafLaws.{atom-read, small}
 use borrow.Author.Needs.{needs}
-use borrow.Author.Needs.{needs}
 use Rattle.parsing.proofs.leaves.atom.Statement.{statement}
 use Rattle.parsing.proofs.leaves.atom.Tie as tie
 

@@ -7,7 +7,6 @@ use lib.IntN.{pos}
 use Rattle.model.specs.Bytes.{bytes}
 use Rattle.parsing.proofs.LeafLaws.{compare-read, small}
 use borrow.Author.Needs.{needs}
-use borrow.Author.Needs.{needs}
 use Rattle.parsing.proofs.leaves.compare.Statement.{statement}
 use Rattle.parsing.proofs.leaves.compare.Tie as tie
 

@@ -5,7 +5,6 @@ use Rattle.model.specs.TptpReading.{literal}
 use Rattle.parsing.proofs.BehindLaws.{steps-within}
 use Rattle.parsing.proofs.LeafLaws.{dollar-over, dollar-true, dollar-false, dollar-compare}
 use borrow.Author.Needs.{needs}
-use borrow.Author.Needs.{needs}
 use Rattle.parsing.proofs.leaves.dollar.Statement.{statement}
 use Rattle.parsing.proofs.leaves.dollar.Tie as tie
 

@@ -1,7 +1,6 @@
 -- `parsing::leaves::leaf` meets its contract.
 use Rattle.parsing.proofs.LeafLaws.{leaf-dollar, leaf-atom, leaf-negated, leaf-none}
 use borrow.Author.Needs.{needs}
-use borrow.Author.Needs.{needs}
 use Rattle.parsing.proofs.leaves.leaf.Statement.{statement}
 use Rattle.parsing.proofs.leaves.leaf.Tie as tie
 

@@ -5,7 +5,6 @@ use Rattle.model.specs.TptpReading.{token}
 use Rattle.parsing.proofs.BehindLaws.{steps-within}
 use Rattle.parsing.proofs.LeafLaws.{negation-over, negation-atom, negation-compare}
 use borrow.Author.Needs.{needs}
-use borrow.Author.Needs.{needs}
 use Rattle.parsing.proofs.leaves.negated.Statement.{statement}
 use Rattle.parsing.proofs.leaves.negated.Tie as tie
 

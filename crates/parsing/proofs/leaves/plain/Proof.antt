@@ -6,7 +6,6 @@ use lib.ListN.{set}
 use lib.IntN.{pos}
 use Rattle.parsing.proofs.LeafLaws.{plain-read, small}
 use borrow.Author.Needs.{needs}
-use borrow.Author.Needs.{needs}
 use Rattle.parsing.proofs.leaves.plain.Statement.{statement}
 use Rattle.parsing.proofs.leaves.plain.Tie as tie
 

@@ -5,7 +5,6 @@ use Rattle.parsing.specs.Steps.{Within}
 use Rattle.parsing.specs.Numbers.{Naturals}
 use Rattle.parsing.proofs.BehindLaws.{behind-same, behind-read}
 use borrow.Author.Needs.{needs}
-use borrow.Author.Needs.{needs}
 use Rattle.parsing.proofs.leaves.predicate.Statement.{statement}
 use Rattle.parsing.proofs.leaves.predicate.Tie as tie
 

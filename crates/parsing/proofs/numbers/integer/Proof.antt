@@ -5,7 +5,6 @@ use Rattle.parsing.specs.declared.numbers.Digits.{Digits}
 use Rattle.parsing.specs.Numbers.{Integers}
 use Rattle.parsing.proofs.NumberLaws.{below, above, integer-over, integer-below, integer-above}
 use borrow.Author.Needs.{needs}
-use borrow.Author.Needs.{needs}
 use Rattle.parsing.proofs.numbers.integer.Statement.{statement}
 use Rattle.parsing.proofs.numbers.integer.Tie as tie
 

@@ -5,7 +5,6 @@ use borrow.Author.Tests.{not-true, not-false}
 use Rattle.laws.specs.Decimal.{digit-range}
 use Rattle.parsing.proofs.NumberLaws.{natural-over, natural-other, natural-first}
 use borrow.Author.Needs.{needs}
-use borrow.Author.Needs.{needs}
 use Rattle.parsing.proofs.numbers.natural.Statement.{statement}
 use Rattle.parsing.proofs.numbers.natural.Tie as tie
 

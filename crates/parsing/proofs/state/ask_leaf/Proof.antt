@@ -7,7 +7,6 @@ use Rattle.policies.specs.Node.{asRole}
 use Rattle.parsing.specs.Told.{moved}
 use Rattle.parsing.proofs.StateLaws.{refused-then, passed-then}
 use borrow.Author.Needs.{needs}
-use borrow.Author.Needs.{needs}
 use Rattle.parsing.proofs.state.ask_leaf.Statement.{statement}
 use Rattle.parsing.proofs.state.ask_leaf.Tie as tie
 

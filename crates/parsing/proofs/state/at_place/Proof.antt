@@ -1,7 +1,6 @@
 -- `parsing::state::at_place` meets its contract.
 use Rattle.parsing.specs.Told.{moved}
 use borrow.Author.Needs.{needs}
-use borrow.Author.Needs.{needs}
 use Rattle.parsing.proofs.state.at_place.Statement.{statement}
 use Rattle.parsing.proofs.state.at_place.Tie as tie
 

@@ -1,7 +1,6 @@
 -- `parsing::state::bind_leaf` meets its contract.
 use Rattle.parsing.proofs.StateLaws.{bound-asked, bound-moded, bound-leaf}
 use borrow.Author.Needs.{needs}
-use borrow.Author.Needs.{needs}
 use Rattle.parsing.proofs.state.bind_leaf.Statement.{statement}
 use Rattle.parsing.proofs.state.bind_leaf.Tie as tie
 

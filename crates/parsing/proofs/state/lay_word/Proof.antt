@@ -4,7 +4,6 @@ use mathlib.Core.Path.{sym}
 use lib.Seq.{set-out}
 use Rattle.model.specs.Words.{word}
 use borrow.Author.Needs.{needs}
-use borrow.Author.Needs.{needs}
 use Rattle.parsing.proofs.state.lay_word.Statement.{statement}
 use Rattle.parsing.proofs.state.lay_word.Tie as tie
 

@@ -15,7 +15,6 @@ use denote.Enum.Declared.{tagOf}
 use Rattle.parsing.proofs.LeafSettling.{leaf-formula, leaf-restricted, leaf-there, leaf-number, leaf-here}
 use Rattle.parsing.proofs.StateLaws.{asked-passed}
 use borrow.Author.Needs.{needs}
-use borrow.Author.Needs.{needs}
 use Rattle.parsing.proofs.state.settle_leaf.Statement.{statement}
 use Rattle.parsing.proofs.state.settle_leaf.Tie as tie
 

@@ -3,7 +3,6 @@ use mathlib.Core.Path.{sym, _∙_}
 use Rattle.model.specs.Answer.{ask}
 use Rattle.parsing.proofs.StateLaws.{refused-then, passed-then}
 use borrow.Author.Needs.{needs}
-use borrow.Author.Needs.{needs}
 use Rattle.parsing.proofs.state.then_ask.Statement.{statement}
 use Rattle.parsing.proofs.state.then_ask.Tie as tie
 

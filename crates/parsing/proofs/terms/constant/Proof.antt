@@ -12,7 +12,6 @@ use Rattle.parsing.specs.Terms.{TermStands, readConstant}
 use Rattle.parsing.proofs.TokenLaws.{halt}
 use Rattle.parsing.proofs.TermLaws.{constant-at}
 use borrow.Author.Needs.{needs}
-use borrow.Author.Needs.{needs}
 use Rattle.parsing.proofs.terms.constant.Statement.{statement}
 use Rattle.parsing.proofs.terms.constant.Tie as tie
 

@@ -2,7 +2,6 @@
 use native.Mathlib.Omega.{arith}
 use Rattle.parsing.proofs.TermLaws.{term-over, term-variable, term-constant}
 use borrow.Author.Needs.{needs}
-use borrow.Author.Needs.{needs}
 use Rattle.parsing.proofs.terms.term.Statement.{statement}
 use Rattle.parsing.proofs.terms.term.Tie as tie
 

@@ -12,7 +12,6 @@ use Rattle.parsing.specs.Terms.{TermStands, readVariable}
 use Rattle.parsing.proofs.TokenLaws.{halt}
 use Rattle.parsing.proofs.TermLaws.{variable-at}
 use borrow.Author.Needs.{needs}
-use borrow.Author.Needs.{needs}
 use Rattle.parsing.proofs.terms.variable.Statement.{statement}
 use Rattle.parsing.proofs.terms.variable.Tie as tie
 

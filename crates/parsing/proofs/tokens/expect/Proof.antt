@@ -2,7 +2,6 @@
 use native.Mathlib.Omega.{arith}
 use Rattle.parsing.proofs.TokenLaws.{token-here, token-other, token-over}
 use borrow.Author.Needs.{needs}
-use borrow.Author.Needs.{needs}
 use Rattle.parsing.proofs.tokens.expect.Statement.{statement}
 use Rattle.parsing.proofs.tokens.expect.Tie as tie
 

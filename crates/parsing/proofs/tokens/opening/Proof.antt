@@ -2,7 +2,6 @@
 use native.Mathlib.Omega.{arith}
 use Rattle.parsing.proofs.TokenLaws.{opening-here, opening-level, opening-other, opening-over}
 use borrow.Author.Needs.{needs}
-use borrow.Author.Needs.{needs}
 use Rattle.parsing.proofs.tokens.opening.Statement.{statement}
 use Rattle.parsing.proofs.tokens.opening.Tie as tie
 

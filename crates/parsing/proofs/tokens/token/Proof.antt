@@ -1,7 +1,6 @@
 -- `parsing::tokens::token` meets its contract.
 use Rattle.parsing.proofs.TokenLaws.{token-steps}
 use borrow.Author.Needs.{needs}
-use borrow.Author.Needs.{needs}
 use Rattle.parsing.proofs.tokens.token.Statement.{statement}
 use Rattle.parsing.proofs.tokens.token.Tie as tie
 

@@ -2,7 +2,6 @@
 use Rattle.model.specs.Bytes.{bytes}
 use Rattle.parsing.proofs.TupleLaws.{unequal-read}
 use borrow.Author.Needs.{needs}
-use borrow.Author.Needs.{needs}
 use Rattle.parsing.proofs.tuples.unequal.Statement.{statement}
 use Rattle.parsing.proofs.tuples.unequal.Tie as tie
 

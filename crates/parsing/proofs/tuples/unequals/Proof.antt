@@ -1,7 +1,6 @@
 -- `parsing::tuples::unequals` meets its contract.
 use Rattle.parsing.proofs.TupleLaws.{unequals-read}
 use borrow.Author.Needs.{needs}
-use borrow.Author.Needs.{needs}
 use Rattle.parsing.proofs.tuples.unequals.Statement.{statement}
 use Rattle.parsing.proofs.tuples.unequals.Tie as tie
 
