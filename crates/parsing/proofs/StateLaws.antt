@@ -151,8 +151,9 @@ pub dropped :
     (s : State) (scope x w : ℕ) (m : Checked) →
     outcome m ≡ (outcome (s .moded) >>= λ _. ask (getD (s .set) x false) Mode w) →
     x ≡ scope →
+    scope < 16 →
     Dropped scope w s (record { words = s .words; asked = s .asked; moded = m; set = set (s .set) scope false })
-dropped s scope x w m e is = record {
+dropped s scope x w m e is few = record {
   words = refl;
   asked = refl;
   marks = λ long. length-set (s .set) scope false ∙ long;
@@ -160,28 +161,33 @@ dropped s scope x w m e is = record {
       told-ask (s .moded) m (s .set) (set (s .set) scope false) (getD (s .set) x false) Mode w (λ inner. inner scope)
       (λ inner y. inner y && not (eqb y scope)) e (ap (λ (k : ℕ). getD (s .set) k false) is)
       (fun-ext λ y. set-dropped (s .set) scope y (omega (arith, long)));
+  beyond = λ l. absurd (omega arith);
 }
 
 pub dropped-none : (s : State) (scope w : ℕ) → 16 ≤ scope → Dropped scope w s s
-dropped-none s scope w h = record { words = refl; asked = refl; marks = λ long. long; modes = λ long l. absurd (omega arith) }
+dropped-none s scope w h =
+    record { words = refl; asked = refl; marks = λ long. long; modes = λ long l. absurd (omega arith); beyond = λ _. refl }
 
 -- the variables of a quantifier are bound
 pub introduces :
     (s : State) (scope v n w : ℕ) (m : Checked) →
     outcome m ≡ (outcome (s .moded) >>= λ _. ask (all (setOf (s .set)) (span scope n)) Mode w) →
     n ≡ v →
+    scope + v ≤ 16 →
     Introduced scope v w s (record { words = s .words; asked = s .asked; moded = m; set = s .set })
-introduces s scope v n w m e is = record {
+introduces s scope v n w m e is few = record {
   words = refl;
   asked = refl;
   set = refl;
   modes = λ _.
       told-asked (s .moded) m (s .set) Mode w (λ bound. all bound (span scope v))
       (e ∙ ap (λ (k : ℕ). outcome (s .moded) >>= λ _. ask (all (setOf (s .set)) (span scope k)) Mode w) is);
+  beyond = λ l. absurd (omega arith);
 }
 
 pub introduces-none : (s : State) (scope v w : ℕ) → 16 < scope + v → Introduced scope v w s s
-introduces-none s scope v w h = record { words = refl; asked = refl; set = refl; modes = λ l. absurd (omega arith) }
+introduces-none s scope v w h =
+    record { words = refl; asked = refl; set = refl; modes = λ l. absurd (omega arith); beyond = λ _. refl }
 
 -- what an operand is handed
 pub handed-every : {b : Bool} (s : State) (start : List Bool) → b ≡ true → Handed b start s s

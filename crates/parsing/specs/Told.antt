@@ -3,7 +3,7 @@ use Prim.Native.Nat.{ℕ, _+_, _≤_, _<_, min}
 use mathlib.Core.Path.{_≡_}
 use mathlib.Core.Bool.{Bool, true, false, cond, not, _&&_}
 use mathlib.Core.List.{List}
-use lib.ListN.{length}
+use lib.ListN.{length, replicate}
 use lib.Seq.{sets}
 use lib.Dec.{ltb, eqb}
 use Rattle.model.specs.Words.{Words, policyLimit, levelLimit, scopeLimit}
@@ -89,6 +89,7 @@ pub record Dropped (scope w : ℕ) (s r : State) : Type 0 where
       length (s .set) ≡ 16 → scope < scopeLimit →
       told (r .moded) (r .set)
       ≡ (told (s .moded) (s .set) >>= λ inner. ask (inner scope) Mode w >>= λ _. passed (λ x. inner x && not (eqb x scope)))
+  pub beyond : scopeLimit ≤ scope → r ≡ s
 
 -- the variables of a quantifier at an index are bound by its restriction
 pub record Introduced (scope v w : ℕ) (s r : State) : Type 0 where
@@ -98,11 +99,13 @@ pub record Introduced (scope v w : ℕ) (s r : State) : Type 0 where
   pub modes :
       scope + v ≤ scopeLimit →
       outcome (r .moded) ≡ (told (s .moded) (s .set) >>= λ bound. ask (all bound (span scope v)) Mode w)
+  pub beyond : scopeLimit < scope + v → r .moded ≡ s .moded
 
--- the marks of the variables below a number, if it is at most sixteen
+-- the marks of the variables below a number, if it is at most sixteen, else none
 pub record Outer (scope : ℕ) (marks : List Bool) : Type 0 where
   pub sixteen : length marks ≡ 16
   pub holds : scope ≤ scopeLimit → (x : ℕ) → setOf marks x ≡ ltb x scope
+  pub beyond : scopeLimit < scope → marks ≡ replicate 16 false
 
 -- what an operand of an all-of (true) or any-of is handed: the marks of the one before, or those of the start
 abbrev pub Handed : Bool → List Bool → State → State → Type 0

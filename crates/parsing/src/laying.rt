@@ -5,7 +5,7 @@ use crate::tokens::Step;
 use texts::record::put;
 ghost use mathlib.Core.Path.{_≡_};
 ghost use mathlib.Core.Bool.{Bool};
-ghost use Prim.Native.Nat.{_+_, _*_, _≤_, min};
+ghost use Prim.Native.Nat.{_+_, _*_, _≤_, _<_, min};
 ghost use lib.ListN.{length, set};
 ghost use lib.IntN.{pos};
 ghost use Rattle.model.specs.TptpReading as R;
@@ -35,9 +35,11 @@ fn lay_signed(out: &mut [i32], w: usize, magnitude: usize, negative: bool)
     }
 }
 
-// A count becomes the word at an index, if the buffer has it.
+// A count that is a word becomes the word at an index, if the buffer has it.
 pub fn lay(out: &mut [i32], w: usize, n: usize)
-    ensures { λ _. ⌜ L.Laid w n (now (out .entry)) (now (out .exit)) ⌝ }
+    ensures { λ _. ⌜
+        L.Laid w n (now (out .entry)) (now (out .exit)) × (2147483647 < n → now (out .exit) ≡ now (out .entry))
+        ⌝ }
 {
     if n <= 2147483647 {
         lay_signed(out, w, n, false);

@@ -485,7 +485,7 @@ module _ (t : ℕ) where
       (s .skip .ensures) (i .if1 .left)
       (many (r .children .result) (r .children .last .1 .1 .1 .1 .1 .1 .1 .1 .1 .0) (r .children .last .1 .1 .1 .1 .1 .1 .1 .1 .1 .1 .0))
       (r .children .last .1 .1 .1 .1 .1 .1 .1 .1 .1 .1 .1 .0) (h .lay .last .0) (y .lay2 .last .0) (b .either .result)
-      (c .then-expect .result) (e .enter .ensures) (r .children .ensures) (b .either .ensures) (h .lay .ensures) (y .lay2 .ensures)
+      (c .then-expect .result) (e .enter .ensures) (r .children .ensures) (b .either .ensures) (h .lay .ensures .0) (y .lay2 .ensures .0)
       (c .then-expect .ensures .0) (c .then-expect .ensures .1)
 
   children-connective-requires : children-lts.Need-connective-requires children-calls children-at children.Post children-Inv-loop children-μ-loop
@@ -1229,8 +1229,8 @@ module _ (t : ℕ) where
       (c .then-expect .result)
       (m .less2 .ensures) (z .pre .1 .3) (ap (λ (n : ℕ). a .above + n) (k .cost .ensures)) refl refl (e .enter .ensures)
       (u .outer-variables .ensures) (s .sign .given .1)
-      (v .introduce .ensures) (d .operand .ensures) (j .either .ensures) (h .lay .ensures) (g .lay2 .ensures) (omega arith)
-      (f .lay3 .ensures) (omega arith)
+      (v .introduce .ensures) (d .operand .ensures) (j .either .ensures) (h .lay .ensures .0) (g .lay2 .ensures .0) (omega arith)
+      (f .lay3 .ensures .0) (omega arith)
       (c .then-expect .ensures)
 
   restricted-begins-requires : restricted-lts.Need-begins-requires restricted-calls restricted-at restricted.Post
@@ -1454,7 +1454,7 @@ module _ (t : ℕ) where
       (l .less .result) (o .«open» .given .0 .0) _ _ (stateOf (e .enter .last .0) (e .enter .last .1 .0))
       (came (w .whole .result) (w .whole .last .1 .1 .1 .1 .1 .1 .1 .0) (w .whole .last .1 .1 .1 .1 .1 .1 .1 .1 .0))
       (w .whole .last .1 .1 .1 .1 .1 .1 .1 .1 .1 .0) (stateOf (c .drop-variable .last .0) (c .drop-variable .last .1 .0))
-      (o .«open» .given .1) (l .less .ensures) refl refl (e .enter .ensures) (w .whole .ensures) (y .lay .ensures)
+      (o .«open» .given .1) (l .less .ensures) refl refl (e .enter .ensures) (w .whole .ensures) (y .lay .ensures .0)
       (c .drop-variable .ensures)
 
   whole-stop-index-requires : whole-lts.Need-stop-index-requires whole-calls whole-at whole.Post

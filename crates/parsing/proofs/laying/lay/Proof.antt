@@ -1,5 +1,6 @@
 -- `parsing::laying::lay` meets its contract.
 use native.Mathlib.Omega.{arith}
+use mathlib.Core.Path.{refl}
 use borrow.Author.Needs.{needs}
 use Rattle.parsing.proofs.laying.lay.Statement.{statement}
 use Rattle.parsing.proofs.laying.lay.Tie as tie
@@ -11,10 +12,10 @@ same-length : tie.Need-same-length
 same-length c = search needs
 
 returns : tie.Need-returns
-returns c = search needs
+returns c = (λ _. c .before .lay-signed .ensures, λ h. absurd (omega (arith, h, c .before .before .before .if1 .taken)))
 
 returns-2 : tie.Need-returns-2
-returns-2 c = λ h. absurd (omega (arith, h, c .if1 .left))
+returns-2 c = (λ h. absurd (omega (arith, h, c .if1 .left)), λ _. refl)
 
 pub lay-spec : {M : Type 1} → statement M
 lay-spec = tie.close (tie.spec lay-signed-requires same-length returns returns-2)

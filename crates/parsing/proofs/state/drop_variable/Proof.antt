@@ -21,6 +21,7 @@ array-write-set c = search needs
 returns-2 : tie.Need-returns-2
 returns-2 c =
     let a = c .before .before .before .args in dropped (a .before) (a .scope) _ (a .w) (c .then-ask .result) (c .then-ask .ensures) (omega arith)
+    (omega (arith, c .before .if1 .left))
 
 pub drop-variable-spec : {M : Type 1} → statement M
 drop-variable-spec =

@@ -29,6 +29,7 @@ returns-2 c =
     let a = i .before .before .before .args in
     introduces (a .before) (a .scope) (a .v) _ (a .w) (c .then-ask .result)
     (c .then-ask .ensures ∙ ap (λ (b : Bool). outcome (a .before .moded) >>= λ _. ask b Mode (a .w)) (i .introduced .ensures)) (omega arith)
+    (omega (arith, i .before .if1 .left))
 
 pub introduce-spec : {M : Type 1} → statement M
 introduce-spec =
