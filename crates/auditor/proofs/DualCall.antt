@@ -12,11 +12,12 @@ use Rattle.model.specs.declared.Answer.the-variants.{Accepted, Refused}
 use Rattle.model.specs.declared.Refusal.{Refusal}
 use Rattle.model.specs.declared.Refusal.the-variants.{Room}
 use Rattle.model.specs.Words.{Words, policyLimit}
-use Rattle.model.specs.Answer.{ask, answer, _>>=_}
+use Rattle.model.specs.Answer.{AnswersAs, ask, answer, _>>=_}
 use Rattle.model.specs.Tree.{Tree, encode}
 use Rattle.model.specs.Mode.{size}
 use Rattle.model.specs.Dual.{dual}
 use Rattle.model.specs.Calls.{zeros, filled, result, write, checkPolicy, dualCall}
+use Rattle.laws.specs.Answer.{answers}
 use Rattle.laws.specs.Dual.{dual-size}
 use Rattle.laws.specs.Calls.Policy.{accepted-asked}
 use Rattle.laws.specs.Reading.Encoded.{read-length}
@@ -28,7 +29,7 @@ use Rattle.auditor.proofs.DualFormed.{accepted-written}
 module _ (table policy old buffer : Words) where
   -- an answer, and the words of the buffer, are those of the call
   abbrev pub Dualled : Answer → Type 0
-  Dualled a = (a ≡ dualCall table policy (length old) .answer) × (buffer ≡ dualCall table policy (length old) .buffer)
+  Dualled a = AnswersAs (dualCall table policy (length old) .answer) a × (buffer ≡ dualCall table policy (length old) .buffer)
 
   abbrev pub Cleared : Type 0
   Cleared = buffer ≡ take 0 old ++ zeros (length old - 0)
@@ -38,7 +39,7 @@ module _ (table policy old buffer : Words) where
 
   pub dual-refused : {r : Refusal} {p : ℕ} → Refused r p ≡ checkPolicy table policy → Cleared → Dualled (Refused r p)
   unfolding dualCall result answer filled _>>=_
-  dual-refused e z = rw (policy-was-refused table policy e) (refl, all-zero z)
+  dual-refused e z = rw (policy-was-refused table policy e) (answers refl, all-zero z)
 
   module _ {k : ℕ} (e : Accepted k ≡ checkPolicy table policy) where
     accepted-tree : Accepts table policy
@@ -65,7 +66,7 @@ module _ (table policy old buffer : Words) where
     dual-no-room h z =
         let no : leb (length (encode (dual (accepted-tree .0)))) (length old) ≡ false =
         ap (λ (n : ℕ). leb n (length old)) dual-length ∙ lt-leb (length policy) (length old) h in
-        rw (accepted-tree .1, no) (refl, all-zero z)
+        rw (accepted-tree .1, no) (answers refl, all-zero z)
 
     pub dual-written :
         length policy ≤ length old →
@@ -80,4 +81,4 @@ module _ (table policy old buffer : Words) where
         ap (λ (n : ℕ). leb n policyLimit) dual-length ∙ le-leb (length policy) policyLimit short in
         let (tupled, is) = accepted-written table policy (accepted-tree .0) (accepted-tree .1) in
         rw (accepted-tree .1, room, few)
-        (ap Accepted (sym dual-length), w (accepted-tree .0) tupled is ∙ ap (λ (n : ℕ). ws ++ zeros (length old - n)) (sym dual-length))
+        (answers (ap Accepted (sym dual-length)), w (accepted-tree .0) tupled is ∙ ap (λ (n : ℕ). ws ++ zeros (length old - n)) (sym dual-length))

@@ -14,13 +14,13 @@ use Rattle.model.specs.declared.Refusal.{Refusal}
 use Rattle.model.specs.declared.Refusal.the-variants.{LogLength, Room}
 use Rattle.model.specs.Words.{Words}
 use Rattle.model.specs.Bytes.{Text}
-use Rattle.model.specs.Answer.{Outcome, passed, refused, ask, answer, count, _>>=_}
+use Rattle.model.specs.Answer.{AnswersAs, Outcome, passed, refused, ask, answer, count, _>>=_}
 use Rattle.model.specs.Table.{askTable}
 use Rattle.model.specs.Log.{rowCount, askLog}
 use Rattle.model.specs.CsvReading.{Records, readCsv}
 use Rattle.model.specs.LogText.{askRecords}
 use Rattle.model.specs.Calls.{zeros, filled, inRoom, askReading, readLogCall}
-use Rattle.laws.specs.Answer.{refused-passed, passed-same}
+use Rattle.laws.specs.Answer.{answers, refused-passed, passed-same}
 use Rattle.laws.specs.Words.Tests.{and-false}
 use Rattle.texts.specs.declared.rows.Rows.{Rows}
 use Rattle.texts.specs.declared.rows.Rows.the-variants as rows
@@ -187,6 +187,6 @@ pub read-cleared :
     length after ≡ length buffer →
     n ≡ count r →
     after′ ≡ take (8 * n) after ++ zeros (length after - 8 * n) →
-    (r ≡ readLogCall table text (length buffer) .answer) × (after′ ≡ readLogCall table text (length buffer) .buffer)
+    AnswersAs (readLogCall table text (length buffer) .answer) r × (after′ ≡ readLogCall table text (length buffer) .buffer)
 unfolding readLogCall
-read-cleared table text buffer after after′ r n l k e c = (l .answered, c ∙ rw (e, k) (l .wrote))
+read-cleared table text buffer after after′ r n l k e c = (answers (l .answered), c ∙ rw (e, k) (l .wrote))

@@ -15,7 +15,7 @@ use Rattle.model.specs.declared.Refusal.{Refusal}
 use Rattle.model.specs.declared.Refusal.the-variants.{PolicyLength, Room}
 use Rattle.model.specs.Words.{Words, policyLimit}
 use Rattle.model.specs.Bytes.{Text}
-use Rattle.model.specs.Answer.{Outcome, passed, refused, ask, answer, count, _>>=_}
+use Rattle.model.specs.Answer.{AnswersAs, Outcome, passed, refused, ask, answer, count, _>>=_}
 use Rattle.model.specs.Table.{askTable}
 use Rattle.model.specs.Tree.{Tree, encode}
 use Rattle.model.specs.Level.{formula}
@@ -24,7 +24,7 @@ use Rattle.model.specs.Mode.{size, askModes}
 use Rattle.model.specs.Tptp.{goodTree, Spells}
 use Rattle.model.specs.TptpReading.{treeOf, readTptp, readText, readWhole}
 use Rattle.model.specs.Calls.{zeros, filled, result, inRoom, askPolicyReading, readPolicyCall}
-use Rattle.laws.specs.Answer.{refused-passed}
+use Rattle.laws.specs.Answer.{answers, refused-passed}
 use Rattle.laws.specs.Words.Tests.{decide}
 use Rattle.laws.specs.Reading.Trees.{askTree, ask-tree}
 use Rattle.laws.specs.Tptp.Sound.{tptp-sound}
@@ -211,6 +211,6 @@ pub policy-cleared :
     length after ≡ length buffer →
     n ≡ count r →
     after′ ≡ take n after ++ zeros (length after - n) →
-    (r ≡ readPolicyCall table text (length buffer) .answer) × (after′ ≡ readPolicyCall table text (length buffer) .buffer)
+    AnswersAs (readPolicyCall table text (length buffer) .answer) r × (after′ ≡ readPolicyCall table text (length buffer) .buffer)
 unfolding readPolicyCall result answer
-policy-cleared table text buffer after after′ r n l k e c = (l .answered, c ∙ rw (e, k) (l .wrote))
+policy-cleared table text buffer after after′ r n l k e c = (answers (l .answered), c ∙ rw (e, k) (l .wrote))

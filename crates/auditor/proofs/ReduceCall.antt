@@ -15,7 +15,8 @@ use Rattle.model.specs.Table.{askTable}
 use Rattle.model.specs.Reading.{readPolicy}
 use Rattle.model.specs.Mode.{askModes}
 use Rattle.model.specs.Reduction.{reduce, need}
-use Rattle.model.specs.Calls.{zeros, result, checkPolicy, reduceCall}
+use Rattle.model.specs.Calls.{zeros, result, checkPolicy, askResidual, reduceCall}
+use Rattle.laws.specs.Answer.{answers}
 use Rattle.laws.specs.Table as T
 use Rattle.laws.specs.Log as L
 use Rattle.laws.specs.Calls.Policy.{accepted-asked}
@@ -90,10 +91,10 @@ pub all-cleared :
     n ≡ count r →
     buffer₂ ≡ take n buffer₁ ++ zeros (length buffer₁ - n) →
     Reduces table policy log scratch buffer r scratch₂ buffer₂
-unfolding reduceCall result asked settled
+unfolding reduceCall askResidual result asked settled
 all-cleared table policy log scratch buffer scratch₁ buffer₁ scratch₂ buffer₂ {r} {n} l s b e k f =
     record {
-      answered = l .answered;
+      answered = answers (l .answered);
       wrote =
           f
           ∙ ap (λ (m : ℕ). take m buffer₁ ++ zeros (length buffer₁ - m)) k

@@ -13,8 +13,9 @@ use Rattle.model.specs.declared.Answer.the-variants.{Refused}
 use Rattle.model.specs.declared.Refusal.{Refusal}
 use Rattle.model.specs.declared.Refusal.the-variants.{Room}
 use Rattle.model.specs.Bytes.{Text}
-use Rattle.model.specs.Answer.{Outcome, passed, refused, ask, answer, count, _>>=_}
+use Rattle.model.specs.Answer.{AnswersAs, Outcome, passed, refused, ask, answer, count, _>>=_}
 use Rattle.model.specs.Calls.{inRoom, filledText, textResult}
+use Rattle.laws.specs.Answer.{answers}
 use Rattle.writing.specs.declared.number.Put.{Put}
 use Rattle.writing.specs.declared.number.Put.the-variants.{Full, At}
 use Rattle.writing.specs.Put.{told, Writes}
@@ -65,6 +66,6 @@ module _ (o : Outcome Text) where
       length after ≡ length buffer →
       n ≡ count r →
       after′ ≡ take n after ++ replicate (length after - n) 0 →
-      (r ≡ textResult (length buffer) o .answer) × (after′ ≡ textResult (length buffer) o .buffer)
+      AnswersAs (textResult (length buffer) o .answer) r × (after′ ≡ textResult (length buffer) o .buffer)
   unfolding textResult
-  text-cleared buffer after after′ r n l k e c = (l .answered, c ∙ rw (e, k) (l .wrote))
+  text-cleared buffer after after′ r n l k e c = (answers (l .answered), c ∙ rw (e, k) (l .wrote))

@@ -7,7 +7,7 @@ use lib.Dec.{leb}
 use Rattle.model.specs.declared.Answer.{Answer}
 use Rattle.model.specs.declared.Refusal.the-variants.{Scratch}
 use Rattle.model.specs.Words.{Words, placeWords, policyLimit}
-use Rattle.model.specs.Answer.{Outcome, passed, ask, answer, count, _>>=_}
+use Rattle.model.specs.Answer.{AnswersAs, Outcome, passed, ask, answer, count, _>>=_}
 use Rattle.model.specs.Tree.{Tree, encode}
 use Rattle.model.specs.Log.{rows, askLog}
 use Rattle.model.specs.Reduction.{reduce, need}
@@ -18,7 +18,7 @@ use Rattle.joining.specs.Answer.{told}
 
 -- the contract of reduce: given these words and lent these, it answers, and leaves scratch and buffer, as the call is defined
 pub record Reduces (table policy log scratch buffer : Words) (r : Answer) (scratch′ buffer′ : Words) : Type 0 where
-  pub answered : r ≡ reduceCall table policy log (length scratch) (length buffer) .answer
+  pub answered : AnswersAs (reduceCall table policy log (length scratch) (length buffer) .answer) r
   pub wrote : buffer′ ≡ reduceCall table policy log (length scratch) (length buffer) .buffer
   pub cleared : scratch′ ≡ reduceCall table policy log (length scratch) (length buffer) .scratch
 

@@ -9,7 +9,7 @@ use Rattle.model.specs.declared.Answer.{Answer}
 use Rattle.model.specs.Words.{Words}
 use Rattle.model.specs.Log.{front}
 use Rattle.model.specs.Calls.{Result, checkPolicy, checkLog}
-use Rattle.model.specs.Runs.{Call, accepted, leaves, next, after, held, results, RunClaim, EveryRun}
+use Rattle.model.specs.Runs.{Call, accepted, leaves, next, after, held, RunClaim, EveryRun}
 use Rattle.laws.specs.Runs.Claim.{every-run}
 use Rattle.auditor.specs.Reduce.{Reduces}
 
@@ -42,11 +42,17 @@ module _ (table log : Words) where
       Reduces table policy (front (s .part) log) (s .scratch) (s .buffer) (s .answer) (s .scratch′) (s .buffer′)
       × Serves (next table log policy (s .answer) (s .buffer′)) ss
 
-  -- the claim about served calls: they leave what the calls of the run leave, the caller holds what the run holds, and the run
-  -- claim holds of them
+  -- the claim about served calls
   pub record ServedClaim (policy : Words) (ss : List Served) : Type 0 where
-    pub left : map leftOf ss ≡ results table log policy (map callOf ss)
+    -- each answered, and left in scratch and buffer, what its call leaves by definition, given the policy held by then; the run claim
+    -- says that this is the residual, or refusal 11 or 12
+    pub left :
+        (before : List Served) (s : Served) (later : List Served) →
+        ss ≡ before ++ s ∷ later →
+        leftOf s ≡ leaves table log (held table log policy (map callOf before)) (callOf s)
+    -- the caller holds what the run holds
     pub holds : (before later : List Served) → ss ≡ before ++ later → kept policy before ≡ held table log policy (map callOf before)
+    -- and the run claim holds of them
     pub run : RunClaim table log policy (map callOf ss)
 
   -- what a served call left is what its call leaves
@@ -55,7 +61,7 @@ module _ (table log : Words) where
       Reduces table policy (front (s .part) log) (s .scratch) (s .buffer) (s .answer) (s .scratch′) (s .buffer′) →
       leftOf s ≡ leaves table log policy (callOf s)
   unfolding leaves callOf leftOf
-  left-one policy s r = rw (r .answered, r .wrote, r .cleared) refl
+  left-one policy s r = rw (r .answered .same, r .wrote, r .cleared) refl
 
   held-one :
       (policy : Words) (s : Served) →
@@ -64,13 +70,15 @@ module _ (table log : Words) where
   unfolding after leftOf
   held-one policy s e = ap (λ (r : Result). next table log policy (r .answer) (r .buffer)) e
 
-  all-left : (ss : List Served) (policy : Words) → Serves policy ss → map leftOf ss ≡ results table log policy (map callOf ss)
-  unfolding Serves results
-  all-left [] policy w = refl
-  all-left (s ∷ ss) policy w =
-      let e = left-one policy s (w .0) in
-      rw e (ap (λ (l : List Result). leaves table log policy (callOf s) ∷ l)
-      (all-left ss _ (subst (λ (p : Words). Serves p ss) (held-one policy s e) (w .1))))
+  all-left :
+      (before : List Served) (s : Served) (later : List Served) (policy : Words) →
+      Serves policy (before ++ s ∷ later) →
+      leftOf s ≡ leaves table log (held table log policy (map callOf before)) (callOf s)
+  unfolding Serves held
+  all-left [] s later policy w = left-one policy s (w .0)
+  all-left (t ∷ before) s later policy w =
+      let e = held-one policy t (left-one policy t (w .0)) in
+      all-left before s later _ (subst (λ (p : Words). Serves p (before ++ s ∷ later)) e (w .1))
 
   all-held : (before later : List Served) (policy : Words) → Serves policy (before ++ later) → kept policy before ≡ held table log policy (map callOf before)
   unfolding Serves kept held
@@ -90,7 +98,7 @@ pub every-served-run :
 unfolding EveryRun
 every-served-run table log policy ss l p w =
     record {
-      left = all-left table log ss policy w;
+      left = λ before s later e. all-left table log before s later policy (subst (Serves table log policy) e w);
       holds = λ before later e. all-held table log before later policy (subst (Serves table log policy) e w);
       run = every-run table log policy (map callOf ss) l p;
     }

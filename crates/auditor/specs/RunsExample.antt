@@ -4,7 +4,7 @@ use Prim.Native.Nat.{ℕ}
 use mathlib.Core.Path.{_≡_, refl, sym, subst}
 use mathlib.Core.Logic.{_↔_}
 use mathlib.Core.Bool.{Bool, true}
-use mathlib.Core.List.{List, [], _∷_, map, append-nil}
+use mathlib.Core.List.{List, [], _∷_, map, append-nil, List·Memᴰ}
 use lib.ListN.{replicate}
 use lib.IntN.{pos}
 use Rattle.model.specs.declared.Answer.the-variants.{Accepted, Refused}
@@ -16,7 +16,8 @@ use Rattle.model.specs.Truth.{structure, Is}
 use Rattle.model.specs.Calls.{zeros, askPolicy}
 use Rattle.model.specs.Runs.{proviso}
 use Rattle.model.specs.Examples.{words, T, computing}
-use Rattle.laws.specs.Runs.Example.{log, policy, log-accepted, policy-accepted, extends-self}
+use Rattle.laws.specs.Answer.{answers}
+use Rattle.laws.specs.Runs.Example.{log, policy, log-accepted, policy-accepted, extensions, extends}
 use Rattle.auditor.specs.Runs.{Served, callOf, kept, Serves, ServedClaim, every-served-run}
 
 -- what a caller lends, not cleared before
@@ -68,7 +69,13 @@ calls = first ∷ second ∷ third ∷ []
 
 pub serves : Serves T log policy calls
 unfolding Serves calls computing log policy
-serves = (record { answered = refl; wrote = refl; cleared = refl }, (record { answered = refl; wrote = refl; cleared = refl }, (record { answered = refl; wrote = refl; cleared = refl }, tt)))
+serves = (
+  record { answered = answers refl; wrote = refl; cleared = refl },
+  (
+    record { answered = answers refl; wrote = refl; cleared = refl },
+    (record { answered = answers refl; wrote = refl; cleared = refl }, tt),
+  ),
+)
 
 pub meets-proviso : proviso T log policy (map callOf calls) ≡ true
 unfolding calls callOf computing log policy
@@ -77,13 +84,16 @@ meets-proviso = refl
 pub claim : ServedClaim T log policy calls
 claim = every-served-run T log policy calls log-accepted policy-accepted serves
 
--- the policy that the caller holds at the end is true, and false, in the log as the first policy is
-pub same-in-the-log :
+-- the policy that the caller holds at the end is true, and false, as the first policy is: in the log, and in extensions with a row in
+-- front, with the rows in reverse order, and with a number beyond 32 bits
+pub same-in-extensions :
     (before after : Tree) →
     askPolicy T policy ≡ passed before →
     askPolicy T (kept T log policy calls) ≡ passed after →
+    (larger : Words) →
+    List·Memᴰ larger extensions →
     (truth : Bool) →
-    Is after (structure T log) truth [] ↔ Is before (structure T log) truth []
-same-in-the-log before after b a =
-    claim .run .truth meets-proviso (structure T log) (extends-self (structure T log)) before after b
+    Is after (structure T larger) truth [] ↔ Is before (structure T larger) truth []
+same-in-extensions before after b a larger m =
+    claim .run .truth meets-proviso (structure T larger) (extends larger m) before after b
     (subst (λ (p : Words). askPolicy T p ≡ passed after) (claim .holds calls [] (sym (append-nil calls))) a)

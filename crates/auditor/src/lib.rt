@@ -7,7 +7,7 @@ mod residual;
 ghost use mathlib.Core.Path.{_≡_};
 ghost use Prim.Native.Nat.{_≤_};
 ghost use lib.ListN.{length};
-ghost use Rattle.model.specs.Answer.{count};
+ghost use Rattle.model.specs.Answer.{count, AnswersAs};
 ghost use Rattle.model.specs.Log.{askLog};
 ghost use Rattle.model.specs.Calls as C;
 ghost use Rattle.tables.specs.Checked.{outcome};
@@ -23,7 +23,7 @@ use writing::number::Put;
 
 // Check a policy over a table: questions 1 to 7. Accepted, the count is the greatest level.
 pub fn check_policy(table: &[i32], policy: &[i32]) -> Answer
-    ensures { λ r. ⌜ r ≡ C.checkPolicy (now (table .entry)) (now (policy .entry)) ⌝ }
+    ensures { λ r. ⌜ AnswersAs (C.checkPolicy (now (table .entry)) (now (policy .entry))) r ⌝ }
 {
     let first = tables::table::check_table(table);
     match first {
@@ -55,7 +55,7 @@ fn check_rows(table: &[i32], log: &[i32]) -> Checked
 
 // Check a log over a table: questions 1 and 8 to 10. Accepted, the count is the number of rows.
 pub fn check_log(table: &[i32], log: &[i32]) -> Answer
-    ensures { λ r. ⌜ r ≡ C.checkLog (now (table .entry)) (now (log .entry)) ⌝ }
+    ensures { λ r. ⌜ AnswersAs (C.checkLog (now (table .entry)) (now (log .entry))) r ⌝ }
 {
     let first = tables::table::check_table(table);
     match first {
@@ -73,7 +73,7 @@ pub fn check_log(table: &[i32], log: &[i32]) -> Answer
 // Write the dual of a policy over a table: questions 1 to 7 and 12. Accepted, the count is its length.
 pub fn dual(table: &[i32], policy: &[i32], buffer: &mut [i32]) -> Answer
     ensures { λ r. ⌜
-        r ≡ C.dualCall (now (table .entry)) (now (policy .entry)) (length (now (buffer .entry))) .answer
+        AnswersAs (C.dualCall (now (table .entry)) (now (policy .entry)) (length (now (buffer .entry))) .answer) r
         ⌝ }
     ensures { λ _. ⌜
         now (buffer .exit) ≡ C.dualCall (now (table .entry)) (now (policy .entry)) (length (now (buffer .entry))) .buffer
@@ -133,7 +133,7 @@ pub fn reduce(
 // Read a log from comma-separated text over a table: questions 1, 13, 14, 8, 10 and 12. Accepted, the count is the number of rows.
 pub fn read_log(table: &[i32], text: &[u8], buffer: &mut [i32]) -> Answer
     ensures { λ r. ⌜
-        r ≡ C.readLogCall (now (table .entry)) (now (text .entry)) (length (now (buffer .entry))) .answer
+        AnswersAs (C.readLogCall (now (table .entry)) (now (text .entry)) (length (now (buffer .entry))) .answer) r
         ⌝ }
     ensures { λ _. ⌜
         now (buffer .exit) ≡ C.readLogCall (now (table .entry)) (now (text .entry)) (length (now (buffer .entry))) .buffer
@@ -147,7 +147,7 @@ pub fn read_log(table: &[i32], text: &[u8], buffer: &mut [i32]) -> Answer
 // Write a log as comma-separated text: questions 1, 8 to 10 and 12. Accepted, the count is the number of bytes.
 pub fn write_log(table: &[i32], log: &[i32], buffer: &mut [u8]) -> Answer
     ensures { λ r. ⌜
-        r ≡ C.writeLogCall (now (table .entry)) (now (log .entry)) (length (now (buffer .entry))) .answer
+        AnswersAs (C.writeLogCall (now (table .entry)) (now (log .entry)) (length (now (buffer .entry))) .answer) r
         ⌝ }
     ensures { λ _. ⌜
         now (buffer .exit) ≡ C.writeLogCall (now (table .entry)) (now (log .entry)) (length (now (buffer .entry))) .buffer
@@ -162,7 +162,7 @@ pub fn write_log(table: &[i32], log: &[i32], buffer: &mut [u8]) -> Answer
 // spells, and 12. Accepted, the count is the number of words.
 pub fn read_policy(table: &[i32], text: &[u8], buffer: &mut [i32]) -> Answer
     ensures { λ r. ⌜
-        r ≡ C.readPolicyCall (now (table .entry)) (now (text .entry)) (length (now (buffer .entry))) .answer
+        AnswersAs (C.readPolicyCall (now (table .entry)) (now (text .entry)) (length (now (buffer .entry))) .answer) r
         ⌝ }
     ensures { λ _. ⌜
         now (buffer .exit) ≡ C.readPolicyCall (now (table .entry)) (now (text .entry)) (length (now (buffer .entry))) .buffer
@@ -176,7 +176,7 @@ pub fn read_policy(table: &[i32], text: &[u8], buffer: &mut [i32]) -> Answer
 // Write a policy as text in the TPTP typed form: questions 1 to 7 and 12. Accepted, the count is the number of bytes.
 pub fn write_policy(table: &[i32], policy: &[i32], buffer: &mut [u8]) -> Answer
     ensures { λ r. ⌜
-        r ≡ C.writePolicyCall (now (table .entry)) (now (policy .entry)) (length (now (buffer .entry))) .answer
+        AnswersAs (C.writePolicyCall (now (table .entry)) (now (policy .entry)) (length (now (buffer .entry))) .answer) r
         ⌝ }
     ensures { λ _. ⌜
         now (buffer .exit) ≡ C.writePolicyCall (now (table .entry)) (now (policy .entry)) (length (now (buffer .entry))) .buffer

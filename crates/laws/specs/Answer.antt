@@ -1,12 +1,17 @@
--- What it says that questions asked in order all pass: each of them passed.
+-- What it says that questions asked in order all pass: each of them passed; and what is promised of an answer.
 use Prim.Native.Nat.{ℕ}
-use mathlib.Core.Path.{_≡_, refl}
+use mathlib.Core.Path.{_≡_, refl, ap}
 use mathlib.Core.Bool.{Bool, true, false}
 use native.Mathlib.Omega.{arith}
 use mathlib.Core.List.{List, [], _∷_, List·Memᴰ, List·Memᴰ·head, List·Memᴰ·tail}
-use Rattle.model.specs.Answer.{Outcome, refused, passed, ask, answer, _>>=_, inTurn}
+use Rattle.model.specs.Answer.{number, place, count, AnswersAs, Outcome, refused, passed, ask, answer, _>>=_, inTurn}
 use Rattle.model.specs.declared.Refusal.{Refusal}
+use Rattle.model.specs.declared.Answer.{Answer}
 use Rattle.model.specs.declared.Answer.the-variants.{Accepted, Refused}
+
+-- an answer that is the fixed one has its number, place and count
+pub answers : {fixed r : Answer} → r ≡ fixed → AnswersAs fixed r
+answers e = record { same = e; numbered = ap number e; placed = ap place e; counted = ap count e }
 
 -- a question that passed was answered with yes
 pub ask-passed : (b : Bool) (r : Refusal) (p : ℕ) {u : Unit {0}} → ask b r p ≡ passed u → b ≡ true

@@ -6,7 +6,7 @@ use mathlib.Core.Path.{_≡_, refl, sym, ap, _∙_, subst}
 use mathlib.Core.Logic.{_≢_, ⊎-elim}
 use mathlib.Core.Bool.{true, false, not, _&&_, false≢true}
 use mathlib.Core.List.{[], _∷_, _++_, append-nil}
-use lib.ListN.{length}
+use lib.ListN.{length, length-append}
 use lib.Seq.{append-snoc}
 use lib.Dec.{leb, eqb}
 use lib.IntN.{ℤ, pos, negsuc, negℤ}
@@ -46,6 +46,30 @@ digits-step k n h = rw (le-ltb n 10 h)
 digits-one : (k n : ℕ) → n < 10 → digits (suc k) n ≡ (nought + n) ∷ []
 unfolding digits
 digits-one k n h = rw (lt-ltb n 10 h)
+
+-- how many digits there are: at most those that are written, and at least one; of a number below 100 at most two
+pub digits-few : (k n : ℕ) → length (digits k n) ≤ k
+unfolding digits
+digits-few zero n = omega arith
+digits-few (suc k) n =
+    ⊎-elim
+    (λ h. rw (digits-one k n h) (omega arith))
+    (λ h. rw (digits-step k n h, length-append) (omega (arith, digits-few k (n / 10))))
+    (side 10 n)
+
+pub digits-some : (k n : ℕ) → 1 ≤ length (digits (suc k) n)
+digits-some k n =
+    ⊎-elim
+    (λ h. rw (digits-one k n h) (omega arith))
+    (λ h. rw (digits-step k n h, length-append) (omega arith))
+    (side 10 n)
+
+pub digits-two : (k n : ℕ) → n < 100 → length (digits (suc (suc k)) n) ≤ 2
+digits-two k n l =
+    ⊎-elim
+    (λ h. rw (digits-one (suc k) n h) (omega arith))
+    (λ h. rw (digits-step (suc k) n h, digits-one k (n / 10) (omega arith)) (omega arith))
+    (side 10 n)
 
 -- digits of a number are digits, and stand for the number
 digits-all : (k n : ℕ) → all digit (digits k n) ≡ true

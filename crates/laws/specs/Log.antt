@@ -311,7 +311,7 @@ pub unknown-known : {b : Bool} → unknown ≡ known b → ⊥
 unknown-known e = let z : _≡_ {A = ℕ} 0 1 = cc in omega arith
 
 -- with no row, an atom is known only if its predicate is complete, and then as false
-no-row : (c b : Bool) → cond c (known false) unknown ≡ known b → (c ≡ true) × (b ≡ false)
+pub no-row : (c b : Bool) → cond c (known false) unknown ≡ known b → (c ≡ true) × (b ≡ false)
 no-row true b e = (refl, sym (known-same e))
 no-row false b e = absurd (unknown-known e)
 
@@ -442,23 +442,23 @@ rest-false table (row ∷ rest) p ns e c =
 pub front-extends :
     (table : Words) (rows : List Words) (k : ℕ) →
     all (λ row. not (saysTrue row && complete table (value row 0))) (drop k rows) ≡ true →
-    Extends (valueIn table (take k rows)) (valueIn table rows)
+    Extends table (valueIn table (take k rows)) (valueIn table rows)
 unfolding Extends valueIn
-front-extends table rows zero e p ns b f =
+front-extends table rows zero e p ns g b f =
     let (c, q) = no-row (complete table p) b f in
     rest-false table rows p ns e c ∙ ap known (sym q)
-front-extends table [] (suc k) e p ns b f = f
-front-extends table (row ∷ rest) (suc k) e p ns b f =
+front-extends table [] (suc k) e p ns g b f = f
+front-extends table (row ∷ rest) (suc k) e p ns g b f =
     ⊎-elim
     (λ h. rw h (rw h at f))
-    (λ h. rw h (front-extends table rest k e p ns b (rw h at f)))
+    (λ h. rw h (front-extends table rest k e p ns g b (rw h at f)))
     (decide (holds p ns row))
 
 -- the same of a log and its front part
 pub log-extends :
     (table log : Words) (k : ℕ) →
     all (λ row. not (saysTrue row && complete table (value row 0))) (drop k (rows log)) ≡ true →
-    Extends (valueIn table (rows (front k log))) (valueIn table (rows log))
+    Extends table (valueIn table (rows (front k log))) (valueIn table (rows log))
 log-extends table log k e =
-    subst (λ (l : List Words). Extends (valueIn table l) (valueIn table (rows log))) (sym (rows-front log k))
+    subst (λ (l : List Words). Extends table (valueIn table l) (valueIn table (rows log))) (sym (rows-front log k))
     (front-extends table (rows log) k e)

@@ -1,4 +1,5 @@
--- Laws of model's Reading.antt and Tree.antt: what is read is written back, and what is written is read back.
+-- Laws of model's Reading.antt and Tree.antt: what is read is written back, and what is written is read back; and
+-- which trees are good by question 3 (Shaped).
 pub mod Formed
 pub mod Items
 pub mod Nodes
@@ -6,3 +7,4 @@ pub mod Encoded
 pub mod Parts
 pub mod Back
 pub mod Trees
+pub mod Shaped

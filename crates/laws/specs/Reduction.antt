@@ -3,3 +3,5 @@ pub mod Instances
 pub mod Truth
 pub mod Settled
 pub mod Accepted
+pub mod Paper
+pub mod Sized

@@ -1,17 +1,20 @@
 -- Truth in structures: nothing is both true and false, and what is true or false stays so in every extension.
 -- By induction on the tree, with both values of truth at once.
-use Prim.Native.Nat.{ℕ}
+pub mod Logs
+use Prim.Native.Nat.{ℕ, _+_, _<_}
 use mathlib.Core.Path.{_≡_, sym, _∙_}
 use mathlib.Core.Logic.{_⊎_, inl, inr, ⊎-elim, _↔_}
 use mathlib.Core.Bool.{Bool, true, false, cond, true≢false, false≢true}
 use mathlib.Core.List.{List, [], _∷_, _++_, map}
-use lib.ListN.{length}
+use lib.ListN.{length, length-map}
 use lib.IntN.{ℤ}
-use Rattle.model.specs.Words.{same, member}
+use Rattle.model.specs.Words.{Words, same, member}
+use Rattle.model.specs.Table.{predicates, arity}
 use Rattle.model.specs.Log.{Value, known}
-use Rattle.model.specs.Tree.{Tree, Trees, plain, atom, compare, join, quantifier, some, nil, cons}
-use Rattle.model.specs.Truth.{Structure, Extends, numberOf, Is, Every, One}
+use Rattle.model.specs.Tree.{Term, Tree, Trees, plain, atom, compare, join, quantifier, some, nil, cons}
+use Rattle.model.specs.Truth.{GroundAtom, Structure, Extends, numberOf, Is, Every, One}
 use Rattle.laws.specs.Words.Tests.{clash}
+use Rattle.laws.specs.Reading.Formed.{Formed, FormedAll}
 
 -- the two statements about a quantifier, of tuples of v numbers: each tuple is excluded, or has a false restriction or the
 -- body's truth; some tuple is not excluded and has a true restriction and the body's truth
@@ -101,32 +104,66 @@ pub some-tuple :
     SomeTuple v excluded C′ F′
 some-tuple v excluded C C′ F F′ hc hf h = (h .0, h .1, h .2, hc (h .0) (h .1) (h .3), hf (h .0) (h .1) (h .4))
 
-module _ (s larger : Structure) (extends : Extends s larger) where
+-- the numbers of an atom's terms make it a ground atom, if it has as many terms as its predicate has arguments
+pub ground-atom :
+    (table : Words) (p : ℕ) (ts : List Term) (ρ : List ℤ) →
+    p < predicates table →
+    arity table p ≡ length ts →
+    GroundAtom table p (map (numberOf ρ) ts)
+ground-atom table p ts ρ h n = (h, length-map ts (numberOf ρ) ∙ sym n)
+
+module _ (table : Words) (s larger : Structure) (extends : Extends table s larger) where
   mutual
-    unfolding Is Extends
+    unfolding Is Extends Formed
 
-    -- what is true, or false, in a structure is so in every extension
-    pub monotone : (t : Tree) (truth : Bool) (ρ : List ℤ) → Is t s truth ρ → Is t larger truth ρ
-    monotone (plain b) truth ρ h = h
-    monotone (atom b p ts) truth ρ h = extends p (map (numberOf ρ) ts) (same truth b) h
-    monotone (compare b d x y) truth ρ h = h
-    monotone (join b ts) truth ρ h = by-test (same truth b) (λ a. monotone-every ts truth ρ a) (λ a. monotone-one ts truth ρ a) h
-    monotone (quantifier b v excluded c f) truth ρ h =
+    -- what is true, or false, in a structure is so in every extension, if the atoms are over the table
+    pub monotone :
+        (t : Tree) (kind : Bool) (scope : ℕ) →
+        Formed t table kind scope →
+        (truth : Bool) (ρ : List ℤ) →
+        Is t s truth ρ →
+        Is t larger truth ρ
+    monotone (plain b) kind scope w truth ρ h = h
+    monotone (atom b p ts) kind scope w truth ρ h =
+        extends p (map (numberOf ρ) ts) (ground-atom table p ts ρ (w .0) (w .1)) (same truth b) h
+    monotone (compare b d x y) kind scope w truth ρ h = h
+    monotone (join b ts) kind scope w truth ρ h =
         by-test (same truth b)
-        (each-tuple v excluded _ _ _ _ (λ τ e a. monotone c false (ρ ++ τ) a) (λ τ e a. monotone f truth (ρ ++ τ) a))
-        (some-tuple v excluded _ _ _ _ (λ τ e a. monotone c true (ρ ++ τ) a) (λ τ e a. monotone f truth (ρ ++ τ) a))
+        (λ a. monotone-every ts kind scope (w .1) truth ρ a)
+        (λ a. monotone-one ts kind scope (w .1) truth ρ a)
         h
-    monotone (some c) true ρ h = (h .0, monotone c true (ρ ++ h .0 ∷ []) (h .1))
-    monotone (some c) false ρ h = λ k. monotone c false (ρ ++ k ∷ []) (h k)
+    monotone (quantifier b v excluded c f) kind scope w truth ρ h =
+        let restriction : (truth : Bool) (τ : List ℤ) → Is c s truth (ρ ++ τ) → Is c larger truth (ρ ++ τ) =
+        λ truth τ a. monotone c false (scope + v) (w .5) truth (ρ ++ τ) a in
+        let body : (τ : List ℤ) → Is f s truth (ρ ++ τ) → Is f larger truth (ρ ++ τ) =
+        λ τ a. monotone f true (scope + v) (w .6) truth (ρ ++ τ) a in
+        by-test (same truth b)
+        (each-tuple v excluded _ _ _ _ (λ τ e a. restriction false τ a) (λ τ e a. body τ a))
+        (some-tuple v excluded _ _ _ _ (λ τ e a. restriction true τ a) (λ τ e a. body τ a))
+        h
+    monotone (some c) kind scope w true ρ h =
+        (h .0, monotone c false (scope + 1) (w .2) true (ρ ++ h .0 ∷ []) (h .1))
+    monotone (some c) kind scope w false ρ h = λ k. monotone c false (scope + 1) (w .2) false (ρ ++ k ∷ []) (h k)
 
-    monotone-every : (ts : Trees) (truth : Bool) (ρ : List ℤ) → Every ts s truth ρ → Every ts larger truth ρ
-    monotone-every nil truth ρ h = tt
-    monotone-every (cons t ts) truth ρ h = (monotone t truth ρ (h .0), monotone-every ts truth ρ (h .1))
+    monotone-every :
+        (ts : Trees) (kind : Bool) (scope : ℕ) →
+        FormedAll ts table kind scope →
+        (truth : Bool) (ρ : List ℤ) →
+        Every ts s truth ρ →
+        Every ts larger truth ρ
+    monotone-every nil kind scope w truth ρ h = tt
+    monotone-every (cons t ts) kind scope w truth ρ h =
+        (monotone t kind scope (w .0) truth ρ (h .0), monotone-every ts kind scope (w .1) truth ρ (h .1))
 
-    monotone-one : (ts : Trees) (truth : Bool) (ρ : List ℤ) → One ts s truth ρ → One ts larger truth ρ
-    monotone-one nil truth ρ h = h
-    monotone-one (cons t ts) truth ρ h =
-        ⊎-elim (λ a. inl (monotone t truth ρ a)) (λ a. inr (monotone-one ts truth ρ a)) h
+    monotone-one :
+        (ts : Trees) (kind : Bool) (scope : ℕ) →
+        FormedAll ts table kind scope →
+        (truth : Bool) (ρ : List ℤ) →
+        One ts s truth ρ →
+        One ts larger truth ρ
+    monotone-one nil kind scope w truth ρ h = h
+    monotone-one (cons t ts) kind scope w truth ρ h =
+        ⊎-elim (λ a. inl (monotone t kind scope (w .0) truth ρ a)) (λ a. inr (monotone-one ts kind scope (w .1) truth ρ a)) h
 
 -- two lists of trees say the same, tree by tree, each under its own numbers and for its own truth
 module _ (s : Structure) (truth : Bool) (ρ : List ℤ) (truth′ : Bool) (ρ′ : List ℤ) where

@@ -1,5 +1,6 @@
--- Answers: the number, the place and the count of each case, and the asking of questions in order.
+-- AnswersAs: the number, the place and the count of each case, and the asking of questions in order.
 use Prim.Native.Nat.{ℕ}
+use mathlib.Core.Path.{_≡_}
 use mathlib.Core.Bool.{Bool, true, false}
 use mathlib.Core.List.{List, [], _∷_}
 use Rattle.model.specs.declared.Refusal.{Refusal}
@@ -37,6 +38,13 @@ place (Refused r p) = p
 unfoldable pub count : Answer → ℕ
 count (Accepted n) = n
 count (Refused r p) = 0
+
+-- what a call promises of its answer: it is the one that is fixed for the call, and so are its number, its place and its count
+pub record AnswersAs (fixed r : Answer) : Type 0 where
+  pub same : r ≡ fixed
+  pub numbered : number r ≡ number fixed
+  pub placed : place r ≡ place fixed
+  pub counted : count r ≡ count fixed
 
 -- what comes of a list of questions: the first one refused, with its place, or what they were asked for
 pub data Outcome (A : Type 0) : Type 0 where

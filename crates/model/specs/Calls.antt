@@ -67,14 +67,19 @@ checkLog table log =
       _ ← askTable table
       askLog table log
 
+-- questions 11 and 12 of a policy's tree and a log that passed 1 to 10: the words of the residual
+unfoldable pub askResidual : Words → Words → Tree → ℕ → ℕ → Outcome Words
+askResidual table log tree scratch buffer = do
+  _ ← ask (leb (need table (rows log) tree []) (scratch / placeWords)) Scratch 0
+  write buffer (reduce table (rows log) tree [])
+
 -- reduce: 1 to 12; the length of the residual
 unfoldable pub reduceCall : Words → Words → Words → ℕ → ℕ → Result
 reduceCall table policy log scratch buffer =
     result scratch buffer do
       tree ← askPolicy table policy
       _ ← askLog table log
-      _ ← ask (leb (need table (rows log) tree []) (scratch / placeWords)) Scratch 0
-      write buffer (reduce table (rows log) tree [])
+      askResidual table log tree scratch buffer
 
 -- dual: 1 to 7 and 12; the length of the dual
 unfoldable pub dualCall : Words → Words → ℕ → Result

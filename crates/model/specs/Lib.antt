@@ -25,5 +25,6 @@ pub mod Dual
 pub mod Calls
 pub mod Runs
 pub mod Examples
+pub mod ExtensionExample
 pub mod TextExamples
 pub mod TptpExamples

@@ -16,7 +16,7 @@ use Rattle.model.specs.Table.{complete}
 use Rattle.model.specs.Log.{rows, front, saysTrue}
 use Rattle.model.specs.Tree.{Tree, Trees, plain, atom, compare, join, quantifier, some, nil, cons}
 use Rattle.model.specs.Truth.{Structure, structure, Extends, Is}
-use Rattle.model.specs.Calls.{Result, askPolicy, checkPolicy, checkLog, reduceCall}
+use Rattle.model.specs.Calls.{Result, result, askPolicy, askResidual, checkPolicy, checkLog, reduceCall}
 
 -- a call of a run: the rows of its front part, and the lengths of the scratch and the buffer that it is lent
 pub record Call : Type 0 where
@@ -27,7 +27,7 @@ pub record Call : Type 0 where
 unfoldable pub accepted : Answer → Bool
 accepted a = eqb (number a) 0
 
--- a tree is neither true nor false in a structure
+-- a tree is neither true nor false in a structure: open there
 unfoldable pub Open : Tree → Structure → Type 0
 Open tree s = (truth : Bool) → Is tree s truth [] → ⊥
 
@@ -58,14 +58,10 @@ module _ (table log : Words) where
   unfoldable pub after : Words → Call → Words
   after policy call = next policy (leaves policy call .answer) (leaves policy call .buffer)
 
-  -- the policy held after a list of calls, and what each of them left
+  -- the policy held after a list of calls
   unfoldable pub held : Words → List Call → Words
   held policy [] = policy
   held policy (call ∷ calls) = held (after policy call) calls
-
-  unfoldable pub results : Words → List Call → List Result
-  results policy [] = []
-  results policy (call ∷ calls) = leaves policy call ∷ results (after policy call) calls
 
   -- no row behind a part makes true an atom of a complete predicate
   unfoldable pub clear : ℕ → Bool
@@ -79,17 +75,20 @@ module _ (table log : Words) where
 
   -- the claim about one run
   pub record RunClaim (policy : Words) (calls : List Call) : Type 0 where
-    -- each call answers as its definition fixes it, given the policy held by then
+    -- each call is answered by the residual of the policy held by then over its part, or by refusal 11 or 12, and leaves this
     pub answered :
         (before : List Call) (call : Call) (later : List Call) →
         calls ≡ before ++ call ∷ later →
-        results policy calls ≡ results policy before ++ leaves (held policy before) call ∷ results (held policy (before ++ call ∷ [])) later
-    -- each policy held is accepted, at no more levels than the first
+        (tree : Tree) →
+        askPolicy table (held policy before) ≡ passed tree →
+        leaves (held policy before) call
+        ≡ result (call .scratch) (call .buffer) (askResidual table (front (call .part) log) tree (call .scratch) (call .buffer))
+    -- the policy held after each call is accepted, at no more levels than the one held before it
     pub kept :
-        (before later : List Call) →
-        calls ≡ before ++ later →
-        (accepted (checkPolicy table (held policy before)) ≡ true)
-        × (count (checkPolicy table (held policy before)) ≤ count (checkPolicy table policy))
+        (before : List Call) (call : Call) (later : List Call) →
+        calls ≡ before ++ call ∷ later →
+        (accepted (checkPolicy table (held policy (before ++ call ∷ []))) ≡ true)
+        × (count (checkPolicy table (held policy (before ++ call ∷ []))) ≤ count (checkPolicy table (held policy before)))
     -- after each accepted call nothing that its part decides and no instance that it shows is left
     pub settled :
         (before : List Call) (call : Call) (later : List Call) →
@@ -102,7 +101,7 @@ module _ (table log : Words) where
     pub truth :
         proviso policy calls ≡ true →
         (s : Structure) →
-        Extends (structure table log) s →
+        Extends table (structure table log) s →
         (first last : Tree) →
         askPolicy table policy ≡ passed first →
         askPolicy table (held policy calls) ≡ passed last →

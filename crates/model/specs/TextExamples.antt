@@ -1,5 +1,5 @@
 -- Examples of logs as text, as one list of cases and one claim about the list.
-use Prim.Native.Nat.{ℕ}
+use Prim.Native.Nat.{ℕ, zero, suc}
 use Prim.Native.String as S
 use mathlib.Core.Path.{_≡_, refl}
 use mathlib.Core.List.{List, [], _∷_, _++_, map}
@@ -19,12 +19,19 @@ use Rattle.model.specs.Decimal
 use Rattle.model.specs.LogText
 use Rattle.model.specs.Calls
 
+-- a text of so many times the same good record
+unfoldable pub repeated : ℕ → Text
+repeated zero = []
+repeated (suc n) = bytes "2,1,5\r\n" ++ repeated n
+
 pub data TextCase : Type 0 where
   -- the fields of a text, record by record
   splits : S.String → List (List S.String) → TextCase
   -- a call over table T: its input; number, place and count; all words, or bytes, of the buffer lent
   reads : S.String → ℕ → ℕ → ℕ → Words → TextCase
   writes : Words → ℕ → ℕ → ℕ → Text → TextCase
+  -- the same record so many times is refused: number and place; the buffer has two words
+  repeats : ℕ → ℕ → ℕ → TextCase
 
 -- what comes out
 pub data TextLeft : Type 0 where
@@ -39,11 +46,13 @@ comesOut (splits text records) = fields (readCsv (bytes text))
 comesOut (reads text n p k buffer) =
     let r = readLogCall T (bytes text) (length buffer) in textLeft (r .answer) (r .buffer) []
 comesOut (writes log n p k buffer) = let r = writeLogCall T log (length buffer) in textLeft (r .answer) [] (r .buffer)
+comesOut (repeats times n p) = let r = readLogCall T (repeated times) 2 in textLeft (r .answer) (r .buffer) []
 
 unfoldable pub mustComeOut : TextCase → TextLeft
 mustComeOut (splits text records) = fields (passed (map (map bytes) records))
 mustComeOut (reads text n p k buffer) = left n p k buffer []
 mustComeOut (writes log n p k buffer) = left n p k [] buffer
+mustComeOut (repeats times n p) = left n p 0 (words (0 ∷ 0 ∷ [])) []
 
 -- a text that is refused: number and place; the buffer has two words
 unfoldable pub no : S.String → ℕ → ℕ → TextCase
@@ -64,6 +73,8 @@ cases =
     ∷ splits "\r\n" (("" ∷ []) ∷ [])
     ∷ splits "a, b,\r\n,c" (("a" ∷ " b" ∷ "" ∷ []) ∷ ("" ∷ "c" ∷ []) ∷ [])
     ∷ splits "\"a\"\"b\",\"\",\"c,\r\nd\"\r\n\"\"" (("a\"b" ∷ "" ∷ "c,\r\nd" ∷ []) ∷ ("" ∷ []) ∷ [])
+    -- in quotes a CR or an LF stands alone, too
+    ∷ splits "\"a\rb\",\"c\nd\"" (("a\rb" ∷ "c\nd" ∷ []) ∷ [])
     -- no rows; a row, with CRLF behind it or not; fields in quotes; two rows and room for more
     ∷ reads "" 0 0 0 (words (0 ∷ []))
     ∷ reads "0,1,7,9,100\r\n" 0 0 1 row
@@ -80,6 +91,11 @@ cases =
     ∷ no "0,1,7,9,\t" 13 8
     ∷ no "0,1,7,9,\"\t\"" 13 9
     ∷ no "\u{7f}" 13 0
+    -- 13: bytes of 128 and above, which are the codes of these characters, bare and in quotes
+    ∷ no "0,1,7,9,\u{80}" 13 8
+    ∷ no "0,1,7,9,1\u{9f}" 13 9
+    ∷ no "0,1,7,9,\"\u{80}\"" 13 9
+    ∷ no "0,1,7,9,\"1\u{9f}\"" 13 10
     -- 13 is asked before 14: the first record is none of a row, the last byte is not allowed
     ∷ no "x\r\n0,1,7,9,100\n" 13 14
     -- 14: an empty record, also behind a good one, and an empty field
@@ -96,12 +112,16 @@ cases =
     ∷ no "0,1,7,9,2147483648" 14 0
     ∷ no "0,1,7,9,-2147483649" 14 0
     ∷ no "0,1,7,9,\"1\"\"0\"" 14 0
+    ∷ no "0,1,7,9,\"1\r0\"" 14 0
+    ∷ no "0,1,7,9,\"1\n0\"" 14 0
     -- 14: an argument less, one more; a predicate that does not exist; truth 2
     ∷ no "0,1,7,9" 14 0
     ∷ no "0,1,7,9,100,0" 14 0
     ∷ no "3,1,7" 14 0
     ∷ no "-1,1,7" 14 0
     ∷ no "0,2,7,9,100" 14 0
+    -- 8, by one record; it is asked before 10, so that the records may all be the same
+    ∷ repeats 4097 8 0
     -- 14 is asked of every record before 10, and 10 before 12; then 12, by one word
     ∷ no "2,1,5\r\n2,0,5\r\n2,1" 14 2
     ∷ no "2,1,5\r\n2,0,5\r\n" 10 1
@@ -120,5 +140,5 @@ cases =
 
 -- the claim
 pub textExamples : map comesOut cases ≡ map mustComeOut cases
-unfolding computing Bytes.bytes textLeft comesOut mustComeOut no row extremes cases Bytes.digit Csv.textData Csv.quotable Csv.content Csv.doubled Csv.spellField Csv.spellRecord Csv.spell CsvReading.moveBehind CsvReading.moveBare CsvReading.moveFirst CsvReading.move CsvReading.addByte CsvReading.addField CsvReading.addRecord CsvReading.atEnd CsvReading.follow CsvReading.readFrom CsvReading.readCsv Decimal.numeral Decimal.plainDigits Decimal.goodNumber Decimal.numberOf Decimal.digits Decimal.decimal LogText.rowOf LogText.spellsRow LogText.askRecords LogText.logLines LogText.logText Calls.inRoom Calls.askReading Calls.readLogCall Calls.askWriting Calls.filledText Calls.textResult Calls.writeLogCall
+unfolding computing Bytes.bytes repeated textLeft comesOut mustComeOut no row extremes cases Bytes.digit Csv.textData Csv.quotable Csv.content Csv.doubled Csv.spellField Csv.spellRecord Csv.spell CsvReading.moveBehind CsvReading.moveBare CsvReading.moveFirst CsvReading.move CsvReading.addByte CsvReading.addField CsvReading.addRecord CsvReading.atEnd CsvReading.follow CsvReading.readFrom CsvReading.readCsv Decimal.numeral Decimal.plainDigits Decimal.goodNumber Decimal.numberOf Decimal.digits Decimal.decimal LogText.rowOf LogText.spellsRow LogText.askRecords LogText.logLines LogText.logText Calls.inRoom Calls.askReading Calls.readLogCall Calls.askWriting Calls.filledText Calls.textResult Calls.writeLogCall
 textExamples = refl

@@ -116,8 +116,10 @@ unfoldable pub lowerWord : Text → Bool
 lowerWord [] = false
 lowerWord (b ∷ t) = small b && all wordByte t
 
--- the trees that have words of 32 bits good by question 3: their counts are in range, and each node may stand where it does, in a
--- formula (true) or a restriction
+-- the trees that are good by question 3: each node may stand where it does, in a formula (true) or a restriction; predicates, variables,
+-- constants and d are words of 32 bits; terms, variables of a quantifier and numbers of a tuple are as many as question 3 allows. The
+-- number of operands, at least 2, and that of excluded tuples have no greatest value here: a tree with more of them than 32 bits can
+-- count has more words than a policy can have, so that its text is refused by question 2
 unfoldable pub goodTerm : Term → Bool
 goodTerm (constant k) = wordSized k
 goodTerm (variable x) = leb x greatestNumber

@@ -6,6 +6,7 @@ use mathlib.Core.List.{List, [], _∷_, _++_, map}
 use lib.ListN.{length, replicate}
 use lib.IntN.{negsuc}
 use Rattle.model.specs.Words.{Words}
+use Rattle.model.specs.Lists.{gather}
 use Rattle.model.specs.Bytes.{Text, bytes}
 use Rattle.model.specs.Calls.{readPolicyCall, writePolicyCall}
 use Rattle.model.specs.Examples.{words, T, F, nested, computing}
@@ -50,6 +51,10 @@ deep (suc n) = bytes "$true&(" ++ deep n ++ bytes ")"
 unfoldable pub deepText : ℕ → Text
 deepText n = bytes "tff(a,axiom," ++ deep n ++ bytes ")."
 
+-- a text that ends with this part of a formula, behind n parentheses that are open besides the first
+unfoldable pub inner : ℕ → S.String → Text
+inner n part = bytes "tff(a,axiom," ++ gather (λ t. t) (replicate n (bytes "$true&(")) ++ bytes part
+
 -- P9's residual
 unfoldable pub R : Words
 R =
@@ -78,15 +83,31 @@ cases =
     ++ (reads (deepText 62) 0 0 190 (words (nested 63)) ∷ [])
     ++ yes "?[X0:$int]:(?[X1:$int]:(p1(X0,X1)&$true)&$true)"
     (words (9 ∷ 1 ∷ 0 ∷ 10 ∷ 6 ∷ 2 ∷ 2 ∷ 1 ∷ 2 ∷ 1 ∷ 0 ∷ 1 ∷ 1 ∷ 1 ∷ 1 ∷ []))
+    -- exclusions of a quantifier under another: its variables are numbered on
+    ++ yes "![X0:$int]:(p1(X0,1)=>?[X1:$int]:((p1(X0,X1)&X1!=7&X1!=-8)&$true))"
+    (words (8 ∷ 1 ∷ 0 ∷ 2 ∷ 1 ∷ 2 ∷ 1 ∷ 0 ∷ 0 ∷ 1 ∷ 9 ∷ 1 ∷ 2 ∷ 7 ∷ []) ++ negsuc 7 ∷ words (2 ∷ 1 ∷ 2 ∷ 1 ∷ 0 ∷ 1 ∷ 1 ∷ 1 ∷ []))
+    ++ yes "![X0:$int]:(p1(X0,1)=>?[X1:$int,X2:$int]:((p1(X1,X2)&(X1!=7|X2!=9)&(X1!=-1|X2!=0))&p1(X0,X2)))"
+    (words (8 ∷ 1 ∷ 0 ∷ 2 ∷ 1 ∷ 2 ∷ 1 ∷ 0 ∷ 0 ∷ 1 ∷ 9 ∷ 2 ∷ 2 ∷ 7 ∷ 9 ∷ [])
+    ++ negsuc 0 ∷ words (0 ∷ 2 ∷ 1 ∷ 2 ∷ 1 ∷ 1 ∷ 1 ∷ 2 ∷ 2 ∷ 1 ∷ 2 ∷ 1 ∷ 0 ∷ 1 ∷ 2 ∷ []))
     -- another name, and blanks around every token
     ++ reads (bytes " tff\r\n( aB_9 , axiom , ~ p2 ( 0 ) ) . \n") 0 0 5 (words (3 ∷ 2 ∷ 1 ∷ 0 ∷ 0 ∷ []))
     -- 15: connectives mixed; a negation before no atom; numbers that are none
     ∷ no (policy "p2(1)&p2(2)|p2(3)") 15 23
+    ∷ no (policy "$true&($true&$false|$true)") 15 31
     ∷ no (policy "~$true") 15 14
     ∷ no (policy "p2(01)") 15 16
     ∷ no (policy "p2(-0)") 15 16
     ∷ no (policy "p2(2147483648)") 15 24
     ∷ no (policy "p2(- 1)") 15 16
+    -- blanks inside a token: 15 at the blank, or behind it where a number may end before it
+    ∷ no (policy "![X0:$int]:($true= >$true)") 15 30
+    ∷ no (policy "![X0:$int]:(($true&X0! =7)=>$true)") 15 34
+    ∷ no (policy "![X0:$ int]:($true=>$true)") 15 18
+    ∷ no (policy "![X 0:$int]:($true=>$true)") 15 15
+    ∷ no (policy "p 2(1)") 15 13
+    ∷ no (policy "p2(X 0)") 15 16
+    ∷ no (policy "p1 0(1)") 15 15
+    ∷ no (policy "p2(X1 0)") 15 18
     -- a binder's variable that is not the next free one; no body; a quantifier in a restriction
     ∷ no (policy "![X1:$int]:(p2(X1)=>$true)") 15 15
     ∷ no (policy "?[X0:$int]:(p1(X0,1))") 15 32
@@ -96,6 +117,7 @@ cases =
     ∷ no (policy "![X0:$int]:((p1(X0,1)&$true&X0!=7)=>$true)") 15 40
     ∷ no (policy "![X0:$int]:((p1(X0,1)&(X0!=7))=>$true)") 15 35
     ∷ no (policy "$true&X0!=7") 15 18
+    ∷ no (policy "![X0:$int]:(p1(X0,1)=>?[X1:$int]:((p1(X0,X1)&X0!=7)&$true))") 15 58
     -- parentheses around a whole formula, around one operand, and none around an operand
     ∷ no (policy "(p2(1)&p2(2))") 15 25
     ∷ no (policy "![X0:$int]:(?[X1:$int]:((p1(X0,X1)&$true))=>$true)") 15 53
@@ -122,6 +144,21 @@ cases =
     ∷ no (deepText 255) 4 191
     ∷ no (deepText 256) 4 1803
     ∷ no (bytes "tff(a,axiom," ++ deep 256) 4 1803
+    ∷ no (inner 256 "%") 4 1803
+    -- the 257th as that of an atom, a comparison and its sum, a quantifier and a "some"; around a restriction, and around an
+    -- excluded tuple, or what might be one
+    ∷ no (inner 255 "p2(%") 4 1799
+    ∷ no (inner 255 "~p2(%") 4 1800
+    ∷ no (inner 255 "$lesseq(%") 4 1804
+    ∷ no (inner 254 "$lesseq($sum(%") 4 1802
+    ∷ no (inner 255 "![X0:$int]:(%") 4 1808
+    ∷ no (inner 254 "![X0:$int]:(?[X1:$int]:(%") 4 1813
+    ∷ no (inner 254 "![X0:$int]:((%") 4 1802
+    ∷ no (inner 253 "![X0:$int,X1:$int]:(($true&(X0!=7|X1!=9))=>$true)") 4 1810
+    ∷ no (inner 253 "![X0:$int,X1:$int]:(($true&(%") 4 1810
+    -- one too many where none may stand: 15
+    ∷ no (inner 255 "$true(") 15 1802
+    ∷ no (inner 255 "~(") 15 1798
     -- 7 before 12; 12, by one word
     ∷ reads (policy "![X0:$int]:(p2(X0)=>$true)") 7 3 0 []
     ∷ reads (policy "~p2(0)") 12 0 0 (words (0 ∷ 0 ∷ 0 ∷ 0 ∷ []))
@@ -138,5 +175,5 @@ cases =
 
 -- the claim
 pub tptpExamples : map comesOut cases ≡ map mustComeOut cases
-unfolding computing Bytes.bytes textLeft comesOut mustComeOut policy no yes deep deepText R cases Bytes.digit Bytes.blank Bytes.small Bytes.capital Bytes.wordByte Decimal.digits Decimal.decimal Tptp.predicateToken Tptp.variableToken Tptp.termToken Tptp.parenthesized Tptp.separated Tptp.connective Tptp.negation Tptp.binder Tptp.unequals Tptp.excludes Tptp.restricted Tptp.isJoin Tptp.enclosed Tptp.tokens Tptp.textTokens Tptp.policyText TptpReading.give TptpReading.stop TptpReading.onwards TptpReading._>>=_ TptpReading.blanks TptpReading.peek TptpReading.literal TptpReading.look TptpReading.token TptpReading.moreDigits TptpReading.number TptpReading.natural TptpReading.integer TptpReading.wordBytes TptpReading.name TptpReading.opening TptpReading.upTo TptpReading.more TptpReading.term TptpReading.terms TptpReading.readAtom TptpReading.readCompare TptpReading.readDollar TptpReading.readNegated TptpReading.declaration TptpReading.variables TptpReading.readBinder TptpReading.unequal TptpReading.readUnequals TptpReading.readTuple TptpReading.behindBlanks TptpReading.beginsWith TptpReading.beginsTuple TptpReading.beginsExcluding TptpReading.trees TptpReading.joining TptpReading.whole TptpReading.readQuantifier TptpReading.readSome TptpReading.readJoin TptpReading.readOperand TptpReading.excluding TptpReading.readRestriction TptpReading.noReaders TptpReading.readers TptpReading.ending TptpReading.readWhole TptpReading.treeOf TptpReading.readTptp TptpReading.readText Calls.inRoom Calls.askPolicyReading Calls.readPolicyCall Calls.askPolicyWriting Calls.filledText Calls.textResult Calls.writePolicyCall
+unfolding computing Bytes.bytes textLeft comesOut mustComeOut policy no yes deep deepText inner R cases Bytes.digit Bytes.blank Bytes.small Bytes.capital Bytes.wordByte Decimal.digits Decimal.decimal Tptp.predicateToken Tptp.variableToken Tptp.termToken Tptp.parenthesized Tptp.separated Tptp.connective Tptp.negation Tptp.binder Tptp.unequals Tptp.excludes Tptp.restricted Tptp.isJoin Tptp.enclosed Tptp.tokens Tptp.textTokens Tptp.policyText TptpReading.give TptpReading.stop TptpReading.onwards TptpReading._>>=_ TptpReading.blanks TptpReading.peek TptpReading.literal TptpReading.look TptpReading.token TptpReading.moreDigits TptpReading.number TptpReading.natural TptpReading.integer TptpReading.wordBytes TptpReading.name TptpReading.opening TptpReading.upTo TptpReading.more TptpReading.term TptpReading.terms TptpReading.readAtom TptpReading.readCompare TptpReading.readDollar TptpReading.readNegated TptpReading.declaration TptpReading.variables TptpReading.readBinder TptpReading.unequal TptpReading.readUnequals TptpReading.readTuple TptpReading.behindBlanks TptpReading.beginsWith TptpReading.beginsTuple TptpReading.beginsExcluding TptpReading.trees TptpReading.joining TptpReading.whole TptpReading.readQuantifier TptpReading.readSome TptpReading.readJoin TptpReading.readOperand TptpReading.excluding TptpReading.readRestriction TptpReading.noReaders TptpReading.readers TptpReading.ending TptpReading.readWhole TptpReading.treeOf TptpReading.readTptp TptpReading.readText Calls.inRoom Calls.askPolicyReading Calls.readPolicyCall Calls.askPolicyWriting Calls.filledText Calls.textResult Calls.writePolicyCall
 tptpExamples = refl

@@ -1,5 +1,5 @@
 -- Truth of a tree in a partial structure: when it is true and when it is false. A tree that is neither is open there.
-use Prim.Native.Nat.{ℕ}
+use Prim.Native.Nat.{ℕ, _<_}
 use mathlib.Core.Path.{_≡_}
 use mathlib.Core.Bool.{Bool, true, false, cond}
 use mathlib.Core.List.{List, [], _∷_, _++_, map}
@@ -8,10 +8,16 @@ use lib.ListN.{length, getD}
 use lib.IntN.{ℤ, pos, _+ℤ_}
 use lib.Signed.{leZ}
 use Rattle.model.specs.Words.{Words, same, member}
+use Rattle.model.specs.Table.{predicates, arity}
 use Rattle.model.specs.Log.{Value, known, rows, valueIn}
 use Rattle.model.specs.Tree.{Term, constant, variable, Tree, Trees, plain, atom, compare, join, quantifier, some, nil, cons}
 
--- a partial structure gives each ground atom, a predicate at whole numbers, a value
+-- a ground atom over a table: one of its predicates, at as many whole numbers as its arity
+abbrev pub GroundAtom : Words → ℕ → List ℤ → Type 0
+GroundAtom table p ns = (p < predicates table) × (length ns ≡ arity table p)
+
+-- a partial structure gives each ground atom a value. What it gives for other numbers or lists is no atom's value, and is
+-- asked for nowhere: the atoms of an accepted policy, with numbers for its variables, are ground atoms
 abbrev pub Structure : Type 0
 Structure = ℕ → List ℤ → Value
 
@@ -19,9 +25,9 @@ Structure = ℕ → List ℤ → Value
 abbrev pub structure : Words → Words → Structure
 structure table log = valueIn table (rows log)
 
--- every atom known in the first has the same value in the second
-unfoldable pub Extends : Structure → Structure → Type 0
-Extends s larger = (p : ℕ) (ns : List ℤ) (b : Bool) → s p ns ≡ known b → larger p ns ≡ known b
+-- every ground atom known in the first has the same value in the second
+unfoldable pub Extends : Words → Structure → Structure → Type 0
+Extends table s larger = (p : ℕ) (ns : List ℤ) → GroundAtom table p ns → (b : Bool) → s p ns ≡ known b → larger p ns ≡ known b
 
 -- the number of a term, where ρ has the numbers of the variables in scope
 unfoldable pub numberOf : List ℤ → Term → ℤ

@@ -1,21 +1,20 @@
 -- Laws for the reading of a binder: the token of a variable, its declaration, and the variables one after another.
-use Prim.Native.Nat.{ℕ, zero, suc, _+_, _-_, _/_, _%_, _≤_, _<_}
+use Prim.Native.Nat.{ℕ, zero, suc, _+_, _-_, _≤_, _<_}
 use native.Mathlib.Omega.{arith}
 use mathlib.Core.Path.{_≡_, refl, sym, ap, _∙_}
-use mathlib.Core.Logic.{⊎-elim}
-use mathlib.Core.Bool.{true, false, cond}
+use mathlib.Core.Bool.{cond}
 use mathlib.Core.List.{[], _∷_, _++_}
-use lib.ListN.{length, take, getD, length-append}
-use lib.Dec.{ltb, eqb}
+use lib.ListN.{length, take, getD}
+use lib.Dec.{eqb}
 use borrow.Author.Tests.{eq-eqb, ne-eqb}
-use Rattle.model.specs.Bytes.{Text, bytes, comma, nought}
+use Rattle.model.specs.Bytes.{Text, bytes, comma}
 use Rattle.model.specs.Answer.{Outcome, passed, refused}
 use Rattle.model.specs.Decimal.{digits}
 use Rattle.model.specs.Tptp.{variableToken}
 use Rattle.model.specs.TptpReading.{Got, Reader, give, onwards, look, token, declaration, variables, readBinder, _>>=_}
 use Rattle.model.specs.declared.Refusal.{Refusal}
 use Rattle.model.specs.declared.Refusal.the-variants.{Tptp}
-use Rattle.laws.specs.Words.Tests.{decide}
+use Rattle.laws.specs.Decimal.{digits-few}
 use Rattle.writing.specs.Put.{Wrote}
 use Rattle.parsing.specs.Steps.{from, got, Skips, Reads, Steps, Value, Valued, Behind}
 use Rattle.parsing.specs.Binder.{IsCount}
@@ -26,15 +25,6 @@ use Rattle.parsing.proofs.UpTo.{skips-self}
 use Rattle.parsing.proofs.Going.{going-start, going-token, going-value, going-end, going-last}
 
 -- a number has at most ten digits, as far as they are written
-digits-few : (k n : ℕ) → length (digits k n) ≤ k
-unfolding digits
-digits-few zero n = omega arith
-digits-few (suc k) n =
-    ⊎-elim
-    (λ (e : ltb n 10 ≡ true). rw e (omega arith))
-    (λ (e : ltb n 10 ≡ false). rw e (let l = digits-few k (n / 10) in omega (arith, length-append (digits k (n / 10)) ((nought + n % 10) ∷ []))))
-    (decide (ltb n 10))
-
 pub never-full : (x : ℕ) (word : Text) → length word ≡ 11 → length word < 1 + length (digits 10 x) → ⊥
 never-full x word l h = let few = digits-few 10 x in omega arith
 

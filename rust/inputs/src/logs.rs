@@ -148,20 +148,24 @@ pub fn random_log(random: &mut Random, table: &[i32], rows: usize) -> Vec<i32> {
 }
 
 /// A log that extends another by at most so many rows: for open atoms, and false ones for complete predicates. Their
-/// arguments are values of the universe.
+/// arguments are values of the universe. The rows, old and new, stand in any order.
 pub fn extension(random: &mut Random, table: &[i32], log: &[i32], universe: &[i32], most_rows: usize) -> Vec<i32> {
-    let mut words = log.to_vec();
+    let mut rows: Vec<[i32; ROW]> = log
+        .chunks(ROW)
+        .map(|row| row.try_into().expect("a whole row"))
+        .collect();
     for _ in 0..random.below(most_rows + 1) {
         let [predicate, a, b, c, d, e, f] = atom(random, table, |random| random.pick(universe));
         let complete = table[3 * predicate as usize + 2] == 1;
         let truth = if complete { 0 } else { random.below(2) as i32 };
         let row = [predicate, truth, a, b, c, d, e, f];
-        let known = words
-            .chunks(ROW)
+        let known = rows
+            .iter()
             .any(|other| other[0] == row[0] && other[2..] == row[2..]);
         if !known {
-            words.extend(row);
+            rows.push(row);
         }
     }
-    words
+    random.shuffle(&mut rows);
+    rows.concat()
 }

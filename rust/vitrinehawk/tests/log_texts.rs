@@ -73,6 +73,18 @@ fn texts_that_are_not_allowed() {
     is_refused("9,9,9\r\n2,1,5\r\n2,1,5\r\n2,1,5\n", Refusal::Csv, 26);
 }
 
+/// Bytes of 128 and above, bare and in quotes; a CR or LF alone in quotes is allowed, and no number.
+#[test]
+fn bytes_that_stand_alone() {
+    is_refused(b"0,1,7,9,\x80", Refusal::Csv, 8);
+    is_refused(b"0,1,7,9,\"\x80\"", Refusal::Csv, 9);
+    is_refused(b"0,1,7,9,1\xff", Refusal::Csv, 9);
+    is_refused(b"0,1,7,9,\"1\xff\"", Refusal::Csv, 10);
+    is_refused(b"2,1,\"\r\"", Refusal::Record, 0);
+    is_refused(b"2,1,\"1\n\"", Refusal::Record, 0);
+    is_refused("2,1,1\r\n".repeat(4097), Refusal::LogLength, 0);
+}
+
 #[test]
 fn records_that_are_no_rows() {
     is_refused("\r\n", Refusal::Record, 0);

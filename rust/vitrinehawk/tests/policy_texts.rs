@@ -315,6 +315,44 @@ fn parentheses_open_at_once() {
     }
 }
 
+/// The parenthesis that is one too many, at its byte and whatever follows; and one where none may stand.
+#[test]
+fn one_parenthesis_too_many() {
+    let inner = |times: usize, part: &str| format!("tff(a,axiom,{}{part}", "$true&(".repeat(times));
+    for (times, part, place) in [
+        (256, "%", 1803),
+        (255, "p2(%", 1799),
+        (255, "~p2(%", 1800),
+        (255, "$lesseq(%", 1804),
+        (254, "$lesseq($sum(%", 1802),
+        (255, "![X0:$int]:(%", 1808),
+        (254, "![X0:$int]:(?[X1:$int]:(%", 1813),
+        (254, "![X0:$int]:((%", 1802),
+        (253, "![X0:$int,X1:$int]:(($true&(X0!=7|X1!=9))=>$true)", 1810),
+        (253, "![X0:$int,X1:$int]:(($true&(%", 1810),
+    ] {
+        is_refused(inner(times, part), Refusal::Level, place);
+    }
+    is_refused(inner(255, "$true("), Refusal::Tptp, 1802);
+    is_refused(inner(255, "~("), Refusal::Tptp, 1798);
+}
+
+#[test]
+fn blanks_inside_tokens() {
+    for (formula, place) in [
+        ("![X0:$int]:($true= >$true)", 30),
+        ("![X0:$int]:(($true&X0! =7)=>$true)", 34),
+        ("![X0:$ int]:($true=>$true)", 18),
+        ("![X 0:$int]:($true=>$true)", 15),
+        ("p 2(1)", 13),
+        ("p2(X 0)", 16),
+        ("p1 0(1)", 15),
+        ("p2(X1 0)", 18),
+    ] {
+        is_refused(text(formula), Refusal::Tptp, place);
+    }
+}
+
 #[test]
 fn policies_that_are_not_written() {
     let too_deep = [[6, 2, 1].repeat(64), vec![1]].concat();

@@ -1,8 +1,9 @@
 //! Runs: lists of reductions over front parts of one log, each given the residual of the one before.
 //!
-//! Each call is compared with the reference. After each accepted call its part has nothing left to decide. The policy
-//! held at the end has the truth of the first one in extensions of the whole log, if no row behind the part of an
-//! accepted call makes true an atom of a complete predicate.
+//! Each call is compared with the reference. After each accepted call its part has nothing left to decide, and the residual
+//! has no more levels than the policy before it. The policy held at the end has the truth of the first one in extensions of
+//! the whole log, whose rows stand in any order, if no row behind the part of an accepted call makes true an atom of a
+//! complete predicate.
 
 use inputs::{extension, shrink, Case, Random};
 use reference::truth::Structure;
@@ -65,6 +66,7 @@ fn run(parts: &[Vec<i32>]) -> Result<Seen, String> {
     }
     seen.proviso = true;
     let mut held = policy.clone();
+    let mut levels = first.greatest_level;
     for words in calls.chunks_exact(CALL) {
         let [rows, scratch, buffer] = [words[0], words[1], words[2]].map(|word| word.clamp(0, 1 << 20) as usize);
         let part = &log[..8 * rows.min(whole.rows())];
@@ -78,7 +80,7 @@ fn run(parts: &[Vec<i32>]) -> Result<Seen, String> {
         let makes_true = |row: &[i32]| row[1] == 1 && predicates[row[0] as usize].complete;
         seen.proviso &= !log[part.len()..].chunks(8).any(makes_true);
         match check_policy(table, &held) {
-            Ok(level) if level <= first.greatest_level => {}
+            Ok(level) if level <= levels => levels = level,
             other => return Err(format!("the residual {held:?} is checked with {other:?}")),
         }
         let part = Log::read(&predicates, part).expect("a front part of a good log");

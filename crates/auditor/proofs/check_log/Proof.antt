@@ -1,6 +1,7 @@
 -- `auditor::check_log` meets its contract, from what the two checks ensure.
 use mathlib.Core.Path.{sym, ap, _∙_}
 use Rattle.model.specs.Log.{rowCount}
+use Rattle.laws.specs.Answer.{answers}
 use Rattle.laws.specs.Table.{accepted, short}
 use Rattle.tables.specs.Checked.{outcome}
 use Rattle.auditor.proofs.Calls.{log-table-refused, log-refused, log-accepted}
@@ -33,7 +34,7 @@ returns : tie.Need-returns
 returns c =
     let k = c .before .before .before in
     let a = k .before .args in
-    sym (log-table-refused (a .table .now) (a .log .now) (sym (k .check-table .ensures) ∙ ap outcome (c .before .first .given .1)))
+    answers (sym (log-table-refused (a .table .now) (a .log .now) (sym (k .check-table .ensures) ∙ ap outcome (c .before .first .given .1))))
 
 returns-2 : tie.Need-returns-2
 returns-2 c =
@@ -41,9 +42,10 @@ returns-2 c =
     let t = r .before in
     let k = t .before .before in
     let a = k .before .args in
-    sym
+    answers
+    (sym
     (log-refused (a .table .now) (a .log .now) (sym (k .check-table .ensures) ∙ ap outcome (t .enum-told .given .1))
-    (sym (r .check-rows .ensures) ∙ ap outcome (c .before .second .given .1)))
+    (sym (r .check-rows .ensures) ∙ ap outcome (c .before .second .given .1))))
 
 returns-3 : tie.Need-returns-3
 unfolding rowCount
@@ -52,9 +54,10 @@ returns-3 c =
     let t = r .before in
     let k = t .before .before in
     let a = k .before .args in
-    sym
+    answers
+    (sym
     (log-accepted (a .table .now) (a .log .now) (sym (k .check-table .ensures) ∙ ap outcome (t .enum-told .given .1))
-    (sym (r .check-rows .ensures) ∙ ap outcome (c .enum-told2 .given .1)))
+    (sym (r .check-rows .ensures) ∙ ap outcome (c .enum-told2 .given .1))))
 
 pub check-log-spec : {M : Type 1} → statement M
 check-log-spec =

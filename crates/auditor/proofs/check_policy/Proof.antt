@@ -1,5 +1,6 @@
 -- `auditor::check_policy` meets its contract, from what the three checks ensure.
 use mathlib.Core.Path.{sym, ap, _∙_}
+use Rattle.laws.specs.Answer.{answers}
 use Rattle.laws.specs.Table.{accepted}
 use Rattle.laws.specs.Reading.Encoded.{read-node}
 use Rattle.tables.specs.Checked.{outcome}
@@ -44,9 +45,10 @@ enum-told-2 c = search needs
 returns : tie.Need-returns
 returns c =
     let a = c .before .before .before .before .args in
-    sym
+    answers
+    (sym
     (policy-table-refused (a .table .now) (a .policy .now)
-    (sym (c .before .before .before .check-table .ensures) ∙ ap outcome (c .before .first .given .1)))
+    (sym (c .before .before .before .check-table .ensures) ∙ ap outcome (c .before .first .given .1))))
 
 returns-2 : tie.Need-returns-2
 returns-2 c =
@@ -54,7 +56,7 @@ returns-2 c =
     let t = r .before in
     let a = t .before .before .before .args in
     let e = sym (t .before .before .check-table .ensures) ∙ ap outcome (t .enum-told .given .1) in
-    sym (policy-refused (a .table .now) (a .policy .now) e (sym (c .before .second .given .1) ∙ r .read-policy .ensures))
+    answers (sym (policy-refused (a .table .now) (a .policy .now) e (sym (c .before .second .given .1) ∙ r .read-policy .ensures)))
 
 returns-3 : tie.Need-returns-3
 returns-3 c =
@@ -66,7 +68,7 @@ returns-3 c =
     let f = sym (m .before .before .second2 .given .1) ∙ r .read-policy .ensures in
     let (tree, is, level) = tree-read (a .table .now) (a .policy .now) e f in
     let modes = m .check-modes .ensures tree _ (read-node (a .table .now) (a .policy .now) tree is) in
-    sym (modes-refused (a .table .now) (a .policy .now) e f (sym (ap outcome (c .before .third .given .1)) ∙ modes))
+    answers (sym (modes-refused (a .table .now) (a .policy .now) e f (sym (ap outcome (c .before .third .given .1)) ∙ modes)))
 
 returns-4 : tie.Need-returns-4
 returns-4 c =
@@ -78,7 +80,7 @@ returns-4 c =
     let f = sym (m .before .before .second2 .given .1) ∙ r .read-policy .ensures in
     let (tree, is, level) = tree-read (a .table .now) (a .policy .now) e f in
     let modes = m .check-modes .ensures tree _ (read-node (a .table .now) (a .policy .now) tree is) in
-    sym (policy-accepted (a .table .now) (a .policy .now) e f (sym (ap outcome (c .enum-told2 .given .1)) ∙ modes))
+    answers (sym (policy-accepted (a .table .now) (a .policy .now) e f (sym (ap outcome (c .enum-told2 .given .1)) ∙ modes)))
 
 pub check-policy-spec : {M : Type 1} → statement M
 check-policy-spec =

@@ -208,7 +208,7 @@ module _ (table : Words) where
     after-below-any (cons t ts) b next l f h = λ x e. after-below t b next (f .0) h x (and-left _ _ e)
 
 -- with a complete predicate every atom is known
-complete-known :
+pub complete-known :
     (table : Words) (rows : List Words) (p : ℕ) (ns : List ℤ) →
     complete table p ≡ true →
     (v : Bool) × (valueIn table rows p ns ≡ known v)

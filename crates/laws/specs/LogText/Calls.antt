@@ -1,39 +1,26 @@
 -- The two calls on texts: what is written is read back, and what is read, written and read again is the same.
 use Prim.Native.Nat.{ℕ, _*_, _-_, _≤_}
 use native.Mathlib.Omega.{arith}
-use mathlib.Core.Path.{_≡_, refl, sym, ap, _∙_, subst}
+use mathlib.Core.Path.{_≡_, sym, ap, _∙_, subst}
 use mathlib.Core.Bool.{true}
-use mathlib.Core.List.{List, [], _++_}
+use mathlib.Core.List.{[], _++_}
 use lib.ListN.{length, take}
 use lib.Seq.{take-at}
-use borrow.Author.Tests.{leb-true, le-leb}
 use Rattle.model.specs.declared.Answer.the-variants.{Accepted}
-use Rattle.model.specs.declared.Refusal.the-variants.{Room}
 use Rattle.model.specs.Words.{Words, wordSized}
 use Rattle.model.specs.Lists.{all}
-use Rattle.model.specs.Answer.{Outcome, passed, ask, answer}
+use Rattle.model.specs.Answer.{Outcome, passed, answer}
 use Rattle.model.specs.Table.{askTable}
 use Rattle.model.specs.Log.{rowCount, askLog}
 use Rattle.model.specs.Bytes.{Text}
 use Rattle.model.specs.CsvReading.{readCsv}
 use Rattle.model.specs.LogText.{askRecords, logText}
-use Rattle.model.specs.Calls.{zeros, filled, inRoom, askReading, readLogCall, askWriting, filledText, textResult, writeLogCall}
-use Rattle.laws.specs.Answer.{ask-passed, ask-true, passed-same, then-passed, pass-then, answer-accepted}
+use Rattle.model.specs.Calls.{zeros, filled, askReading, readLogCall, askWriting, filledText, textResult, writeLogCall}
+use Rattle.laws.specs.Answer.{then-passed, pass-then, answer-accepted}
+use Rattle.laws.specs.Calls.Room.{fit-passed, fit-pass}
 use Rattle.laws.specs.Log as log-laws
 use Rattle.laws.specs.LogText.Back.{rows-whole, text-back}
 use Rattle.laws.specs.LogText.Rows.{rows-good}
-
-module _ {A : Type 0} where
-  -- question 12
-  fit-passed : (buffer : ℕ) (xs ys : List A) → inRoom buffer xs ≡ passed ys → (length xs ≤ buffer) × (xs ≡ ys)
-  unfolding inRoom
-  fit-passed buffer xs ys e =
-      let (u, e₁, e₂) = then-passed (ask _ Room 0) _ e in
-      (leb-true (length xs) buffer (ask-passed _ _ _ e₁), passed-same e₂)
-
-  fit-pass : (buffer : ℕ) (xs : List A) → length xs ≤ buffer → inRoom buffer xs ≡ passed xs
-  unfolding inRoom
-  fit-pass buffer xs l = pass-then _ (ask-true Room 0 (le-leb (length xs) buffer l)) refl
 
 -- a writing that passed: its log is accepted, and the text is the log's
 record WrittenText (table log : Words) (t : Text) : Type 0 where

@@ -23,6 +23,7 @@ use Rattle.laws.specs.Lists.Span.{span-mem}
 use Rattle.laws.specs.Csv.Place.{csv-place}
 use Rattle.laws.specs.Csv.Sound.{records-few}
 use Rattle.laws.specs.Calls.Places.{Within, within-ask, within-then, within-more, table-within, log-within}
+use Rattle.laws.specs.Calls.Room.{fit-within}
 use Rattle.laws.specs.LogText.Rows.{rows-good}
 
 -- question 13: the place of a byte, or the text's end
@@ -40,10 +41,6 @@ records-within table r [] n h = tt
 records-within table r (fields ∷ rest) n h =
     within-then _ (ask (spellsRow table fields) Record r) _ (within-ask _ Record r n (omega arith)) λ _ _.
     within-then _ (askRecords table (suc r) rest) _ (records-within table (suc r) rest n (omega arith)) λ _ _. tt
-
-fit-within : {A : Type 0} (buffer : ℕ) (xs : List A) (n : ℕ) → Within n (inRoom buffer xs)
-unfolding inRoom
-fit-within buffer xs n = within-then _ (ask _ Room 0) _ (within-ask _ Room 0 n (omega arith)) λ _ _. tt
 
 -- all questions of a reading
 asking-within : (table : Words) (text : Text) (buffer : ℕ) → Within (max 4096 (length text)) (askReading table text buffer)

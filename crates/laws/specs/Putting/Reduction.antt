@@ -346,7 +346,7 @@ module _ (ρ : List ℤ) where
           ∙ list-put c (length τ + v) (outer (ρ ++ τ) ∷ []) outer-has
           ∙ ap (λ (n : ℕ). map shift (list table rows c n (outer (ρ ++ τ) ∷ []))) (sym (scope-put v))
 
-      outer-entries-put :
+      pub outer-entries-put :
           (v : ℕ) (c : Tree) →
           entries table rows c (length (ρ ++ τ) + v) (outer (ρ ++ τ) ∷ [])
           ≡ entries table rows (put c ρ) (length τ + v) (outer τ ∷ [])
@@ -417,9 +417,9 @@ module _ (table : Words) (rows : List Words) where
     reduce-put-all nil ρ τ = refl
     reduce-put-all (cons t ts) ρ τ = ap₂ cons (reduce-put t ρ τ) (reduce-put-all ts ρ τ)
 
-  -- reduction with numbers in scope is reduction of the tree with the numbers put in
-  pub paper : (f : Tree) (ρ : List ℤ) → reduce table rows f ρ ≡ reduce table rows (put f ρ) []
-  paper f ρ = ap (reduce table rows f) (sym (append-nil ρ)) ∙ reduce-put f ρ []
+  -- reduction with numbers in scope is reduction of the closed tree with the numbers put in
+  pub reduce-closed : (f : Tree) (ρ : List ℤ) → reduce table rows f ρ ≡ reduce table rows (put f ρ) []
+  reduce-closed f ρ = ap (reduce table rows f) (sym (append-nil ρ)) ∙ reduce-put f ρ []
 
   -- and the same of the need of places
   mutual
@@ -442,5 +442,5 @@ module _ (table : Words) (rows : List Words) where
     need-put-all nil ρ τ = refl
     need-put-all (cons t ts) ρ τ = ap₂ max (need-put t ρ τ) (need-put-all ts ρ τ)
 
-  pub need-paper : (f : Tree) (ρ : List ℤ) → need table rows f ρ ≡ need table rows (put f ρ) []
-  need-paper f ρ = ap (need table rows f) (sym (append-nil ρ)) ∙ need-put f ρ []
+  pub need-closed : (f : Tree) (ρ : List ℤ) → need table rows f ρ ≡ need table rows (put f ρ) []
+  need-closed f ρ = ap (need table rows f) (sym (append-nil ρ)) ∙ need-put f ρ []

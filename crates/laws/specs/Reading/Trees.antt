@@ -85,7 +85,7 @@ terms-widest [] e = tt
 terms-widest (t ∷ ts) e =
     (term-widest t (and-left (goodTerm t) _ e), terms-widest ts (and-right (goodTerm t) _ e))
 
-tuples-length : (v : ℕ) (τs : List (List ℤ)) → all (goodTuple v) τs ≡ true → AllOfLength v τs
+pub tuples-length : (v : ℕ) (τs : List (List ℤ)) → all (goodTuple v) τs ≡ true → AllOfLength v τs
 unfolding all AllOfLength
 tuples-length v [] e = tt
 tuples-length v (τ ∷ τs) e =
@@ -95,6 +95,40 @@ tuples-length v (τ ∷ τs) e =
 below-number : (limit n : ℕ) → below limit (pos n) ≡ ltb n limit
 unfolding below
 below-number limit n = rw (le-leb 0 n (omega arith))
+
+-- where the words of a quantifier stand: its own, its tuples, its restriction and its body
+pub record QuantifierParts
+    (words : Words) (at next : ℕ) (b : Bool) (v : ℕ) (excluded : List (List ℤ)) (c f : Tree) : Type 0 where
+  pub tagged : word words at ≡ pos (code (Tag.quantifier b))
+  pub variables : word words (at + 1) ≡ pos v
+  pub number : word words (at + 2) ≡ pos (length excluded)
+  pub reads : tuples words v (at + 3) (length excluded) ≡ excluded
+  pub inner : Stands words (at + 3 + v * length excluded) (encode c) (at + 3 + v * length excluded + size c)
+  pub body : Stands words (at + 3 + v * length excluded + size c) (encode f) next
+
+pub quantifier-parts :
+    (words : Words) (at next : ℕ) (b : Bool) (v : ℕ) (excluded : List (List ℤ)) (c f : Tree) →
+    AllOfLength v excluded →
+    Stands words at (encode (quantifier b v excluded c f)) next →
+    QuantifierParts words at next b v excluded c f
+unfolding encode code size
+quantifier-parts words at next b v excluded c f lengths s =
+    let (tagged, variables, number, stand) = three-stand words _ _ _ _ s in
+    let τs = gather (λ tuple. tuple) excluded in
+    let front = stands-left words (τs ++ encode c) (encode f) stand in
+    let first = stands-left words τs (encode c) front in
+    let (reads, ends) = tuples-back words v (at + 3) (at + 3 + length τs) excluded first lengths in
+    let start = at + 3 + v * length excluded in
+    let both = length-append τs (encode c) in
+    let middle : at + 3 + length (τs ++ encode c) ≡ start + length (encode c) = omega (arith, both, ends) in
+    record {
+      tagged = tagged;
+      variables = variables;
+      number = number;
+      reads = reads;
+      inner = rw (middle, ends) at (stands-right words τs (encode c) front);
+      body = rw middle at (stands-right words (τs ++ encode c) (encode f) stand);
+    }
 
 module _ (table words : Words) where
   -- a term that is in the widest scope is in a narrower one if its words say so
@@ -164,11 +198,11 @@ module _ (table words : Words) where
       pass-then _ (ask-true Shape at (and-true shape (le-leb _ _ fits))) refl
 
   -- what is known of a node: its tag, its answers to the questions, and what is built of it
-  record Known
+  pub record Known
       (tag : Tag) (depth : ℕ) (role : Role) (above scope at : ℕ) (known inside : Bool) (rest : Outcome (Read Tree)) : Type 0 where
-    tagged : word words at ≡ pos (code tag)
-    shape : own table words tag role scope at .shape ≡ true
-    fits : at + own table words tag role scope at .size ≤ length words
+    pub tagged : word words at ≡ pos (code tag)
+    pub shape : own table words tag role scope at .shape ≡ true
+    pub fits : at + own table words tag role scope at .size ≤ length words
     predicate : own table words tag role scope at .predicate ≡ known
     range : own table words tag role scope at .scope ≡ inside
     built : build table words (readNode table words depth) tag role (above + cost role tag) scope at ≡ rest
@@ -201,7 +235,7 @@ module _ (table words : Words) where
 
   -- where the words of a node stand, good by question 3, this is known of it
   module _ (depth : ℕ) (role : Role) (above scope at next : ℕ) where
-    plain-known :
+    pub plain-known :
         (b : Bool) →
         Stands words at (encode (plain b)) next →
         Known (Tag.plain b) depth role above scope at true true (passed (record { tree = plain b; next = next }))
@@ -215,7 +249,7 @@ module _ (table words : Words) where
       built = rw (s .ends);
     }
 
-    atom-known :
+    pub atom-known :
         (b : Bool) (p : ℕ) (ts : List Term) →
         goodTree (atom b p ts) (isFormula role) ≡ true →
         Stands words at (encode (atom b p ts)) next →
@@ -235,7 +269,7 @@ module _ (table words : Words) where
           built = rw (predicate, number, terms .terms, terms .ends);
         }
 
-    compare-known :
+    pub compare-known :
         (b : Bool) (d : ℤ) (x y : Term) →
         goodTree (compare b d x y) (isFormula role) ≡ true →
         Stands words at (encode (compare b d x y)) next →
@@ -259,7 +293,7 @@ module _ (table words : Words) where
           built = rw (number, left .term, right .term, ends);
         }
 
-    join-known :
+    pub join-known :
         (b : Bool) (ts : Trees) →
         goodTree (join b ts) (isFormula role) ≡ true →
         Stands words at (encode (join b ts)) next →
@@ -278,7 +312,7 @@ module _ (table words : Words) where
           built = rw (number, k stand) (simp then-assoc);
         }
 
-    quantifier-known :
+    pub quantifier-known :
         (b : Bool) (v : ℕ) (excluded : List (List ℤ)) (c f : Tree) →
         goodTree (quantifier b v excluded c f) (isFormula role) ≡ true →
         Stands words at (encode (quantifier b v excluded c f)) next →
@@ -293,34 +327,26 @@ module _ (table words : Words) where
         passed (record { tree = quantifier b v excluded c f; next = next }))
     unfolding encode own build code cost value size tuples _>>=_
     quantifier-known b v excluded c f good s k l =
-        let (tagged, variables, number, stand) = three-stand words _ _ _ _ s in
         let is = good-quantifier b v excluded c f (isFormula role) good in
-        let τs = gather (λ tuple. tuple) excluded in
-        let front = stands-left words (τs ++ encode c) (encode f) stand in
-        let first = stands-left words τs (encode c) front in
-        let lengths = tuples-length v excluded (is .tuples) in
-        let (reads, ends) = tuples-back words v (at + 3) (at + 3 + length τs) excluded first lengths in
+        let parts = quantifier-parts words at next b v excluded c f (tuples-length v excluded (is .tuples)) s in
         let few = within-pos 1 4 v (is .some) (is .few) in
         let counted = atLeast-pos 0 (length excluded) (omega arith) in
         let level = above + quantifierCost role b in
         let start = at + 3 + v * length excluded in
-        let both = length-append τs (encode c) in
-        let middle : at + 3 + length (τs ++ encode c) ≡ start + length (encode c) = omega (arith, both, ends) in
-        let inner = rw (middle, ends) at (stands-right words τs (encode c) front) in
-        let body = rw middle at (stands-right words (τs ++ encode c) (encode f) stand) in
         record {
-          tagged = tagged;
-          shape = rw (variables, number) (and-true (and-true (is .kind) few) counted);
-          fits = rw (variables, number) (omega (arith, inner .ends, inner .fits));
+          tagged = parts .tagged;
+          shape = rw (parts .variables, parts .number) (and-true (and-true (is .kind) few) counted);
+          fits = rw (parts .variables, parts .number) (omega (arith, parts .inner .ends, parts .inner .fits));
           predicate = refl;
-          range = rw variables;
+          range = rw (parts .variables);
           built =
-              rw (variables, number, k inner)
+              rw (parts .variables, parts .number, k (parts .inner))
               (then-assoc (askTree c table restriction level (scope + v) start) _ _
-              ∙ then-both (askTree c table restriction level (scope + v) start) (λ _. rw (l body, reads) (simp then-assoc)));
+              ∙ then-both (askTree c table restriction level (scope + v) start)
+              (λ _. rw (l (parts .body), parts .reads) (simp then-assoc)));
         }
 
-    some-known :
+    pub some-known :
         (c : Tree) →
         goodTree (some c) (isFormula role) ≡ true →
         Stands words at (encode (some c)) next →
@@ -405,7 +431,7 @@ module _ (table words : Words) where
         node-asks c d restriction (above + 1) (scope + 1) (at + 1) next (omega arith) inner stand)
         ∙ simp then-assoc
 
-    nodes-ask :
+    pub nodes-ask :
         (ts : Trees) (depth : ℕ) (role : Role) (above scope at next : ℕ) →
         levelLimit < depth + above →
         goodTrees ts (isFormula role) ≡ true →

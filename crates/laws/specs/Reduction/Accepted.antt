@@ -26,7 +26,7 @@ use Rattle.laws.specs.Reduction.Instances.{instances-length}
 use Rattle.laws.specs.Reduction.Truth.{length-more}
 
 -- an atom settles to a plain node or stays with its numbers put in
-settle-has : (P : Tree → Type 0) → ((a : Bool) → P (plain a)) → (x : Value) (b : Bool) (t : Tree) → P t → P (settle x b t)
+pub settle-has : (P : Tree → Type 0) → ((a : Bool) → P (plain a)) → (x : Value) (b : Bool) (t : Tree) → P t → P (settle x b t)
 unfolding settle
 settle-has P plainly (known a) b t h = plainly (same a b)
 settle-has P plainly unknown b t h = h

@@ -13,7 +13,7 @@ use Rattle.model.specs.Words.{Words, same, member}
 use Rattle.model.specs.Answer.{_>>=_}
 use Rattle.model.specs.Log.{Value, known, unknown, valueIn}
 use Rattle.model.specs.Tree.{Term, Tree, Trees, plain, atom, compare, join, quantifier, some, nil, cons}
-use Rattle.model.specs.Truth.{Structure, Extends, Is, Every, One, numberOf, sumAtMost}
+use Rattle.model.specs.Truth.{GroundAtom, Structure, Extends, Is, Every, One, numberOf, sumAtMost}
 use Rattle.model.specs.Putting.{put}
 use Rattle.model.specs.Joining.{append}
 use Rattle.model.specs.Reduction.{settle, closed, each, instances, reduce, reduceAll}
@@ -21,7 +21,7 @@ use Rattle.laws.specs.Words.Tests.{clash, member-true, mem-member, membe
 use Rattle.laws.specs.Mode.{Moded, ModedAll}
 use Rattle.laws.specs.Reading.Formed.{Formed, FormedAll}
 use Rattle.laws.specs.Log.{Sound, known-same}
-use Rattle.laws.specs.Truth.{Alike, alike-join, EachTuple, SomeTuple, consistent, monotone}
+use Rattle.laws.specs.Truth.{Alike, alike-join, EachTuple, SomeTuple, consistent, ground-atom, monotone}
 use Rattle.laws.specs.Putting.Parts.{is-put}
 use Rattle.laws.specs.Joining.{joined-is, every-append, one-append}
 use Rattle.laws.specs.Listing.Outer.{below-outer, decided-passes}
@@ -64,13 +64,14 @@ unfolding Is
 tail-one s truth t true = (λ h. absurd h, λ h. absurd (true≢false (h .0)))
 tail-one s truth t false = (⊎-elim (λ h. (refl, h)) (λ h. absurd h), λ h. inl (h .1))
 
--- one quantifier: its restriction c is exact and, where it is closed, decided at every tuple; `found` are its instances,
--- `g τ` says in the structure what the body f says at the tuple τ
-module _ (log s : Structure) (extends : Extends log s)
+-- one quantifier: its restriction c is exact and, where it is closed, decided at every tuple, and what it is in the log it is in
+-- the structure; `found` are its instances, `g τ` says in the structure what the body f says at the tuple τ
+module _ (log s : Structure)
     (v : ℕ) (excluded found : List (List ℤ)) (c f : Tree) (ρ : List ℤ) (shut : Bool)
     (exact : (τ : List ℤ) → length τ ≡ v → List·Memᴰ τ found ↔ ((member τ excluded ≡ false) × Is c log true (ρ ++ τ)))
     (lengths : (τ : List ℤ) → List·Memᴰ τ found → length τ ≡ v)
     (decided : shut ≡ true → (τ : List ℤ) → length τ ≡ v → Is c log true (ρ ++ τ) ⊎ Is c log false (ρ ++ τ))
+    (grows : (t : Bool) (τ : List ℤ) → Is c log t (ρ ++ τ) → Is c s t (ρ ++ τ))
     (b truth : Bool) (g : List ℤ → Tree)
     (body : (τ : List ℤ) → length τ ≡ v → Is (g τ) s truth [] ↔ Is f s truth (ρ ++ τ)) where
   -- the last part, and all parts of the result
@@ -104,7 +105,7 @@ module _ (log s : Structure) (extends : Extends log s)
       go false p false q true r =
           ⊎-elim
           (λ a. clash (mem-member (exact τ e .1 (p, a))) q)
-          (λ a. inr (inl (monotone log s extends c false (ρ ++ τ) a)))
+          (λ a. inr (inl (grows false τ a)))
           (decided r τ e)
 
   -- the instances, and the last part, from each tuple
@@ -117,7 +118,7 @@ module _ (log s : Structure) (extends : Extends log s)
       body τ e .1
       (⊎-elim
       (λ x. clash x (k .0))
-      (⊎-elim (λ x. absurd (consistent s c (ρ ++ τ) (monotone log s extends c true (ρ ++ τ) (k .1)) x)) (λ x. x))
+      (⊎-elim (λ x. absurd (consistent s c (ρ ++ τ) (grows true τ (k .1)) x)) (λ x. x))
       (h τ e))
 
   each-left :
@@ -134,7 +135,7 @@ module _ (log s : Structure) (extends : Extends log s)
   some-worked τ m h =
       let e = lengths τ m in
       let k = exact τ e .0 m in
-      (τ, e, k .0, monotone log s extends c true (ρ ++ τ) (k .1), body τ e .0 h)
+      (τ, e, k .0, grows true τ (k .1), body τ e .0 h)
 
   some-left :
       SomeTuple v (excluded ++ found) (λ τ. Is (put c ρ) s true τ) (λ τ. Is (put f ρ) s truth τ) →
@@ -166,7 +167,7 @@ module _ (log s : Structure) (extends : Extends log s)
       go false q true r =
           ⊎-elim
           (λ a. clash (mem-member (exact τ (h .1) .1 (h .2, a))) q)
-          (λ a. absurd (consistent s c (ρ ++ τ) (h .3) (monotone log s extends c false (ρ ++ τ) a)))
+          (λ a. absurd (consistent s c (ρ ++ τ) (h .3) (grows false τ a)))
           (decided r τ (h .1))
 
   last-each :
@@ -222,16 +223,20 @@ length-more ρ τ e = length-append ρ τ ∙ ap (λ (n : ℕ). length ρ + n) e
 
 -- an atom: known in the log, it is so in the structure
 settle-is :
-    (log s : Structure) → Extends log s → (b : Bool) (p : ℕ) (ts : List Term) (ρ : List ℤ) (truth : Bool) →
+    (table : Words) (log s : Structure) →
+    Extends table log s →
+    (b : Bool) (p : ℕ) (ts : List Term) (ρ : List ℤ) →
+    GroundAtom table p (map (numberOf ρ) ts) →
+    (truth : Bool) →
     Is (settle (log p (map (numberOf ρ) ts)) b (put (atom b p ts) ρ)) s truth [] ↔ Is (atom b p ts) s truth ρ
 unfolding settle Is Extends
-settle-is log s extends b p ts ρ truth = go (log p (map (numberOf ρ) ts)) refl
+settle-is table log s extends b p ts ρ ground truth = go (log p (map (numberOf ρ) ts)) refl
   where
     go :
         (x : Value) → log p (map (numberOf ρ) ts) ≡ x →
         Is (settle x b (put (atom b p ts) ρ)) s truth [] ↔ Is (atom b p ts) s truth ρ
     go (known a) e =
-        let k = extends p (map (numberOf ρ) ts) a e in (
+        let k = extends p (map (numberOf ρ) ts) ground a e in (
           λ h. k ∙ ap known (sym (ap (λ (x : Bool). same x b) h ∙ same-same a b)),
           λ h. sym (same-same truth b) ∙ ap (λ (x : Bool). same x b) (known-same (sym h ∙ k)),
         )
@@ -241,7 +246,7 @@ settle-is log s extends b p ts ρ truth = go (log p (map (numberOf ρ) ts)) refl
 compare-is : (b : Bool) (x : Bool) (truth : Bool) → (truth ≡ same b x) ↔ (x ≡ same truth b)
 compare-is b x truth = (λ h. sym (ap (λ (t : Bool). same t b) (h ∙ same-comm b x) ∙ same-same x b), λ h. sym (same-comm b x ∙ ap (λ (t : Bool). same t b) h ∙ same-same truth b))
 
-module _ (table : Words) (rows : List Words) (sound : Sound table rows) (s : Structure) (extends : Extends (valueIn table rows) s) where
+module _ (table : Words) (rows : List Words) (sound : Sound table rows) (s : Structure) (extends : Extends table (valueIn table rows) s) where
   mutual
     unfolding reduce Is Formed Moded
 
@@ -253,7 +258,8 @@ module _ (table : Words) (rows : List Words) (sound : Sound table rows) (s : Str
         (truth : Bool) →
         Is (reduce table rows f ρ) s truth [] ↔ Is f s truth ρ
     reduce-is (plain b) ρ h m truth = (λ x. x, λ x. x)
-    reduce-is (atom b p ts) ρ h m truth = settle-is (valueIn table rows) s extends b p ts ρ truth
+    reduce-is (atom b p ts) ρ h m truth =
+        settle-is table (valueIn table rows) s extends b p ts ρ (ground-atom table p ts ρ (h .0) (h .1)) truth
     reduce-is (compare b d x y) ρ h m truth = compare-is b (sumAtMost d (numberOf ρ x) (numberOf ρ y)) truth
     reduce-is (join b ts) ρ h m truth =
         Iff·trans
@@ -262,10 +268,11 @@ module _ (table : Words) (rows : List Words) (sound : Sound table rows) (s : Str
     reduce-is (quantifier b v excluded c f) ρ h m truth =
         Iff·trans
         (joined-is s [] b truth _)
-        (quantifier-is (valueIn table rows) s extends v excluded (instances table rows v excluded c ρ) c f ρ (closed c table)
+        (quantifier-is (valueIn table rows) s v excluded (instances table rows v excluded c ρ) c f ρ (closed c table)
         (instances-passes table rows v excluded c ρ sound (h .5) (m .0) (m .1))
         (λ τ i. instances-length table rows v excluded c ρ i)
         (λ cl τ e. decided-passes table rows sound c (λ x. ltb x (length ρ)) (length ρ + v) cl (h .5) (m .0) (λ x q. let k = below-outer (length ρ) x q in omega arith) (ρ ++ τ) (length-more ρ τ e))
+        (λ t τ. monotone table (valueIn table rows) s extends c false (length ρ + v) (h .5) t (ρ ++ τ))
         b truth
         (λ τ. reduce table rows f (ρ ++ τ))
         (λ τ e.

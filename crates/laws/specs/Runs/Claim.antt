@@ -5,12 +5,11 @@ use Prim.Native.Nat.{ℕ, _≤_, _-_, _/_}
 use native.Mathlib.Omega.{arith}
 use mathlib.Core.Path.{_≡_, refl, sym, ap, _∙_, subst}
 use mathlib.Core.Logic.{⊎-elim, _↔_, Iff·trans}
-use mathlib.Core.Bool.{Bool, true, false, not, _&&_, _||_, false≢true}
+use mathlib.Core.Bool.{Bool, true, false, not, _||_, false≢true}
 use mathlib.Core.List.{List, [], _∷_, _++_}
 use lib.ListN.{length, take}
 use lib.Seq.{take-at}
 use lib.Dec.{leb, eqb}
-use borrow.Author.Tests.{leb-true}
 use Rattle.model.specs.declared.Answer.the-variants.{Accepted}
 use Rattle.model.specs.declared.Refusal.{Refusal}
 use Rattle.model.specs.declared.Refusal.the-variants.{Table, PolicyLength, Shape, Level, Predicate, Variable, Mode, LogLength, Row, Repeat, Scratch, Room, Csv, Record, Tptp}
@@ -22,12 +21,13 @@ use Rattle.model.specs.Tree.{Tree, encode}
 use Rattle.model.specs.Level.{formula, greatest}
 use Rattle.model.specs.Truth.{Structure, structure, Extends, Is}
 use Rattle.model.specs.Reduction.{need, reduce}
-use Rattle.model.specs.Calls.{Result, zeros, filled, result, askPolicy, write, checkPolicy, checkLog, reduceCall}
-use Rattle.model.specs.Runs.{Call, accepted, Settled, leaves, next, after, held, results, clear, proviso, RunClaim, EveryRun}
+use Rattle.model.specs.Calls.{zeros, filled, result, askPolicy, write, askResidual, checkPolicy, checkLog, reduceCall}
+use Rattle.model.specs.Runs.{Call, accepted, Settled, leaves, next, after, held, clear, proviso, RunClaim, EveryRun}
 use Rattle.laws.specs.Words.Tests.{and-left, and-right, decide, clash}
-use Rattle.laws.specs.Answer.{passed-same, ask-passed, then-passed}
+use Rattle.laws.specs.Answer.{passed-same, then-passed}
 use Rattle.laws.specs.Mode.{modes-moded}
 use Rattle.laws.specs.Calls.Policy.{accepted-rules, rules-accepted}
+use Rattle.laws.specs.Calls.Room.{written}
 use Rattle.laws.specs.Log.{Sound, sound, front-accepted, rows-front, front-extends}
 use Rattle.laws.specs.Reduction.Truth.{reduce-is}
 use Rattle.laws.specs.Reduction.Settled.{reduce-settled}
@@ -73,32 +73,24 @@ filled-take : (buffer : ℕ) (ws : Words) → take (length ws) (filled buffer (p
 unfolding filled
 filled-take buffer ws = take-at ws (zeros (buffer - length ws)) (length ws) refl
 
--- the words written are those of the tree
-written : (buffer : ℕ) (tree : Tree) {ws : Words} → write buffer tree ≡ passed ws → (ws ≡ encode tree) × (length (encode tree) ≤ policyLimit)
-unfolding write
-written buffer tree e =
-    let (u, e₁, rest) = then-passed (ask (leb (length (encode tree)) buffer && leb (length (encode tree)) policyLimit) Room 0) _ e in
-    (sym (passed-same rest), leb-true _ _ (and-right (leb (length (encode tree)) buffer) _ (ask-passed _ Room 0 e₁)))
-
 -- one call over a front part of an accepted log, given an accepted policy
 module _ (table log : Words) (logged : askLog table log ≡ passed tt) where
   abbrev pub residual : Tree → Call → Tree
   residual tree call = reduce table (rows (front (call .part) log)) tree []
 
-  outcome : Tree → Call → Outcome Words
-  outcome tree call = do
-    _ ← ask (leb (need table (rows (front (call .part) log)) tree []) (call .scratch / placeWords)) Scratch 0
-    write (call .buffer) (residual tree call)
+  -- what comes of its questions
+  abbrev outcome : Tree → Call → Outcome Words
+  outcome tree call = askResidual table (front (call .part) log) tree (call .scratch) (call .buffer)
 
   leaves-outcome :
       (held : Words) (tree : Tree) (call : Call) →
       askPolicy table held ≡ passed tree →
       leaves table log held call ≡ result (call .scratch) (call .buffer) (outcome tree call)
-  unfolding leaves reduceCall outcome _>>=_
+  unfolding leaves reduceCall _>>=_
   leaves-outcome held tree call e = rw (e, front-accepted table log (call .part) logged)
 
   wrote : (tree : Tree) (call : Call) {ws : Words} → outcome tree call ≡ passed ws → (ws ≡ encode (residual tree call)) × (length (encode (residual tree call)) ≤ policyLimit)
-  unfolding outcome
+  unfolding askResidual
   wrote tree call e =
       let (u, e₁, rest) = then-passed (ask (leb (need table (rows (front (call .part) log)) tree []) (call .scratch / placeWords)) Scratch 0) _ e in
       written (call .buffer) (residual tree call) rest
@@ -156,25 +148,30 @@ module _ (table log : Words) (logged : askLog table log ≡ passed tt) where
       go (reduced p q short) = clash p a
       go (kept p q) = q
 
+  -- of the policy held after calls, the first of which was given a tree: accepted, as a tree of no more levels
+  abbrev Lower : Words → Tree → Type 0
+  Lower policy tree =
+      (later : Tree) × (askPolicy table policy ≡ passed later) × (greatest later formula 0 ≤ greatest tree formula 0)
+
   -- a call of a run, accepted or refused: the tree held after it
   next-tree :
       (policy : Words) (tree : Tree) (call : Call) →
       askPolicy table policy ≡ passed tree →
-      (later : Tree) × (askPolicy table (after table log policy call) ≡ passed later) × (greatest later formula 0 ≤ greatest tree formula 0)
+      Lower (after table log policy call) tree
   next-tree policy tree call e = go (accepted (leaves table log policy call .answer)) refl
     where
       go :
           (x : Bool) →
           accepted (leaves table log policy call .answer) ≡ x →
-          (later : Tree) × (askPolicy table (after table log policy call) ≡ passed later) × (greatest later formula 0 ≤ greatest tree formula 0)
+          Lower (after table log policy call) tree
       go true a = (residual tree call, after-policy policy tree call e a, reduce-greatest table _ tree)
       go false a = (tree, rw (after-refused policy tree call e a) e, omega arith)
 
-  -- every policy held is accepted, at no more levels
+  -- every policy held is accepted, at no more levels than the first
   held-tree :
       (calls : List Call) (policy : Words) (tree : Tree) →
       askPolicy table policy ≡ passed tree →
-      (later : Tree) × (askPolicy table (held table log policy calls) ≡ passed later) × (greatest later formula 0 ≤ greatest tree formula 0)
+      Lower (held table log policy calls) tree
   unfolding held
   held-tree [] policy tree e = (tree, e, omega arith)
   held-tree (call ∷ calls) policy tree e =
@@ -188,24 +185,17 @@ module _ (table log : Words) (logged : askLog table log ≡ passed tt) where
   held-append [] ys policy = refl
   held-append (x ∷ xs) ys policy = held-append xs ys (after table log policy x)
 
-  results-append :
-      (xs ys : List Call) (policy : Words) →
-      results table log policy (xs ++ ys) ≡ results table log policy xs ++ results table log (held table log policy xs) ys
-  unfolding held results
-  results-append [] ys policy = refl
-  results-append (x ∷ xs) ys policy = ap (λ (l : List Result). leaves table log policy x ∷ l) (results-append xs ys (after table log policy x))
-
   -- the policy held after one call more
   held-one : (before : List Call) (call : Call) (policy : Words) → held table log policy (before ++ call ∷ []) ≡ after table log (held table log policy before) call
   unfolding held
   held-one before call policy = held-append before (call ∷ []) policy
 
   -- the whole log extends a part behind which no row makes true an atom of a complete predicate
-  part-extends : (k : ℕ) → clear table log k ≡ true → Extends (structure table (front k log)) (structure table log)
+  part-extends : (k : ℕ) → clear table log k ≡ true → Extends table (structure table (front k log)) (structure table log)
   unfolding clear
   part-extends k e = rw (rows-front log k) (front-extends table (rows log) k e)
 
-  module _ (s : Structure) (extends : Extends (structure table log) s) where
+  module _ (s : Structure) (extends : Extends table (structure table log) s) where
     reduced-is :
         (policy : Words) (tree : Tree) (call : Call) →
         askPolicy table policy ≡ passed tree →
@@ -216,7 +206,7 @@ module _ (table log : Words) (logged : askLog table log ≡ passed tt) where
     reduced-is words tree call e c t =
         let r = accepted-rules table words tree e .2 in
         reduce-is table (rows (front (call .part) log)) (part-sound call) s
-        (λ p ns b k. extends p ns b (part-extends (call .part) c p ns b k))
+        (λ p ns g b k. extends p ns g b (part-extends (call .part) c p ns g b k))
         tree [] (r .formed) (modes-moded table tree 0 0 (r .modes)) t
 
     -- under the proviso truth stays as it was
@@ -239,24 +229,35 @@ module _ (table log : Words) (logged : askLog table log ≡ passed tt) where
         (decide (accepted (leaves table log policy call .answer)))
 
   module _ (first : Words) (tree : Tree) (e : askPolicy table first ≡ passed tree) where
-    run-answered :
-        (before : List Call) (call : Call) (later : List Call) →
-        results table log first (before ++ call ∷ later)
-        ≡ results table log first before
-        ++ leaves table log (held table log first before) call
-        ∷ results table log (held table log first (before ++ call ∷ [])) later
-    unfolding results
-    run-answered before call later =
-        rw (held-one before call first) (results-append before (call ∷ later) first)
+    -- a policy held after calls, and its tree
+    held-checked :
+        (calls : List Call) →
+        (later : Tree)
+        × (askPolicy table (held table log first calls) ≡ passed later)
+        × (checkPolicy table (held table log first calls) ≡ Accepted (greatest later formula 0))
+        × (greatest later formula 0 ≤ greatest tree formula 0)
+    held-checked calls =
+        let (t, is, less) = held-tree calls first tree e in
+        (t, is, checked table (held table log first calls) t is, less)
 
     run-kept :
+        (before : List Call) (call : Call) →
+        (accepted (checkPolicy table (held table log first (before ++ call ∷ []))) ≡ true)
+        × (count (checkPolicy table (held table log first (before ++ call ∷ []))) ≤ count (checkPolicy table (held table log first before)))
+    unfolding accepted count number
+    run-kept before call =
+        let (t, is, now, _) = held-checked before in
+        let (u, is₁, less) = next-tree (held table log first before) t call is in
+        rw (held-one before call first, checked table _ u is₁, now) (refl, less)
+
+    -- so each is accepted, at no more levels than the first
+    pub kept-first :
         (before : List Call) →
         (accepted (checkPolicy table (held table log first before)) ≡ true)
         × (count (checkPolicy table (held table log first before)) ≤ count (checkPolicy table first))
     unfolding accepted count number
-    run-kept before =
-        let (t, is, less) = held-tree before first tree e in
-        rw (checked table (held table log first before) t is, checked table first tree e) (refl, less)
+    kept-first before =
+        let (t, is, now, less) = held-checked before in rw (now, checked table first tree e) (refl, less)
 
     run-settled :
         (before : List Call) (call : Call) →
@@ -275,8 +276,8 @@ module _ (table log : Words) (logged : askLog table log ≡ passed tt) where
     run-claim : (calls : List Call) → RunClaim table log first calls
     run-claim calls =
         record {
-          answered = λ before call later is. rw is (run-answered before call later);
-          kept = λ before later is. run-kept before;
+          answered = λ before call later is t. leaves-outcome (held table log first before) t call;
+          kept = λ before call later is. run-kept before call;
           settled = λ before call later is. run-settled before call;
           truth = λ p s extends t₁ t₂ e₁ e₂. run-is s extends calls first t₁ t₂ e₁ e₂ p;
         }

@@ -1,4 +1,4 @@
--- What it says that a tree is good by question 3, node by node.
+-- What it says that a tree is good by question 3, node by node, and for atoms and quantifiers also the other way round.
 use Prim.Native.Nat.{ℕ, _≤_}
 use mathlib.Core.Path.{_≡_}
 use mathlib.Core.Bool.{Bool, true, false, not, _&&_}
@@ -6,12 +6,12 @@ use mathlib.Core.List.{List}
 use lib.ListN.{length}
 use lib.Dec.{leb, eqb}
 use lib.IntN.{ℤ}
-use borrow.Author.Tests.{leb-true, eqb-true, not-true}
+use borrow.Author.Tests.{leb-true, le-leb, eqb-true, not-true}
 use Rattle.model.specs.Words.{wordSized}
 use Rattle.model.specs.Lists.{all}
 use Rattle.model.specs.Tree.{Term, Tree, Trees, atom, compare, join, quantifier, some, cons, count}
 use Rattle.model.specs.Tptp.{greatestNumber, goodTerm, goodTuple, goodTree, goodTrees}
-use Rattle.laws.specs.Words.Tests.{and-left, and-right}
+use Rattle.laws.specs.Words.Tests.{and-left, and-right, and-true}
 
 pub record GoodAtom (p : ℕ) (ts : List Term) : Type 0 where
   pub number : p ≤ greatestNumber
@@ -33,6 +33,13 @@ good-atom b p ts formula e =
       few = leb-true _ _ (and-right (number && one) six counts);
       each = and-right (number && one && six) _ e;
     }
+
+pub atom-good : (b : Bool) (p : ℕ) (ts : List Term) (formula : Bool) → GoodAtom p ts → goodTree (atom b p ts) formula ≡ true
+unfolding goodTree
+atom-good b p ts formula is =
+    let one = le-leb 1 (length ts) (is .some) in
+    let six = le-leb (length ts) 6 (is .few) in
+    and-true (and-true (and-true (le-leb p greatestNumber (is .number)) one) six) (is .each)
 
 pub good-compare :
     (b : Bool) (d : ℤ) (x y : Term) (formula : Bool) →
@@ -80,6 +87,15 @@ good-quantifier b v excluded c f formula e =
       restriction = and-right (formula && one && four && tuples) _ all-but-body;
       body = and-right (formula && one && four && tuples && goodTree c false) _ e;
     }
+
+pub quantifier-good :
+    (b : Bool) (v : ℕ) (excluded : List (List ℤ)) (c f : Tree) (formula : Bool) →
+    GoodQuantifier v excluded c f formula →
+    goodTree (quantifier b v excluded c f) formula ≡ true
+unfolding goodTree
+quantifier-good b v excluded c f formula is =
+    let counts = and-true (and-true (is .kind) (le-leb 1 v (is .some))) (le-leb v 4 (is .few)) in
+    and-true (and-true (and-true counts (is .tuples)) (is .restriction)) (is .body)
 
 pub good-some : (c : Tree) (formula : Bool) → goodTree (some c) formula ≡ true → (formula ≡ false) × (goodTree c false ≡ true)
 unfolding goodTree

@@ -16,11 +16,10 @@ use Rattle.model.specs.declared.Refusal.the-variants.{Level, Tptp}
 use Rattle.laws.specs.Words.Tests.{decide}
 use Rattle.laws.specs.Answer.{refused-passed}
 
--- what comes of a text at a place is at n or behind it, or is a refusal by the number of parentheses
+-- what comes of a text is at the place n or behind it
 pub data Late {A : Type 0} (n : ℕ) : Outcome (Got A) → Type 0 where
   late-pass : {g : Got A} → n ≤ g .at → Late n (passed g)
   late-stop : {r : Refusal} {q : ℕ} → n ≤ q → Late n (refused r q)
-  late-level : {q : ℕ} → Late n (refused Level q)
 
 -- what comes of two texts with the same front, read from p on: the same, or the first is decided behind the front only
 pub data Shares {A : Type 0} (front s₁ s₂ : Text) (p : ℕ) : Outcome (Got A) → Outcome (Got A) → Type 0 where
@@ -41,7 +40,6 @@ module _ {A : Type 0} where
   pub late-more : {m n : ℕ} {o : Outcome (Got A)} → m ≤ n → Late n o → Late m o
   late-more l (late-pass {g} h) = late-pass {g = g} (omega arith)
   late-more l (late-stop {q} h) = late-stop {q = q} (omega arith)
-  late-more l late-level = late-level
 
   -- with no front nothing comes before the beginning
   shares-late : {s₁ s₂ : Text} {p : ℕ} {o₁ o₂ : Outcome (Got A)} → Shares [] s₁ s₂ p o₁ o₂ → Late p o₁
@@ -95,7 +93,6 @@ module _ {A B : Type 0} (next₁ next₂ : A → Reader B) where
       go : {o : Outcome (Got A)} → Late (p + length front) o → Late (p + length front) (onwards o next₁)
       go (late-pass {g} l) = late-more l (late (g .what) (g .rest) (g .at))
       go (late-stop l) = late-stop l
-      go late-level = late-level
 
 pub then-local :
     {A B : Type 0} (next : A → Reader B) {r : Reader A} →

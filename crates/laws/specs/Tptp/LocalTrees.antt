@@ -5,7 +5,7 @@ use native.Mathlib.Omega.{arith}
 use mathlib.Core.Path.{_≡_, refl, sym, ap, _∙_}
 use mathlib.Core.Logic.{_⊎_, inl, inr, ⊎-elim}
 use mathlib.Core.Bool.{Bool, true, false, cond, _&&_}
-use mathlib.Core.List.{[], _∷_, _++_, append-nil, nil≢cons}
+use mathlib.Core.List.{[], _∷_, _++_, append-assoc, append-nil, nil≢cons}
 use lib.ListN.{length, length-append}
 use lib.Dec.{eqb}
 use borrow.Author.Tests.{eqb-true}
@@ -13,12 +13,14 @@ use Rattle.model.specs.Bytes.{Text, bytes, blank, ampersand, bar, tilde, dollar
 use Rattle.model.specs.Lists.{all}
 use Rattle.model.specs.Tree.{Tree}
 use Rattle.model.specs.Tptp.{isJoin}
-use Rattle.model.specs.Answer.{Outcome, passed}
+use Rattle.model.specs.Answer.{Outcome, passed, refused}
 use Rattle.model.specs.TptpReading.{Got, token, opening, readQuantifier, readSome, readJoin, readOperand, readRestriction, noReaders, readers, Reader, Readers, Restricted, onwards, upTo, give, stop, _>>=_, behindBlanks, beginsWith, beginsTuple, beginsExcluding, more, readTuple, joining, whole, excluding}
+use Rattle.model.specs.declared.Refusal.{Refusal}
+use Rattle.model.specs.declared.Refusal.the-variants.{Level, Tptp}
 use Rattle.laws.specs.Words.Tests.{decide, and-true}
-use Rattle.laws.specs.Tptp.Local.{Late, late-pass, late-stop, late-level, Shares, both-pass, both-stop, behind-front, Local, late-more, local-late, then-local, give-local, stop-local, cond-local, look-local, token-local, opening-none, opening-local}
+use Rattle.laws.specs.Tptp.Local.{Late, late-pass, late-stop, Shares, both-pass, both-stop, behind-front, Local, late-more, local-late, then-local, give-local, stop-local, cond-local, look-local, token-local, opening-none, opening-local}
 use Rattle.laws.specs.Tptp.LocalLists.{more-local, atom-local, dollar-local, negated-local, binder-local, tuple-local}
-use Rattle.laws.specs.Tptp.Waits.{Stuck, stuck-late, Waits, then-waits, look-waits, waits-stuck, stuck-place, stuck-then, Holds, tuple-waits, tuple-holds, more-stuck, joining-stuck, operand-waits, readers-hold}
+use Rattle.laws.specs.Tptp.Waits.{end-late, Waits, then-waits, look-waits, Holds, tuple-waits, tuple-holds, more-refused, joining-refused, operand-waits, readers-hold}
 
 -- a text, and what is behind its blanks
 blanks-split : (t : Text) → (gap : Text) × (all blank gap ≡ true) × (t ≡ gap ++ behindBlanks t)
@@ -168,92 +170,117 @@ unfolding whole
 whole-local one h =
     then-local _ h λ first. joining-local _ first one (cond-local (isJoin first) stop-local (give-local first)) h
 
--- a reader is stuck where a front does not tell whether excluded tuples are next, if it is stuck at blanks alone, and, behind an
--- ampersand, where the reader of one item is
-undecided-stuck :
-    {A B : Type 0} (r : Reader A) (one : Reader B) (v : ℕ) (front : Text) (p : ℕ) →
-    Waits one →
-    (eqb v 1 ≡ false → Holds one) →
-    (all blank front ≡ true → Stuck (p + length front) (r front p)) →
-    ((t : Text) (n : ℕ) (gap : Text) →
-    all blank gap ≡ true →
-    Stuck n (one t (suc (p + length gap))) →
-    Stuck n (r (gap ++ ampersand ∷ t) p)) →
-    Undecided v front →
-    Stuck (p + length front) (r front p)
-undecided-stuck r one v front p waits holds alone behind (at-first e) = alone e
-undecided-stuck r one v front p waits holds alone behind (at-second gap₁ gap₂ e₁ e₂ is) =
-    rw is
-    (behind gap₂ (p + length (gap₁ ++ ampersand ∷ gap₂)) gap₁ e₁
-    (stuck-place (omega (arith, length-append gap₁ (ampersand ∷ gap₂)))
-    (waits-stuck waits gap₂ (suc (p + length gap₁)) e₂)))
-undecided-stuck r one v front p waits holds alone behind (at-third gap₁ gap₂ gap₃ k e₁ e₂ e₃ is) =
-    let t = gap₂ ++ parenthesis ∷ gap₃ in
-    rw is
-    (behind t (p + length (gap₁ ++ ampersand ∷ t)) gap₁ e₁
-    (stuck-place (omega (arith, length-append gap₁ (ampersand ∷ t))) (holds k gap₂ gap₃ (suc (p + length gap₁)) e₂ e₃)))
+-- what is read behind the first operand in parentheses, with room for so many more of them
+module _ (room v x : ℕ) (first : Tree) (one : Reader Tree) (h : Local one) (waits : Waits one) (holds : Holds room one) where
+  -- excluded tuples (true), or further operands
+  abbrev further : Bool → Reader Restricted
+  further b text p =
+      cond b
+      ((do
+        tuples ← more ampersand (readTuple room v x)
+        give (record { restriction = first; excluded = tuples })) text p)
+      ((do
+        c ← joining stop first one
+        give (record { restriction = c; excluded = [] })) text p)
 
--- what is read behind the first operand in parentheses
-module _ (room v x : ℕ) (first : Tree) (one : Reader Tree) (h : Local one) (waits : Waits one) (holds : Holds one) where
-  abbrev withTuples : Reader Restricted
-  withTuples = do
-    tuples ← more ampersand (readTuple (room - 1) v x)
-    give (record { restriction = first; excluded = tuples })
+  further-local : (b : Bool) → Local (further b)
+  further-local true = then-local _ (more-local ampersand _ (tuple-local room v x)) λ tuples. give-local _
+  further-local false = then-local _ (joining-local stop first one stop-local h) λ c. give-local _
 
-  abbrev withOperands : Reader Restricted
-  withOperands = do
-    c ← joining stop first one
-    give (record { restriction = c; excluded = [] })
+  -- both end with blanks that are all that is left
+  alone-late : (b : Bool) (front s : Text) (p : ℕ) → all blank front ≡ true → Late (p + length front) (further b (front ++ s) p)
+  unfolding upTo more joining _>>=_
+  alone-late b [] s p e = late-more (omega arith) (local-late (further-local b) s p)
+  alone-late true (c ∷ t) s p e =
+      end-late (further-local true) (c ∷ t) s p _ (then-waits _ (then-waits _ look-waits) (c ∷ t) p e) refl
+  alone-late false (c ∷ t) s p e =
+      end-late (further-local false) (c ∷ t) s p _ (then-waits _ (then-waits _ look-waits) (c ∷ t) p e) refl
 
-  tuples-local : Local withTuples
-  tuples-local = then-local _ (more-local ampersand _ (tuple-local (room - 1) v x)) λ tuples. give-local _
+  -- behind an ampersand both are refused where both a tuple and an operand are
+  further-refused :
+      (b : Bool) (t : Text) (r : Refusal) (n : ℕ) (gap : Text) (p : ℕ) →
+      all blank gap ≡ true →
+      readTuple room v x t (suc (p + length gap)) ≡ refused r n →
+      one t (suc (p + length gap)) ≡ refused r n →
+      further b (gap ++ ampersand ∷ t) p ≡ refused r n
+  unfolding onwards _>>=_
+  further-refused true t r n gap p e k l = rw (more-refused (readTuple room v x) t r n gap p e k)
+  further-refused false t r n gap p e k l = rw (joining-refused stop first one t r n gap p e l)
 
-  operands-local : Local withOperands
-  operands-local = then-local _ (joining-local stop first one stop-local h) λ c. give-local _
+  -- where a front does not tell which it is, both end with it, or at its parenthesis
+  second-late :
+      (b : Bool) (gap₁ gap₂ s : Text) (p : ℕ) →
+      all blank gap₁ ≡ true →
+      all blank gap₂ ≡ true →
+      Late (p + length (gap₁ ++ ampersand ∷ gap₂)) (further b ((gap₁ ++ ampersand ∷ gap₂) ++ s) p)
+  second-late b gap₁ gap₂ s p e₁ e₂ =
+      let q = suc (p + length gap₁) in
+      end-late (further-local b) (gap₁ ++ ampersand ∷ gap₂) s p (q + length gap₂)
+      (further-refused b gap₂ Tptp (q + length gap₂) gap₁ p e₁ (tuple-waits room v x gap₂ q e₂) (waits gap₂ q e₂))
+      (omega (arith, length-append gap₁ (ampersand ∷ gap₂)))
 
-  -- where a front does not tell which it is, both end with it
-  tuples-late : (front s : Text) (p : ℕ) → Undecided v front → Late (p + length front) (withTuples (front ++ s) p)
-  unfolding upTo more _>>=_
-  tuples-late [] s p u = late-more (omega arith) (local-late tuples-local s p)
-  tuples-late (b ∷ t) s p u =
-      stuck-late tuples-local (b ∷ t) s p
-      (undecided-stuck withTuples (readTuple (room - 1) v x) v (b ∷ t) p (tuple-waits (room - 1) v x) (tuple-holds (room - 1) v x)
-      (λ e. stuck-then _ (waits-stuck (then-waits _ look-waits) (b ∷ t) p e))
-      (λ t n gap e k. stuck-then _ (more-stuck (readTuple (room - 1) v x) t n gap p e k))
-      u)
+  third-shares :
+      (b₁ b₂ : Bool) (gap₁ gap₂ gap₃ s₁ s₂ : Text) (p : ℕ) →
+      eqb v 1 ≡ false →
+      all blank gap₁ ≡ true →
+      all blank gap₂ ≡ true →
+      all blank gap₃ ≡ true →
+      let front = gap₁ ++ ampersand ∷ (gap₂ ++ parenthesis ∷ gap₃) in
+      Shares front s₁ s₂ p (further b₁ (front ++ s₁) p) (further b₂ (front ++ s₂) p)
+  unfolding Holds
+  third-shares b₁ b₂ gap₁ gap₂ gap₃ s₁ s₂ p k e₁ e₂ e₃ = go room holds (tuple-holds room v x k)
+    where
+      q : ℕ
+      q = suc (p + length gap₁)
 
-  operands-late : (front s : Text) (p : ℕ) → Undecided v front → Late (p + length front) (withOperands (front ++ s) p)
-  unfolding joining _>>=_
-  operands-late front s p u =
-      stuck-late operands-local front s p
-      (undecided-stuck withOperands one v front p waits (λ _. holds)
-      (λ e. stuck-then _ (waits-stuck (then-waits _ look-waits) front p e))
-      (λ t n gap e k. stuck-then _ (joining-stuck stop first one t n gap p e k))
-      u)
+      front : Text
+      front = gap₁ ++ ampersand ∷ (gap₂ ++ parenthesis ∷ gap₃)
 
-  excluding-local : (below : Readers) → Local (excluding room below first one v x)
+      full :
+          (b : Bool) (s : Text) →
+          Holds zero one →
+          Holds zero (readTuple room v x) →
+          further b (front ++ s) p ≡ refused Level (q + length gap₂)
+      full b s h k =
+          let t = gap₂ ++ parenthesis ∷ (gap₃ ++ s) in
+          let whole : front ++ s ≡ gap₁ ++ ampersand ∷ t = simp append-assoc in
+          ap (λ (u : Text). further b u p) whole
+          ∙ further-refused b t Level (q + length gap₂) gap₁ p e₁ (k gap₂ (gap₃ ++ s) q e₂) (h gap₂ (gap₃ ++ s) q e₂)
+
+      go :
+          (n : ℕ) →
+          Holds n one →
+          Holds n (readTuple room v x) →
+          Shares front s₁ s₂ p (further b₁ (front ++ s₁) p) (further b₂ (front ++ s₂) p)
+      go zero h k = rw (full b₁ s₁ h k, full b₂ s₂ h k) (both-stop {q = q + length gap₂} (omega arith))
+      go (suc n) h k =
+          let t = gap₂ ++ parenthesis ∷ gap₃ in
+          let m = suc (q + length gap₂) + length gap₃ in
+          behind-front
+          (end-late (further-local b₁) front s₁ p m
+          (further-refused b₁ t Tptp m gap₁ p e₁ (k gap₂ gap₃ q e₂ e₃) (h gap₂ gap₃ q e₂ e₃))
+          (omega (arith, length-append gap₁ (ampersand ∷ t), length-append gap₂ (parenthesis ∷ gap₃))))
+
+  excluding-local : (above : ℕ) (below : Readers) → above - 1 ≡ room → Local (excluding above below first one v x)
   unfolding excluding
-  excluding-local below = record {
+  excluding-local above below lower = record {
     shares = λ front s₁ s₂ p.
-        ⊎-elim
-        (λ d. rw (d s₁ s₂) (same (beginsExcluding v (front ++ s₂)) front s₁ s₂ p))
-        (λ u. behind-front (late (beginsExcluding v (front ++ s₁)) front s₁ p u))
-        (decision v front);
+        rw lower
+        (⊎-elim
+        (λ d. rw (d s₁ s₂) (further-local (beginsExcluding v (front ++ s₂)) .shares front s₁ s₂ p))
+        (λ u. undecided-shares (beginsExcluding v (front ++ s₁)) (beginsExcluding v (front ++ s₂)) front s₁ s₂ p u)
+        (decision v front));
   }
     where
-      same :
-          (b : Bool) (front s₁ s₂ : Text) (p : ℕ) →
-          Shares front s₁ s₂ p (cond b (withTuples (front ++ s₁) p) (withOperands (front ++ s₁) p))
-          (cond b (withTuples (front ++ s₂) p) (withOperands (front ++ s₂) p))
-      same true front s₁ s₂ p = tuples-local .shares front s₁ s₂ p
-      same false front s₁ s₂ p = operands-local .shares front s₁ s₂ p
-
-      late :
-          (b : Bool) (front s : Text) (p : ℕ) →
+      undecided-shares :
+          (b₁ b₂ : Bool) (front s₁ s₂ : Text) (p : ℕ) →
           Undecided v front →
-          Late (p + length front) (cond b (withTuples (front ++ s) p) (withOperands (front ++ s) p))
-      late true front s p u = tuples-late front s p u
-      late false front s p u = operands-late front s p u
+          Shares front s₁ s₂ p (further b₁ (front ++ s₁) p) (further b₂ (front ++ s₂) p)
+      undecided-shares b₁ b₂ front s₁ s₂ p (at-first e) = behind-front (alone-late b₁ front s₁ p e)
+      undecided-shares b₁ b₂ front s₁ s₂ p (at-second gap₁ gap₂ e₁ e₂ is) =
+          rw is (behind-front (second-late b₁ gap₁ gap₂ s₁ p e₁ e₂))
+      undecided-shares b₁ b₂ front s₁ s₂ p (at-third gap₁ gap₂ gap₃ k e₁ e₂ e₃ is) =
+          rw is (third-shares b₁ b₂ gap₁ gap₂ gap₃ s₁ s₂ p k e₁ e₂ e₃)
 
 -- with no room nothing is read behind a parenthesis
 no-opening : {A : Type 0} (next : Reader A) → Local (opening zero >>= λ _. next)
@@ -271,7 +298,6 @@ no-opening next = record {
     go (both-stop l) n = both-stop l
     go (behind-front (late-pass {g} l)) n = absurd (n g refl)
     go (behind-front (late-stop l)) n = behind-front (late-stop l)
-    go (behind-front late-level) n = behind-front late-level
 
 -- readers of operands and restrictions
 pub record AllLocal (rs : Readers) : Type 0 where
@@ -351,7 +377,7 @@ readers-local (suc room) = let h = readers-local room in record {
       (then-local _ (opening-local (suc room)) λ _.
       then-local _ (h .operand false (x + v)) λ first.
       then-local _
-      (excluding-local (suc room) v x first one (h .operand false (x + v)) (operand-waits room false (x + v))
-      (readers-hold room false (x + v)) (readers room)) λ r.
+      (excluding-local room v x first one (h .operand false (x + v)) (operand-waits room false (x + v))
+      (readers-hold room false (x + v)) (suc room) (readers room) (omega arith)) λ r.
       then-local _ (token-local _) λ _. give-local r);
 }

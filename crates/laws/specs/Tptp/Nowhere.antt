@@ -13,13 +13,14 @@ use Rattle.model.specs.Answer.{Outcome, refused}
 use Rattle.model.specs.Tree.{Tree}
 use Rattle.model.specs.Tptp.{Spells}
 use Rattle.model.specs.TptpReading.{Got, readWhole, treeOf, readTptp}
+use Rattle.model.specs.declared.Refusal.{Refusal}
 use Rattle.model.specs.declared.Refusal.the-variants.{Level, Tptp}
 use Rattle.laws.specs.Answer.{refused-passed}
 use Rattle.laws.specs.Lists.Span.{side}
 use Rattle.laws.specs.Tptp.Opened.{opened}
 use Rattle.laws.specs.Tptp.Place.{tree-refused}
 use Rattle.laws.specs.Tptp.Complete.{tptp-complete, tptp-over}
-use Rattle.laws.specs.Tptp.Local.{Late, late-pass, late-stop, late-level, Shares, both-pass, both-stop, behind-front, Local, then-local, give-local, blanks-local, token-local, name-local, ending-local}
+use Rattle.laws.specs.Tptp.Local.{Late, late-pass, late-stop, Shares, both-pass, both-stop, behind-front, Local, then-local, give-local, blanks-local, token-local, name-local, ending-local}
 use Rattle.laws.specs.Tptp.LocalTrees.{whole-local, readers-local}
 
 text-local : (room : ℕ) → Local (readWhole room)
@@ -49,24 +50,23 @@ spelled-read room text p tree e s =
     (λ l. refused-passed (sym e ∙ tptp-complete room text tree s l))
     (side (opened tree) room)
 
--- a text that is refused by question 15 within a front is refused so whatever stands behind the front
-refused-within :
-    (room : ℕ) (front s₁ s₂ : Text) (p : ℕ) →
+-- a text that is refused within a front is refused so whatever stands behind the front
+pub refused-within :
+    (room : ℕ) (front s₁ s₂ : Text) (r : Refusal) (p : ℕ) →
     p < length front →
-    readTptp room (front ++ s₁) ≡ refused Tptp p →
-    readTptp room (front ++ s₂) ≡ refused Tptp p
+    readTptp room (front ++ s₁) ≡ refused r p →
+    readTptp room (front ++ s₂) ≡ refused r p
 unfolding readTptp treeOf
-refused-within room front s₁ s₂ p l e =
+refused-within room front s₁ s₂ r p l e =
     go (text-local room .shares front s₁ s₂ 0) (tree-refused (readWhole room (front ++ s₁) 0) e)
   where
-    late : {o : Outcome (Got Tree)} → Late (0 + length front) o → o ≡ refused Tptp p → ⊥
+    late : {o : Outcome (Got Tree)} → Late (0 + length front) o → o ≡ refused r p → ⊥
     late (late-pass {g} h) e = refused-passed (sym e)
     late (late-stop {q} h) e = let place : q ≡ p = cc in omega arith
-    late late-level e = level-tptp e
 
-    go : {o₁ o₂ : Outcome (Got Tree)} → Shares front s₁ s₂ 0 o₁ o₂ → o₁ ≡ refused Tptp p → treeOf o₂ ≡ refused Tptp p
+    go : {o₁ o₂ : Outcome (Got Tree)} → Shares front s₁ s₂ 0 o₁ o₂ → o₁ ≡ refused r p → treeOf o₂ ≡ refused r p
     go (both-pass used left is place) e = refused-passed (sym e)
-    go (both-stop {r} {q} h) e = let reason : r ≡ Tptp = cc in let place : q ≡ p = cc in rw (reason, place)
+    go (both-stop {r = r′} {q} h) e = let reason : r′ ≡ r = cc in let place : q ≡ p = cc in rw (reason, place)
     go (behind-front h) e = absurd (late h e)
 
 -- the place of a text that is refused by question 15
@@ -80,6 +80,6 @@ tptp-nowhere room text p e rest tree = (
       let front = take (suc p) text in
       let long : length front ≡ suc p = length-take-le (suc p) text (omega arith) in
       let whole : readTptp room (front ++ drop (suc p) text) ≡ refused Tptp p = rw take-append-drop e in
-      spelled-read room (front ++ rest) p tree (refused-within room front (drop (suc p) text) rest p (omega arith) whole) s,
+      spelled-read room (front ++ rest) p tree (refused-within room front (drop (suc p) text) rest Tptp p (omega arith) whole) s,
   λ _ s. spelled-read room text p tree e s,
 )

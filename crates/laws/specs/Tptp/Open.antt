@@ -1,27 +1,29 @@
--- Where a text is refused by the number of parentheses, as many stand open before the place as there was room for.
+-- Where a text is refused by the number of parentheses, as many stand open before the place as there was room for, and never more
+-- do, nor in a text that is read.
 use Prim.Native.Nat.{ℕ, zero, suc, _+_, _<_, _-_, _/_, _%_}
 use native.Mathlib.Omega.{arith}
 use mathlib.Core.Path.{_≡_, refl, sym, ap, _∙_, subst}
 use mathlib.Core.Logic.{⊎-elim}
 use mathlib.Core.Bool.{Bool, true, false, cond, _&&_}
-use mathlib.Core.List.{[], _∷_, _++_}
+use mathlib.Core.List.{[], _∷_, _++_, append-nil}
 use lib.ListN.{length, take}
 use lib.Seq.{take-at}
 use lib.Dec.{ltb, eqb}
 use borrow.Author.Tests.{ne-eqb}
 use Rattle.model.specs.Bytes.{Text, bytes, nought, comma, ampersand, bar, tilde, dollar, exclamation, interrogation, parenthesis, letterP, letterT, letterF}
-use Rattle.model.specs.Answer.{Outcome, refused}
+use Rattle.model.specs.Answer.{Outcome, passed, refused}
 use Rattle.model.specs.Decimal.{digits}
 use Rattle.model.specs.Tree.{Tree}
 use Rattle.model.specs.Tptp.{variableToken, isJoin}
-use Rattle.model.specs.TptpReading.{Got, Reader, Readers, Restricted, give, stop, _>>=_, token, upTo, more, term, terms, readAtom, readCompare, readDollar, readNegated, declaration, variables, readBinder, unequal, readUnequals, readTuple, joining, whole, readQuantifier, readSome, readJoin, readOperand, excluding, readRestriction, beginsExcluding, noReaders, readers, readWhole, readTptp}
+use Rattle.model.specs.TptpReading.{Got, Reader, Readers, Restricted, give, stop, _>>=_, token, upTo, more, term, terms, readAtom, readCompare, readDollar, readNegated, declaration, variables, readBinder, unequal, readUnequals, readTuple, joining, whole, readQuantifier, readSome, readJoin, readOperand, excluding, readRestriction, beginsExcluding, noReaders, readers, readWhole, treeOf, readTptp}
 use Rattle.model.specs.declared.Refusal.the-variants.{Level}
 use Rattle.laws.specs.Words.Tests.{decide}
 use Rattle.laws.specs.Answer.{refused-passed}
 use Rattle.laws.specs.Tptp.Opened.{closing}
+use Rattle.laws.specs.Tptp.Texts.{text-last}
 use Rattle.laws.specs.Tptp.Place.{tree-refused}
 use Rattle.laws.specs.Tptp.Nowhere.{level-tptp}
-use Rattle.laws.specs.Tptp.Weighs.{occurs, occurs-append, Weight, weighed, filled, stopped, Weighs, give-weighs, stop-weighs, cond-weighs, then-weighs, blanks-weighs, peek-weighs, look-weighs, literal-weighs, token-weighs, mark-weighs, natural-weighs, integer-weighs, term-weighs, name-weighs, ending-weighs, opening-weighs, enclosed-weighs, closing-weighs}
+use Rattle.laws.specs.Tptp.Weighs.{occurs, occurs-append, Open, OpenAtMost, Turns, turns-mark, turns-opening, Weight, weighed, filled, stopped, Weighs, give-weighs, stop-weighs, cond-weighs, then-weighs, blanks-weighs, peek-weighs, look-weighs, literal-weighs, token-weighs, mark-weighs, natural-weighs, integer-weighs, term-weighs, name-weighs, ending-weighs, opening-weighs, enclosed-weighs, closing-weighs}
 
 -- digits are no parentheses, and a variable has none
 digits-occurs : (c : ℕ) → c < 48 → (k n : ℕ) → occurs c (digits k n) ≡ 0
@@ -145,9 +147,9 @@ unfolding bytes occurs readDollar
 dollar-weighs room =
     then-weighs _ (mark-weighs (bytes "$") refl refl) λ _.
     then-weighs _ peek-weighs λ b.
-    cond-weighs (eqb b letterT) (then-weighs _ (literal-weighs (bytes "true") (record { balance = refl })) λ _. give-weighs _)
-    (cond-weighs (eqb b letterF) (then-weighs _ (literal-weighs (bytes "false") (record { balance = refl })) λ _. give-weighs _)
-    (then-weighs _ (literal-weighs (bytes "lesseq") (record { balance = refl })) λ _. compare-weighs room true))
+    cond-weighs (eqb b letterT) (then-weighs _ (literal-weighs (bytes "true") (turns-mark (bytes "true") refl refl)) λ _. give-weighs _)
+    (cond-weighs (eqb b letterF) (then-weighs _ (literal-weighs (bytes "false") (turns-mark (bytes "false") refl refl)) λ _. give-weighs _)
+    (then-weighs _ (literal-weighs (bytes "lesseq") (turns-mark (bytes "lesseq") refl refl)) λ _. compare-weighs room true))
 
 negated-weighs : (room : ℕ) → Weighs room room (readNegated room)
 unfolding bytes occurs readNegated
@@ -286,7 +288,7 @@ text-weighs : (room : ℕ) → Weighs (suc room) (suc room) (readWhole room)
 unfolding bytes occurs readWhole
 text-weighs room =
     then-weighs _ (mark-weighs (bytes "tff") refl refl) λ _.
-    then-weighs _ (token-weighs (bytes "(") (record { balance = omega arith })) λ _.
+    then-weighs _ (token-weighs (bytes "(") (turns-opening room)) λ _.
     then-weighs _ name-weighs λ _.
     then-weighs _ (mark-weighs (bytes ",") refl refl) λ _.
     then-weighs _ (mark-weighs (bytes "axiom") refl refl) λ _.
@@ -297,22 +299,42 @@ text-weighs room =
     then-weighs _ blanks-weighs λ _.
     then-weighs _ ending-weighs λ _. give-weighs t
 
--- before the place of a refusal by question 4 there are so many more opening parentheses than closing ones
+-- the bytes before the place of a refusal by question 4 use up the room
+refused-turns : (room : ℕ) (text : Text) (p : ℕ) → readTptp room text ≡ refused Level p → Turns (suc room) 0 (take p text)
+unfolding readTptp
+refused-turns room text p e = go (text-weighs room .weighs text 0) (tree-refused (readWhole room text 0) e)
+  where
+    go : {o : Outcome (Got Tree)} → Weight (suc room) (suc room) text 0 o → o ≡ refused Level p → Turns (suc room) 0 (take p text)
+    go (weighed {g} used is place turns) e = refused-passed (sym e)
+    go (filled {q} front rest is place turns) e =
+        let here : q ≡ p = cc in rw (ap (take p) is ∙ take-at front rest p (omega arith)) turns
+    go stopped e = absurd (level-tptp (sym e))
+
+-- before it there are so many more opening parentheses than closing ones, and never more
 pub tptp-open :
     (room : ℕ) (text : Text) (p : ℕ) →
     readTptp room text ≡ refused Level p →
-    occurs parenthesis (take p text) ≡ occurs closing (take p text) + suc room
-unfolding readTptp
-tptp-open room text p e = go (text-weighs room .weighs text 0) (tree-refused (readWhole room text 0) e)
+    Open (suc room) (take p text)
+tptp-open room text p e = omega (arith, refused-turns room text p e .balance)
+
+pub tptp-before :
+    (room : ℕ) (text : Text) (p : ℕ) →
+    readTptp room text ≡ refused Level p →
+    OpenAtMost (suc room) (take p text)
+tptp-before room text p e = refused-turns room text p e .most
+
+-- nor are there in a text that is read
+pub tptp-within : (room : ℕ) (text : Text) (tree : Tree) → readTptp room text ≡ passed tree → OpenAtMost (suc room) text
+unfolding readTptp treeOf
+tptp-within room text tree e = go (readWhole room text 0) refl (text-weighs room .weighs text 0) e
   where
     go :
-        {o : Outcome (Got Tree)} →
+        (o : Outcome (Got Tree)) →
+        readWhole room text 0 ≡ o →
         Weight (suc room) (suc room) text 0 o →
-        o ≡ refused Level p →
-        occurs parenthesis (take p text) ≡ occurs closing (take p text) + suc room
-    go (weighed {g} used is place turns) e = refused-passed (sym e)
-    go (filled {q} front rest is place turns) e =
-        let here : q ≡ p = cc in
-        let part = ap (take p) is ∙ take-at front rest p (omega arith) in
-        rw part (omega (arith, turns .balance))
-    go stopped e = absurd (level-tptp (sym e))
+        treeOf o ≡ passed tree →
+        OpenAtMost (suc room) text
+    go (refused f q) is w e = refused-passed e
+    go (passed g) is (weighed used split place turns) e =
+        let whole = split ∙ ap (λ (t : Text). used ++ t) (text-last room text 0 g is) ∙ append-nil used in
+        subst (OpenAtMost (suc room)) (sym whole) (turns .most)

@@ -1,13 +1,14 @@
 -- How many parentheses stand open: what a reader has used leaves as many open as it says, and where it is refused by their
--- number, all for which there was room stand open. This holds for readers made of such readers, and for those of bytes and
--- tokens.
-use Prim.Native.Nat.{ℕ, zero, suc, _+_, _*_, _-_}
+-- number, all for which there was room stand open; before that there are never more open than there was room for. This holds for
+-- readers made of such readers, and for those of bytes and tokens.
+use Prim.Native.Nat.{ℕ, zero, suc, _+_, _*_, _-_, _≤_}
 use native.Mathlib.Omega.{arith}
 use mathlib.Core.Path.{_≡_, refl, sym, ap, ap₂, _∙_, subst}
 use mathlib.Core.Logic.{⊎-elim}
 use mathlib.Core.Bool.{Bool, true, false, not, cond, _&&_}
 use mathlib.Core.List.{[], _∷_, _++_, append-assoc}
-use lib.ListN.{length, length-append}
+use lib.ListN.{length, take, drop, length-append, take-append-drop}
+use lib.Seq.{take-nil, take-append-le, take-append-add}
 use lib.Dec.{leb, eqb}
 use Rattle.model.specs.Bytes.{Text, bytes, blank, digit, small, capital, wordByte, nought, minus, parenthesis, letterX}
 use Rattle.model.specs.Answer.{Outcome, passed, refused}
@@ -15,6 +16,7 @@ use Rattle.model.specs.TptpReading.{Got, Reader, give, stop, onwards, _>>=_, bl
 use Rattle.model.specs.declared.Refusal.the-variants.{Level, Tptp}
 use borrow.Author.Tests.{eqb-true}
 use Rattle.laws.specs.Words.Tests.{decide, and-left, clash}
+use Rattle.laws.specs.Lists.Span.{side}
 use Rattle.laws.specs.Tptp.Opened.{closing}
 use Rattle.laws.specs.Tptp.Local.{opening-none}
 
@@ -32,12 +34,59 @@ occurs-append c (b ∷ t) u =
     (λ k. rw k (occurs-append c t u))
     (decide (eqb b c))
 
--- a text leaves so many parentheses open that the room falls from `room` to `left`
+-- behind a text so many parentheses stand open; in every front part of it at most so many
+abbrev pub Open : ℕ → Text → Type 0
+Open n u = occurs parenthesis u ≡ occurs closing u + n
+
+abbrev pub OpenAtMost : ℕ → Text → Type 0
+OpenAtMost room u = (n : ℕ) → occurs parenthesis (take n u) ≤ occurs closing (take n u) + room
+
+-- a text leaves so many parentheses open that the room falls from `room` to `left`, and never opens more than there is room for
 pub record Turns (room left : ℕ) (u : Text) : Type 0 where
   pub balance : occurs parenthesis u + left ≡ occurs closing u + room
+  pub most : OpenAtMost room u
 
 turns-both : {room mid left : ℕ} (u v : Text) → Turns room mid u → Turns mid left v → Turns room left (u ++ v)
-turns-both u v h k = record { balance = omega (arith, occurs-append parenthesis u v, occurs-append closing u v) }
+turns-both {room} u v h k = record {
+  balance = omega (arith, h .balance, k .balance, occurs-append parenthesis u v, occurs-append closing u v);
+  most = λ n. ⊎-elim (λ l. within n (omega arith)) (λ l. beyond n l) (side (length u) n);
+}
+  where
+    within : (n : ℕ) → n ≤ length u → occurs parenthesis (take n (u ++ v)) ≤ occurs closing (take n (u ++ v)) + room
+    within n l = rw (take-append-le n u v l) (h .most n)
+
+    beyond : (n : ℕ) → length u ≤ n → occurs parenthesis (take n (u ++ v)) ≤ occurs closing (take n (u ++ v)) + room
+    beyond n l =
+        let m = n - length u in
+        let parts : n ≡ length u + m = omega arith in
+        let front : take n (u ++ v) ≡ u ++ take m v = ap (λ (i : ℕ). take i (u ++ v)) parts ∙ take-append-add u v m in
+        rw front
+        (omega (arith, h .balance, k .most m, occurs-append parenthesis u (take m v), occurs-append closing u (take m v)))
+
+-- a text with no parenthesis
+pub turns-mark : {room : ℕ} (w : Text) → occurs parenthesis w ≡ 0 → occurs closing w ≡ 0 → Turns room room w
+turns-mark w e h = record {
+  balance = omega arith;
+  most = λ n.
+      omega (arith, occurs-append parenthesis (take n w) (drop n w), ap (occurs parenthesis) (take-append-drop n w));
+}
+
+-- an opening one, and a closing one
+pub turns-opening : (room : ℕ) → Turns (suc room) room (bytes "(")
+unfolding bytes occurs
+turns-opening room = record { balance = omega arith; most = go }
+  where
+    go : OpenAtMost (suc room) (parenthesis ∷ [])
+    go zero = omega arith
+    go (suc n) = rw (take-nil {A = ℕ} n) (omega arith)
+
+turns-closing : (room : ℕ) → Turns room (suc room) (bytes ")")
+unfolding bytes occurs
+turns-closing room = record { balance = omega arith; most = go }
+  where
+    go : OpenAtMost room (closing ∷ [])
+    go zero = omega arith
+    go (suc n) = rw (take-nil {A = ℕ} n) (omega arith)
 
 -- what comes of a text read from p on, with room for so many parentheses
 pub data Weight {A : Type 0} (room left : ℕ) (text : Text) (p : ℕ) : Outcome (Got A) → Type 0 where
@@ -81,7 +130,7 @@ module _ {A : Type 0} where
   weight-give :
       {room : ℕ} (a : A) (text : Text) (p : ℕ) → Weight room room text p (passed (record { what = a; rest = text; at = p }))
   unfolding occurs
-  weight-give a text p = let same : p ≡ p + 0 = omega arith in weighed [] refl same (record { balance = refl })
+  weight-give a text p = let same : p ≡ p + 0 = omega arith in weighed [] refl same (turns-mark [] refl refl)
 
   pub give-weighs : {room : ℕ} (a : A) → Weighs room room (give a)
   unfolding give
@@ -116,7 +165,7 @@ then-weighs {A} next {room} {mid} {left} h k = record { weighs = λ text p. go (
 -- a byte that is no parenthesis
 turns-byte : (room b : ℕ) → eqb b parenthesis ≡ false → eqb b closing ≡ false → Turns room room (b ∷ [])
 unfolding occurs
-turns-byte room b e h = record { balance = rw (e, h) }
+turns-byte room b e h = turns-mark (b ∷ []) (rw e) (rw h)
 
 weight-byte :
     {A : Type 0} {room left : ℕ} {t : Text} {p : ℕ} {o : Outcome (Got A)} (b : ℕ) →
@@ -126,7 +175,10 @@ weight-byte :
     Weight room left (b ∷ t) p o
 weight-byte {room} b e h k = weight-behind (b ∷ []) refl (omega arith) (turns-byte room b e h) k
 
--- what passes a test that no parenthesis passes is none
+-- what passes a test is no byte that does not; and no parenthesis, if none passes
+pub other-byte : (test : ℕ → Bool) (c : ℕ) → test c ≡ false → (b : ℕ) → test b ≡ true → eqb b c ≡ false
+other-byte test c h b e = ⊎-elim (λ k. clash e (ap test (eqb-true b c k) ∙ h)) (λ k. k) (decide (eqb b c))
+
 neither :
     (test : ℕ → Bool) →
     test parenthesis ≡ false →
@@ -134,10 +186,7 @@ neither :
     (b : ℕ) →
     test b ≡ true →
     (eqb b parenthesis ≡ false) × (eqb b closing ≡ false)
-neither test h₁ h₂ b e = (other parenthesis h₁, other closing h₂)
-  where
-    other : (c : ℕ) → test c ≡ false → eqb b c ≡ false
-    other c h = ⊎-elim (λ k. clash e (ap test (eqb-true b c k) ∙ h)) (λ k. k) (decide (eqb b c))
+neither test h₁ h₂ b e = (other-byte test parenthesis h₁ b e, other-byte test closing h₂ b e)
 
 -- as many bytes as pass such a test
 run-weighs :
@@ -212,7 +261,7 @@ token-weighs w h = then-weighs _ blanks-weighs λ _. literal-weighs w h
 
 -- a token with no parenthesis
 pub mark-weighs : {room : ℕ} (w : Text) → occurs parenthesis w ≡ 0 → occurs closing w ≡ 0 → Weighs room room (token w)
-mark-weighs w e h = token-weighs w (record { balance = omega arith })
+mark-weighs w e h = token-weighs w (turns-mark w e h)
 
 module _ {room : ℕ} where
   further-weight : (most n : ℕ) (t : Text) (p : ℕ) → Weight room room t p (moreDigits most n t p)
@@ -254,7 +303,7 @@ module _ {room : ℕ} where
   integer-weighs =
       then-weighs _ look-weighs λ b.
       cond-weighs (eqb b minus)
-      (then-weighs _ (literal-weighs (minus ∷ []) (record { balance = refl })) λ _.
+      (then-weighs _ (literal-weighs (minus ∷ []) (turns-mark (minus ∷ []) refl refl)) λ _.
       then-weighs _ (number-weighs (λ c. digit c && not (eqb c nought)) _ (λ c. and-left (digit c) _)) λ n. give-weighs _)
       (then-weighs _ natural-weighs λ n. give-weighs _)
 
@@ -293,7 +342,7 @@ opening-weighs {A} zero {left} {next} h = record { weighs = λ text p. go (none 
         then-weighs _ look-weighs λ b.
         cond-weighs (eqb b parenthesis)
         (record {
-          weighs = λ text p. let same : p ≡ p + 0 = omega arith in filled [] text refl same (record { balance = refl });
+          weighs = λ text p. let same : p ≡ p + 0 = omega arith in filled [] text refl same (turns-mark [] refl refl);
         })
         stop-weighs
 
@@ -305,7 +354,7 @@ opening-weighs {A} zero {left} {next} h = record { weighs = λ text p. go (none 
     go (weighed {g} used is place turns) n = absurd (n g refl)
     go (filled front rest is place turns) n = filled front rest is place turns
     go stopped n = stopped
-opening-weighs (suc r) h = then-weighs _ (token-weighs (bytes "(") (record { balance = omega arith })) λ _. h r refl
+opening-weighs (suc r) h = then-weighs _ (token-weighs (bytes "(") (turns-opening r)) λ _. h r refl
 
 -- up to the one that closes it
 pub enclosed-weighs :
@@ -316,5 +365,4 @@ enclosed-weighs {A} room {next} h = opening-weighs room λ r is. subst (λ (m : 
 
 -- the closing one
 pub closing-weighs : {room : ℕ} → Weighs room (suc room) (token (bytes ")"))
-unfolding bytes occurs
-closing-weighs {room} = token-weighs (bytes ")") (record { balance = omega arith })
+closing-weighs {room} = token-weighs (bytes ")") (turns-closing room)

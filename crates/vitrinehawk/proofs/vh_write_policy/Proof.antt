@@ -21,7 +21,7 @@ same-length c = search needs
 returns : tie.Need-returns
 returns c =
     let (answered, wrote) = c .before .before .before .before .write-policy .ensures in
-    (c .number-of .ensures ∙ ap number answered, (c .before .detail-of .ensures ∙ ap detailed answered, wrote))
+    (c .number-of .ensures ∙ ap number (answered .same), (c .before .detail-of .ensures ∙ ap detailed (answered .same), wrote))
 
 pub vh-write-policy-spec : {M : Type 1} → statement M
 vh-write-policy-spec =

@@ -20,14 +20,14 @@ returns : tie.Need-returns
 returns c =
     let k = c .before .before in
     let a = k .before .before .args in
-    log-refused (a .table .now) (a .log .now) _ _ (k .check-log .ensures) (c .enum-told2 .given .1)
+    log-refused (a .table .now) (a .log .now) _ _ (k .check-log .ensures .same) (c .enum-told2 .given .1)
 
 -- the log is accepted
 accepted :
     (c : tie.After-enum-told) →
     let a = c .before .before .before .before .args in
     Accepted (c .enum-told .given .0 .0) ≡ checkLog (a .table .now) (a .log .now)
-accepted c = sym (c .enum-told .given .1) ∙ c .before .before .check-log .ensures
+accepted c = sym (c .enum-told .given .1) ∙ c .before .before .check-log .ensures .same
 
 write-rows-requires : tie.Need-write-rows-requires
 write-rows-requires c κs =

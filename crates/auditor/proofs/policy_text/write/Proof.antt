@@ -20,14 +20,14 @@ returns : tie.Need-returns
 returns c =
     let k = c .before .before in
     let a = k .before .before .args in
-    policy-refused (a .table .now) (a .policy .now) _ _ (k .check-policy .ensures) (c .enum-told2 .given .1)
+    policy-refused (a .table .now) (a .policy .now) _ _ (k .check-policy .ensures .same) (c .enum-told2 .given .1)
 
 -- the policy is accepted
 accepted :
     (c : tie.After-enum-told) →
     let a = c .before .before .before .before .args in
     Accepted (c .enum-told .given .0 .0) ≡ checkPolicy (a .table .now) (a .policy .now)
-accepted c = sym (c .enum-told .given .1) ∙ c .before .before .check-policy .ensures
+accepted c = sym (c .enum-told .given .1) ∙ c .before .before .check-policy .ensures .same
 
 write-tree-requires : tie.Need-write-tree-requires
 write-tree-requires c κs =

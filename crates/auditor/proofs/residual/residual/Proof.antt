@@ -16,7 +16,7 @@ enum-told-2 : tie.Need-enum-told-2
 enum-told-2 c = search needs
 
 returns : tie.Need-returns
-returns c = policy-refused (c .before .before .before .args .table .now) (c .before .before .before .args .policy .now) (c .before .before .before .args .log .now) (length (c .before .before .before .args .scratch .now)) (length (c .before .before .before .args .buffer .now)) _ (c .before .before .check-policy .ensures) (c .enum-told2 .given .1)
+returns c = policy-refused (c .before .before .before .args .table .now) (c .before .before .before .args .policy .now) (c .before .before .before .args .log .now) (length (c .before .before .before .args .scratch .now)) (length (c .before .before .before .args .buffer .now)) _ (c .before .before .check-policy .ensures .same) (c .enum-told2 .given .1)
 
 slice-aggregate-over-log : tie.Need-slice-aggregate-over-log
 slice-aggregate-over-log c = search needs
@@ -25,7 +25,7 @@ slice-aggregate-over-log-2 : tie.Need-slice-aggregate-over-log-2
 slice-aggregate-over-log-2 c = search needs
 
 over-log-requires : tie.Need-over-log-requires
-over-log-requires c κs = (policy-accepted (c .before .before .before .before .before .before .before .args .table .now) (c .before .before .before .before .before .before .before .args .policy .now) (c .before .before .before .before .before .before .before .args .log .now) 0 0 (c .before .before .before .before .before .before .check-policy .ensures) (c .before .before .before .before .enum-told .given .1), refl, refl)
+over-log-requires c κs = (policy-accepted (c .before .before .before .before .before .before .before .args .table .now) (c .before .before .before .before .before .before .before .args .policy .now) (c .before .before .before .before .before .before .before .args .log .now) 0 0 (c .before .before .before .before .before .before .check-policy .ensures .same) (c .before .before .before .before .enum-told .given .1), refl, refl)
 
 same-length : tie.Need-same-length
 same-length c = search needs
