@@ -22,8 +22,8 @@ use Rattle.laws.specs.Dual.{dual-size}
 use Rattle.laws.specs.Calls.Policy.{accepted-asked}
 use Rattle.laws.specs.Reading.Encoded.{read-length}
 use Rattle.preorder.specs.Grown.{Tupled}
-use Rattle.auditor.specs.Reduce.{Accepts}
-use Rattle.auditor.proofs.Calls.{policy-was-refused, policy-was-passed}
+use Rattle.checks.specs.Accepts.{Accepts}
+use Rattle.checks.proofs.Calls.{policy-was-refused, policy-was-passed}
 use Rattle.auditor.proofs.DualFormed.{accepted-written}
 
 module _ (table policy old buffer : Words) where

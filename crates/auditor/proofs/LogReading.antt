@@ -22,9 +22,9 @@ use Rattle.model.specs.LogText.{askRecords}
 use Rattle.model.specs.Calls.{zeros, filled, inRoom, askReading, readLogCall}
 use Rattle.laws.specs.Answer.{answers, refused-passed, passed-same}
 use Rattle.laws.specs.Words.Tests.{and-false}
-use Rattle.texts.specs.declared.rows.Rows.{Rows}
-use Rattle.texts.specs.declared.rows.Rows.the-variants as rows
-use Rattle.texts.specs.Rows.{askText, Stand, RowsRead}
+use Rattle.csv_reading.specs.declared.rows.Rows.{Rows}
+use Rattle.csv_reading.specs.declared.rows.Rows.the-variants as rows
+use Rattle.csv_reading.specs.Rows.{askText, Stand, RowsRead}
 use Rattle.auditor.specs.LogText.{settledLog, ReadsLog}
 
 -- rows read once more, to a place with room for them

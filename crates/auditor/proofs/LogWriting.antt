@@ -13,11 +13,11 @@ use Rattle.model.specs.Log.{rowCount, askLog}
 use Rattle.model.specs.LogText.{logText}
 use Rattle.model.specs.Calls.{inRoom, askWriting, checkLog}
 use Rattle.laws.specs.Answer.{then-passed}
-use Rattle.writing.specs.declared.number.Put.{Put}
-use Rattle.writing.specs.Put.{Writes}
+use Rattle.text.specs.declared.writing.Put.{Put}
+use Rattle.text.specs.Put.{Writes}
 use Rattle.auditor.specs.TextWriting.{written}
 use Rattle.auditor.specs.LogText.{WritesLog}
-use Rattle.auditor.proofs.Calls.{was-refused, was-passed}
+use Rattle.checks.proofs.Calls.{was-refused, was-passed}
 use Rattle.auditor.proofs.TextWriting.{text-refused, text-written}
 
 module _ (table log : Words) where

@@ -31,12 +31,12 @@ use Rattle.laws.specs.Tptp.Sound.{tptp-sound}
 use Rattle.tables.specs.Checked.{outcome}
 use Rattle.tables.specs.declared.Checked.{Checked}
 use Rattle.tables.specs.declared.Checked.the-variants as checked
-use Rattle.parsing.specs.Told.{Told}
-use Rattle.parsing.specs.Policy.{startState, PolicyRead}
-use Rattle.parsing.specs.declared.tokens.Step.{Step}
-use Rattle.parsing.specs.declared.tokens.Step.the-variants as step
-use Rattle.parsing.specs.declared.state.State.{State}
-use Rattle.parsing.specs.declared.policy.Came.{Came}
+use Rattle.tptp_reading.specs.Told.{Told}
+use Rattle.tptp_reading.specs.Policy.{startState, PolicyRead}
+use Rattle.tptp_tokens.specs.declared.tokens.Step.{Step}
+use Rattle.tptp_tokens.specs.declared.tokens.Step.the-variants as step
+use Rattle.tptp_reading.specs.declared.state.State.{State}
+use Rattle.tptp_reading.specs.declared.policy.Came.{Came}
 use Rattle.auditor.specs.PolicyText.{settledPolicy, ReadsPolicy}
 
 -- questions 2, 4 to 7 and 12 by what is known: the first refusal, or none

@@ -13,11 +13,11 @@ use Rattle.model.specs.Reading.{readPolicy}
 use Rattle.model.specs.Tptp.{policyText}
 use Rattle.model.specs.Calls.{checkPolicy, askPolicyWriting}
 use Rattle.laws.specs.Calls.Policy.{accepted-asked}
-use Rattle.writing.specs.declared.number.Put.{Put}
-use Rattle.writing.specs.Put.{Writes}
+use Rattle.text.specs.declared.writing.Put.{Put}
+use Rattle.text.specs.Put.{Writes}
 use Rattle.auditor.specs.TextWriting.{written}
 use Rattle.auditor.specs.PolicyText.{WritesPolicy}
-use Rattle.auditor.proofs.Calls.{policy-was-refused, policy-was-passed}
+use Rattle.checks.proofs.Calls.{policy-was-refused, policy-was-passed}
 use Rattle.auditor.proofs.TextWriting.{text-refused, text-written}
 
 module _ (table policy : Words) where

@@ -16,9 +16,9 @@ use Rattle.model.specs.Bytes.{Text}
 use Rattle.model.specs.Answer.{AnswersAs, Outcome, passed, refused, ask, answer, count, _>>=_}
 use Rattle.model.specs.Calls.{inRoom, filledText, textResult}
 use Rattle.laws.specs.Answer.{answers}
-use Rattle.writing.specs.declared.number.Put.{Put}
-use Rattle.writing.specs.declared.number.Put.the-variants.{Full, At}
-use Rattle.writing.specs.Put.{told, Writes}
+use Rattle.text.specs.declared.writing.Put.{Put}
+use Rattle.text.specs.declared.writing.Put.the-variants.{Full, At}
+use Rattle.text.specs.Put.{told, Writes}
 use Rattle.auditor.specs.TextWriting.{written, LeavesText}
 
 module _ (o : Outcome Text) where

@@ -1,4 +1,3 @@
-pub mod Dual
 pub mod Reduce
 pub mod Runs
 pub mod RunsExample

@@ -11,7 +11,7 @@ use Rattle.model.specs.Log.{rowCount, askLog}
 use Rattle.model.specs.Calls.{zeros, filled, inRoom, askReading, askWriting}
 use Rattle.tables.specs.declared.Checked.{Checked}
 use Rattle.tables.specs.Checked.{outcome}
-use Rattle.texts.specs.Rows.{askText}
+use Rattle.csv_reading.specs.Rows.{askText}
 use Rattle.auditor.specs.TextWriting.{LeavesText}
 
 -- a text passes 13 and 14, with so many rows

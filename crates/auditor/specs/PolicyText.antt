@@ -11,7 +11,7 @@ use Rattle.model.specs.Bytes.{Text}
 use Rattle.model.specs.Answer.{Outcome, ask, answer, count, _>>=_}
 use Rattle.model.specs.Calls.{zeros, filled, askPolicyReading, askPolicyWriting}
 use Rattle.tables.specs.Checked.{outcome}
-use Rattle.parsing.specs.declared.state.State.{State}
+use Rattle.tptp_reading.specs.declared.state.State.{State}
 use Rattle.auditor.specs.TextWriting.{LeavesText}
 
 -- questions 2, 4 to 7 and 12 of a text that was read, by what is known behind it

@@ -1,55 +1,13 @@
--- The contract of the call reduce, and what its parts say on the way to it.
-use Prim.Native.Nat.{ℕ, _-_, _/_, _≤_, min}
+-- The contract of the call reduce.
 use mathlib.Core.Path.{_≡_}
-use mathlib.Core.List.{[], _++_}
-use lib.ListN.{length, take}
-use lib.Dec.{leb}
+use lib.ListN.{length}
 use Rattle.model.specs.declared.Answer.{Answer}
-use Rattle.model.specs.declared.Refusal.the-variants.{Scratch}
-use Rattle.model.specs.Words.{Words, placeWords, policyLimit}
-use Rattle.model.specs.Answer.{AnswersAs, Outcome, passed, ask, answer, count, _>>=_}
-use Rattle.model.specs.Tree.{Tree, encode}
-use Rattle.model.specs.Log.{rows, askLog}
-use Rattle.model.specs.Reduction.{reduce, need}
-use Rattle.model.specs.Calls.{zeros, filled, askPolicy, write, reduceCall}
-use Rattle.joining.specs.declared.answer.Reduced.{Reduced}
-use Rattle.joining.specs.declared.answer.Reduced.the-variants.{Part}
-use Rattle.joining.specs.Answer.{told}
+use Rattle.model.specs.Words.{Words}
+use Rattle.model.specs.Answer.{AnswersAs}
+use Rattle.model.specs.Calls.{reduceCall}
 
 -- the contract of reduce: given these words and lent these, it answers, and leaves scratch and buffer, as the call is defined
 pub record Reduces (table policy log scratch buffer : Words) (r : Answer) (scratch′ buffer′ : Words) : Type 0 where
   pub answered : AnswersAs (reduceCall table policy log (length scratch) (length buffer) .answer) r
   pub wrote : buffer′ ≡ reduceCall table policy log (length scratch) (length buffer) .buffer
   pub cleared : scratch′ ≡ reduceCall table policy log (length scratch) (length buffer) .scratch
-
--- a policy is accepted
-abbrev pub Accepts : Words → Words → Type 0
-Accepts table policy = (tree : Tree) × (askPolicy table policy ≡ passed tree)
-
--- what comes of questions 11 and 12, of a residual that needs so many of the places that are lent: its words
-unfoldable pub settled : ℕ → ℕ → ℕ → Tree → Outcome Words
-settled places need buffer residual = do
-  _ ← ask (leb need places) Scratch 0
-  write buffer residual
-
--- what comes of questions 1 to 12
-unfoldable pub asked : Words → Words → Words → ℕ → ℕ → Outcome Words
-asked table policy log scratch buffer = do
-  tree ← askPolicy table policy
-  _ ← askLog table log
-  settled (scratch / placeWords) (need table (rows log) tree []) buffer (reduce table (rows log) tree [])
-
--- an answer, and the words that it counts, at the front of so many, are what came of the questions
-pub record Leaves (o : Outcome Words) (room : ℕ) (after : Words) (r : Answer) : Type 0 where
-  pub answered : r ≡ answer length o
-  pub fits : count r ≤ room
-  pub wrote : take (count r) after ++ zeros (room - count r) ≡ filled room o
-
--- so many words of a buffer are lent to the walk
-abbrev pub lendable : ℕ → ℕ
-lendable buffer = min buffer policyLimit
-
--- what the walk of a policy answered, in words of which so many as can be were lent to it
-pub record Walked (places need : ℕ) (residual : Tree) (after : Words) (r : Reduced) : Type 0 where
-  pub is : r ≡ told places need (lendable (length after)) residual
-  pub words : (n : ℕ) → r ≡ Part n → take n after ≡ encode residual

@@ -9,8 +9,8 @@ use Rattle.model.specs.declared.Refusal.the-variants.{Room}
 use Rattle.model.specs.Bytes.{Text}
 use Rattle.model.specs.Answer.{Outcome, answer, count}
 use Rattle.model.specs.Calls.{filledText}
-use Rattle.writing.specs.declared.number.Put.{Put}
-use Rattle.writing.specs.declared.number.Put.the-variants.{Full, At}
+use Rattle.text.specs.declared.writing.Put.{Put}
+use Rattle.text.specs.declared.writing.Put.the-variants.{Full, At}
 
 -- the answer about a text that was written, or found too little room
 unfoldable pub written : Put → Answer

@@ -1,73 +1,32 @@
 // The public calls of the auditor. Each makes every check itself and answers as model's definition of it says.
-mod dual_words;
 mod log_text;
 mod policy_text;
-mod residual;
 
 ghost use mathlib.Core.Path.{_≡_};
-ghost use Prim.Native.Nat.{_≤_};
 ghost use lib.ListN.{length};
 ghost use Rattle.model.specs.Answer.{count, AnswersAs};
-ghost use Rattle.model.specs.Log.{askLog};
 ghost use Rattle.model.specs.Calls as C;
-ghost use Rattle.tables.specs.Checked.{outcome};
 ghost use Rattle.auditor.specs.Reduce.{Reduces};
 ghost use Rattle.auditor.specs.TextWriting as W;
 use clearing::clear;
 use clearing::clear_bytes;
 use model::Answer;
 use model::Refusal;
-use policies::policy::Walked;
-use tables::Checked;
-use writing::number::Put;
+use residuals::residual::residual;
+use text::writing::Put;
 
 // Check a policy over a table: questions 1 to 7. Accepted, the count is the greatest level.
 pub fn check_policy(table: &[i32], policy: &[i32]) -> Answer
     ensures { λ r. ⌜ AnswersAs (C.checkPolicy (now (table .entry)) (now (policy .entry))) r ⌝ }
 {
-    let first = tables::table::check_table(table);
-    match first {
-        Checked::Refused(refusal, place) => Answer::Refused(refusal, place),
-        Checked::Passed => {
-            let second = policies::policy::read_policy(table, policy);
-            match second {
-                Walked::Refused(refusal, place) => Answer::Refused(refusal, place),
-                Walked::Read(_, level) => {
-                    let third = policies::mode::check_modes(table, policy);
-                    match third {
-                        Checked::Refused(refusal, place) => Answer::Refused(refusal, place),
-                        Checked::Passed => Answer::Accepted(level),
-                    }
-                }
-            }
-        }
-    }
-}
-
-// Questions 8 to 10 of a log.
-fn check_rows(table: &[i32], log: &[i32]) -> Checked
-    requires { ⌜ length (now table) ≤ 768 ⌝ }
-    ensures { λ r. ⌜ outcome r ≡ askLog (now (table .entry)) (now (log .entry)) ⌝ }
-{
-    let mut links = [0; 20480];
-    logs::log::check_log(table, log, &mut links)
+    checks::check_policy(table, policy)
 }
 
 // Check a log over a table: questions 1 and 8 to 10. Accepted, the count is the number of rows.
 pub fn check_log(table: &[i32], log: &[i32]) -> Answer
     ensures { λ r. ⌜ AnswersAs (C.checkLog (now (table .entry)) (now (log .entry))) r ⌝ }
 {
-    let first = tables::table::check_table(table);
-    match first {
-        Checked::Refused(refusal, place) => Answer::Refused(refusal, place),
-        Checked::Passed => {
-            let second = check_rows(table, log);
-            match second {
-                Checked::Refused(refusal, place) => Answer::Refused(refusal, place),
-                Checked::Passed => Answer::Accepted(log.len() / 8),
-            }
-        }
-    }
+    checks::check_log(table, log)
 }
 
 // Write the dual of a policy over a table: questions 1 to 7 and 12. Accepted, the count is its length.
@@ -79,7 +38,7 @@ pub fn dual(table: &[i32], policy: &[i32], buffer: &mut [i32]) -> Answer
         now (buffer .exit) ≡ C.dualCall (now (table .entry)) (now (policy .entry)) (length (now (buffer .entry))) .buffer
         ⌝ }
 {
-    let asked = check_policy(table, policy);
+    let asked = checks::check_policy(table, policy);
     if let Answer::Refused(refusal, place) = asked {
         clear(buffer, 0);
         return Answer::Refused(refusal, place);
@@ -88,7 +47,7 @@ pub fn dual(table: &[i32], policy: &[i32], buffer: &mut [i32]) -> Answer
         clear(buffer, 0);
         return Answer::Refused(Refusal::Room, 0);
     }
-    dual_words::write(policy, buffer);
+    duals::dual_words::write(policy, buffer);
     Answer::Accepted(policy.len())
 }
 
@@ -124,7 +83,7 @@ pub fn reduce(
         Reduces (now (table .entry)) (now (policy .entry)) (now (log .entry)) (now (scratch .entry)) (now (buffer .entry)) r (now (scratch .exit)) (now (buffer .exit))
         ⌝ }
 {
-    let answer = residual::residual(table, policy, log, scratch, buffer);
+    let answer = residual(table, policy, log, scratch, buffer);
     clear(scratch, 0);
     clear(buffer, counted(answer));
     answer

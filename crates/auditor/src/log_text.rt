@@ -1,19 +1,19 @@
 // Logs as comma-separated text, read to the front of a buffer and written there. What stands behind is left open.
-use crate::check_log;
-use crate::check_rows;
 use crate::written;
+use checks::check_log;
+use checks::check_rows;
+use csv_reading::rows::Rows;
+use csv_reading::rows::read_rows;
+use csv_writing::write_rows;
 use model::Answer;
 use model::Refusal;
 use tables::Checked;
-use texts::rows::Rows;
-use texts::rows::read_rows;
-use writing::write_rows;
 ghost use mathlib.Core.Path.{_≡_};
 ghost use Prim.Native.Nat.{_*_, _≤_};
 ghost use lib.ListN.{length};
 ghost use Rattle.model.specs.Answer.{passed};
 ghost use Rattle.model.specs.Table.{askTable};
-ghost use Rattle.texts.specs.Rows.{Stand};
+ghost use Rattle.csv_reading.specs.Rows.{Stand};
 ghost use Rattle.auditor.specs.LogText as L;
 
 // Questions 8 to 10 of the rows of a text, so many, which are read to a place with room for them.

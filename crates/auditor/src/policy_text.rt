@@ -1,13 +1,13 @@
 // Policies as text in the TPTP typed form, read to the front of a buffer and written there. What stands behind is left open.
-use crate::check_policy;
 use crate::written;
+use checks::check_policy;
 use model::Answer;
 use model::Refusal;
-use parsing::policy::policy;
-use parsing::state::State;
-use parsing::tokens::Step;
-use printing::write_tree;
 use tables::Checked;
+use tptp_reading::policy::policy;
+use tptp_reading::state::State;
+use tptp_tokens::tokens::Step;
+use tptp_writing::write_tree;
 ghost use mathlib.Core.Path.{_≡_};
 ghost use lib.ListN.{length};
 ghost use Rattle.model.specs.Answer.{answer};

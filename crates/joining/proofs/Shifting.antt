@@ -5,7 +5,8 @@ use native.Mathlib.Numerals.{add-one}
 use mathlib.Core.Path.{_≡_, refl, sym, ap, ap₂, _∙_}
 use mathlib.Core.List.{[], _∷_, _++_, append-assoc}
 use lib.ListN.{length, take, drop, set, getD, length-drop, take-append-drop, List·getD-append}
-use lib.Seq.{paste, paste-zero, paste-suc, length-paste, length-paste-head, length-take-le, take-suc, drop-cons, drop-length, append-snoc, set-at, getD-append-add, getD-drop, getD-take}
+use lib.Seq.{paste, paste-zero, paste-suc, length-paste, length-paste-head, length-take-le, take-suc, drop-cons, drop-length, append-snoc}
+use lib.Seq.{set-at, getD-append-add, getD-drop, getD-take}
 use lib.IntN.{ℤ, pos}
 use Rattle.model.specs.Words.{Words}
 use Rattle.preorder.specs.Laying.{laid}

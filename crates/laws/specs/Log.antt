@@ -15,7 +15,8 @@ use Rattle.model.specs.Words.{Words, word, value, within, below, equal, rowLimi
 use Rattle.model.specs.Lists.{span, all, any}
 use Rattle.model.specs.Answer.{Outcome, passed, ask, _>>=_, inTurn}
 use Rattle.model.specs.Table.{predicates, arity, complete}
-use Rattle.model.specs.Log.{rowCount, rowAt, rows, front, arguments, saysTrue, goodRow, sameAtom, askLog, Value, known, unknown, holds, valueIn}
+use Rattle.model.specs.Log.{rowCount, rowAt, rows, front, arguments, saysTrue, goodRow, sameAtom, askLog, Value, known, unknown, holds}
+use Rattle.model.specs.Log.{valueIn}
 use Rattle.model.specs.Truth.{Extends}
 use Rattle.model.specs.declared.Refusal.the-variants.{LogLength, Row, Repeat}
 use Rattle.laws.specs.Words.Tests.{decide, clash, and-left, and-right, and-true, equal-true, equal-refl, equalAll-true, equalAll-refl}

@@ -11,8 +11,8 @@ use Rattle.model.specs.Tree.{Tree, Trees, join, nil, cons}
 use Rattle.model.specs.Listing.{Environment, list, listAny, entries, entriesAny}
 use Rattle.listing.specs.declared.restriction.Room.{Room}
 use Rattle.listing.specs.declared.restriction.Made.the-variants as M
-use Rattle.listing.specs.Listed.{Listed, listed-none, listed-kept}
-use Rattle.listing.specs.Lists.{Moved, listed-append, outside-front}
+use Rattle.environments.specs.Listed.{Listed, listed-none, listed-kept}
+use Rattle.environments.specs.Lists.{Moved, listed-append, outside-front}
 use Rattle.listing.specs.Restrictions.{Roomy, Holding, Stood, MakesTree, behind, joined}
 use Rattle.listing.proofs.AllLaws.{fewer}
 

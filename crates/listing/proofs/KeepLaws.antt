@@ -1,43 +1,38 @@
 -- What a leaf of a restriction keeps, by its tag: from what the code reads of its words to what its tree says.
 use Prim.Native.Nat.{ℕ, _+_, _-_, _^_, _≤_, _<_}
-use mathlib.Core.Path.{_≡_, sym, ap, ap₂, _∙_, subst}
+use mathlib.Core.Path.{_≡_, sym, ap, _∙_, subst}
 use mathlib.Core.Bool.{Bool, true, false}
-use mathlib.Core.List.{List, [], _∷_, _++_}
-use lib.ListN.{length, replicate, length-map}
-use lib.IntN.{ℤ, pos}
+use mathlib.Core.List.{[], _∷_}
+use lib.ListN.{length}
+use lib.IntN.{ℤ}
 use types.Run.{OneOf, miss}
 use denote.Enum.Declared as D
-use Rattle.model.specs.Words.{Words, word, value, same, predicateLimit}
+use Rattle.model.specs.Words.{Words, word, same, predicateLimit}
 use Rattle.model.specs.Lists.{all}
-use Rattle.model.specs.Table.{predicates, arity}
-use Rattle.model.specs.Log.{rows, valueIn}
+use Rattle.model.specs.Table.{predicates}
+use Rattle.model.specs.Log.{rows}
 use Rattle.model.specs.Tag as T
 use Rattle.model.specs.Tree.{Term, Tree, atom}
 use Rattle.model.specs.Level.{restriction}
 use Rattle.model.specs.Reading.{places, termAt, inScope}
 use Rattle.model.specs.Truth.{sumAtMost}
-use Rattle.model.specs.Listing.{Environment, look, numberIn, numbersIn, isFalse}
-use Rattle.laws.specs.Reading.Formed.{Formed}
+use Rattle.model.specs.Listing.{Environment, look, numberIn, isFalse}
 use Rattle.laws.specs.Reading.Nodes.{Node}
-use Rattle.laws.specs.Reading.Parts.{atom-parts, compare-parts}
+use Rattle.laws.specs.Reading.Parts.{compare-parts}
 use Rattle.logs.specs.Search.{asValue}
 use Rattle.logs.specs.declared.value.Value.{Value}
 use Rattle.policies.specs.declared.node.Tag.{Tag}
 use Rattle.policies.specs.declared.node.Tag.the-variants.{Plain, Atom, Compare, Join, Quantifier, Some, Unused}
 use Rattle.policies.specs.Node.{asTag}
-use Rattle.policies.specs.Mode.{HereAtom, termsAt}
+use Rattle.policies.specs.Mode.{HereAtom}
 use Rattle.policies.proofs.node.Tag.{the-type}
-use Rattle.policies.proofs.ModeAtoms.{atom-words}
 use Rattle.policies.proofs.ModeWalk.{has, here-atom, here-compare}
-use Rattle.listing.specs.declared.environment.Environment.{Environment as Held}
-use Rattle.listing.specs.Environment.{Holds}
-use Rattle.listing.specs.Keeping.{keepsOf, RestrictionAt, TellsFalse, TellsKept}
-use Rattle.listing.proofs.TermLaws.{sum-same}
-
--- as many numbers as terms
-numbers-count : (e : Environment) (ts : List Term) → length (numbersIn e ts) ≡ length ts
-unfolding numbersIn
-numbers-count e ts = length-map ts (λ t. numberIn (look e t))
+use Rattle.environments.specs.declared.environment.Environment.{Environment as Held}
+use Rattle.environments.specs.Environment.{Holds}
+use Rattle.environments.specs.Lookup.{Values}
+use Rattle.environments.specs.Standing.{RestrictionAt}
+use Rattle.listing.specs.Keeping.{keepsOf, TellsFalse, TellsKept}
+use Rattle.environments.proofs.TermLaws.{sum-same}
 
 -- what the walk of an atom asks, and that of a comparison
 module _
@@ -54,26 +49,10 @@ pub answer : (found v : Value) → found ≡ v → isFalse (asValue found) ≡ i
 answer found v is = ap (λ (w : Value). isFalse (asValue w)) is
 
 module _ (table words log : Words) (held : Held) (at : ℕ) where
-  -- the atom at an index, of the predicate and the number of terms that are read there, and its value
-  pub false-value :
-      (p n : ℕ) (arguments : List ℤ) (found : Value) →
-      p ≡ value words (at + 1) →
-      n ≡ value words (at + 2) →
-      ((e : Environment) (table : Words) → Holds held e → arguments ≡ numbersIn e (termsAt table words (at + 3) n) ++ replicate (6 - n) (pos 0)) →
-      ((ns : List ℤ) → length ns ≡ arity table p → arguments ≡ ns ++ replicate (6 - length ns) (pos 0) → asValue found ≡ valueIn table (rows log) p ns) →
-      (r : Bool) →
-      isFalse (asValue found) ≡ r →
-      TellsFalse table words log held at r
-  unfolding Formed
-  false-value p n arguments found is-p is-n told known r answer e above scope b q ts next holds node =
-      let a = atom-words table words scope at next q ts (atom-parts table words restriction above scope at next b q ts node) in
-      let ns = numbersIn e ts in
-      let same-p : p ≡ q = is-p ∙ a .predicate in
-      let few : n ≡ length ns = is-n ∙ a .number ∙ sym (numbers-count e ts) in
-      let all : length ns ≡ arity table p = numbers-count e ts ∙ sym (node .formed .1) ∙ ap (arity table) (sym same-p) in
-      let terms : termsAt table words (at + 3) n ≡ ts = ap (termsAt table words (at + 3)) is-n ∙ a .terms in
-      let numbers = told e table holds ∙ ap₂ (λ (us : List Term) (k : ℕ). numbersIn e us ++ replicate (6 - k) (pos 0)) terms few in
-      sym answer ∙ ap isFalse (known ns all numbers ∙ ap (λ (k : ℕ). valueIn table (rows log) k ns) same-p)
+  -- whether the atom at an index is known to be false, from its value
+  pub false-value : (found : Value) → Values table words log held at found → (r : Bool) → isFalse (asValue found) ≡ r → TellsFalse table words log held at r
+  false-value found values r answer e above scope b p ts next holds node =
+      sym answer ∙ ap isFalse (values e holds restriction above scope b p ts next node)
 
   module _ (tag : Tag) (told : asTag tag ≡ T.tagOf (word words at)) where
     -- true or false

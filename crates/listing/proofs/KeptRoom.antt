@@ -13,10 +13,10 @@ use Rattle.model.specs.Tree.{Tree}
 use Rattle.model.specs.Listing.{Environment, list, entries}
 use Rattle.listing.specs.declared.restriction.Room.{Room}
 use Rattle.listing.specs.declared.restriction.Made.the-variants as M
-use Rattle.listing.specs.Environment.{placeOf, placeAt, put}
-use Rattle.listing.specs.Places.{place-length}
-use Rattle.listing.specs.Listed.{Listed, environmentOf, listed-none, listed-more}
-use Rattle.listing.specs.Lists.{outside-put, stands-put, outside-front}
+use Rattle.environments.specs.Environment.{placeOf, placeAt, put}
+use Rattle.environments.specs.Places.{place-length}
+use Rattle.environments.specs.Listed.{Listed, environmentOf, listed-none, listed-more}
+use Rattle.environments.specs.Lists.{outside-put, stands-put, outside-front}
 use Rattle.listing.specs.Keeping.{Leaf, keepsOf, list-leaf, entries-leaf}
 use Rattle.listing.specs.Restrictions.{Roomy, Holding, MakesTree, filled}
 use Rattle.listing.proofs.MapLaws.{Mapping, map-step, map-short}

@@ -1,13 +1,4 @@
 -- Laws that several proofs of this crate cite.
-pub mod Filling
-pub mod Sums
-pub mod TermLaws
-pub mod FitLaws
-pub mod InstanceLaws
-pub mod KeyLaws
-pub mod SeenLaws
-pub mod WayLaws
-pub mod RowLaws
 pub mod MapLaws
 pub mod MapRoom
 pub mod AllLaws
@@ -15,6 +6,6 @@ pub mod AnyLaws
 pub mod SomeLaws
 pub mod KeepLaws
 pub mod LeafLaws
+pub mod AtomLaws
 pub mod KeptRoom
 pub mod WalkLaws
-pub mod ClosedLaws

@@ -11,10 +11,11 @@ use Rattle.model.specs.Listing.{Environment}
 use Rattle.listing.specs.declared.restriction.Room.{Room}
 use Rattle.listing.specs.declared.restriction.Made.{Made}
 use Rattle.listing.specs.declared.restriction.Made.the-variants as M
-use Rattle.listing.specs.declared.restriction.Added.{Added}
-use Rattle.listing.specs.declared.restriction.Added.the-variants as A
-use Rattle.listing.specs.Listed.{environmentOf}
-use Rattle.listing.specs.Restrictions.{Roomy, Holding, Stood, Makes, Came, Filled, Adds, filled}
+use Rattle.environments.specs.declared.rows.Added.{Added}
+use Rattle.environments.specs.declared.rows.Added.the-variants as A
+use Rattle.environments.specs.Listed.{environmentOf}
+use Rattle.environments.specs.Rows.{Came, Filled, Adds}
+use Rattle.listing.specs.Restrictions.{Roomy, Holding, Stood, Makes, filled}
 use Rattle.listing.proofs.MapLaws.{Mapping, map-short, map-end}
 
 -- what an answer says, once it is known which

@@ -10,7 +10,7 @@ use Rattle.model.specs.Tree.{Tree, some}
 use Rattle.model.specs.Listing.{Environment, release, list, entries}
 use Rattle.listing.specs.declared.restriction.Room.{Room}
 use Rattle.listing.specs.declared.restriction.Made.the-variants as M
-use Rattle.listing.specs.Lists.{Released, outside-front}
+use Rattle.environments.specs.Lists.{Released, outside-front}
 use Rattle.listing.specs.Restrictions.{Roomy, Holding, Stood, MakesTree, counted}
 
 module _ (table log : Words) (scope : ℕ) (c : Tree) (es : List Environment) (room : Room) (before after : Words) (next : ℕ) where

@@ -23,9 +23,10 @@ use Rattle.policies.proofs.ModeLoops.{first-left, none-left}
 use Rattle.listing.specs.declared.restriction.Room.{Room}
 use Rattle.listing.specs.declared.restriction.Made.{Made}
 use Rattle.listing.specs.declared.restriction.Made.the-variants as M
-use Rattle.listing.specs.Lists.{Moved}
+use Rattle.environments.specs.Lists.{Moved}
 use Rattle.listing.specs.Keeping.{LeafTag, leaf-here}
-use Rattle.listing.specs.Restrictions.{Roomy, Holding, Makes, MakesAtom, MakesTree, MakesNode, MakesJoin, MakesSome, MakesKept, matched, counted, behind, joined}
+use Rattle.listing.specs.Restrictions.{Roomy, Holding, Makes, MakesAtom, MakesTree, MakesNode, MakesJoin, MakesSome, MakesKept}
+use Rattle.listing.specs.Restrictions.{matched, counted, behind, joined}
 use Rattle.listing.proofs.MapRoom.{makes-same}
 use Rattle.listing.proofs.AllLaws.{AllFar, all-start, all-roomy, all-step, all-short, all-full, all-end}
 use Rattle.listing.proofs.AnyLaws.{AnyFar, any-start, any-roomy, any-holds, any-movable, any-step, any-short, any-full, any-end}

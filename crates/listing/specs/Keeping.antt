@@ -1,11 +1,11 @@
 -- Which environments a leaf of a restriction keeps, and that its list has these: the leaves are true and false, an atom that
 -- is to be false, and a comparison. By the cases of the tree.
-use Prim.Native.Nat.{ℕ, _≤_}
+use Prim.Native.Nat.{ℕ}
 use mathlib.Core.Path.{_≡_, refl, ap, _∙_}
 use mathlib.Core.Bool.{Bool, true, false, cond, false≢true}
 use mathlib.Core.List.{List, [], _∷_}
 use lib.ListN.{length}
-use Rattle.model.specs.Words.{Words, word, same, scopeLimit}
+use Rattle.model.specs.Words.{Words, word, same}
 use Rattle.model.specs.Lists.{keep}
 use Rattle.model.specs.Tag.{Tag, tagOf}
 use Rattle.model.specs.Tree.{Term, Tree, plain, atom, compare, join, quantifier, some}
@@ -17,9 +17,8 @@ use Rattle.model.specs.Listing.{Environment, look, numberIn, numbersIn, isFalse
 use Rattle.laws.specs.Reading.Formed.{Formed}
 use Rattle.laws.specs.Reading.Nodes.{Node}
 use Rattle.laws.specs.Reading.Parts.{root, root-tag}
-use Rattle.policies.specs.Mode.{Here}
-use Rattle.listing.specs.declared.environment.Environment.{Environment as Held}
-use Rattle.listing.specs.Environment.{Holds}
+use Rattle.environments.specs.declared.environment.Environment.{Environment as Held}
+use Rattle.environments.specs.Environment.{Holds}
 
 module _ (table : Words) (rows : List Words) where
   -- a leaf keeps an environment
@@ -30,10 +29,6 @@ module _ (table : Words) (rows : List Words) where
   keepsOf (join b ts) e = false
   keepsOf (quantifier b v excluded c f) e = false
   keepsOf (some c) e = false
-
--- a restriction stands at an index
-abbrev pub RestrictionAt : Words → Words → ℕ → Type 0
-RestrictionAt table words at = (above : ℕ) × (scope : ℕ) × (scope ≤ scopeLimit) × Here table words restriction above scope at
 
 -- r says whether the atom at an index is known to be false; whether the leaf there keeps the environment
 abbrev pub TellsFalse : Words → Words → Words → Held → ℕ → Bool → Type 0

@@ -1,11 +1,2 @@
-pub mod Environment
-pub mod Places
-pub mod Listed
-pub mod Lists
-pub mod Instances
-pub mod Keyed
-pub mod Matching
 pub mod Keeping
-pub mod Closing
-pub mod Ways
 pub mod Restrictions

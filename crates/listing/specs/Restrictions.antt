@@ -19,9 +19,7 @@ use Rattle.logs.specs.Key.{rowKey, atomKeys, TrueRows}
 use Rattle.listing.specs.declared.restriction.Room.{Room}
 use Rattle.listing.specs.declared.restriction.Made.{Made}
 use Rattle.listing.specs.declared.restriction.Made.the-variants.{Short, List as Stands}
-use Rattle.listing.specs.declared.restriction.Added.{Added}
-use Rattle.listing.specs.declared.restriction.Added.the-variants as A
-use Rattle.listing.specs.Listed.{Listed}
+use Rattle.environments.specs.Listed.{Listed}
 use Rattle.listing.specs.Keeping.{Leaf}
 
 -- an accepted log, its rows chained by their atoms
@@ -62,21 +60,6 @@ pub record Stood (made : List Environment) (cost next : ℕ) (room : Room) (afte
 abbrev pub Tells : List Environment → ℕ → ℕ → Room → Words → Made → Type 0
 Tells made cost next room after Short = room .limit < room .used + cost
 Tells made cost next room after (Stands to x) = Stood made cost next room after to x
-
--- places from `base` on are filled with environments, or they are more than there are places left; the words before are kept
-pub record Filled (made : List Environment) (base left : ℕ) (before after : Words) (n : ℕ) : Type 0 where
-  pub count : n ≡ length made
-  pub few : n ≤ left
-  pub listed : Listed after base made
-
-abbrev pub Came : List Environment → ℕ → ℕ → Words → Words → Added → Type 0
-Came made base left before after A.Short = left < length made
-Came made base left before after (A.Places n) = Filled made base left before after n
-
-pub record Adds (made : List Environment) (base left : ℕ) (before after : Words) (r : Added) : Type 0 where
-  pub came : Came made base left before after r
-  pub long : length after ≡ length before
-  pub front : take (17 * base) after ≡ take (17 * base) before
 
 -- the room after a list of so many entries was made in its first free places
 abbrev pub filled : Room → ℕ → Room

@@ -1,10 +1,9 @@
 // Which environments a leaf of a restriction keeps.
-use crate::environment::Environment;
-use crate::terms;
-use logs::value;
+use environments::environment::Environment;
+use environments::lookup;
+use environments::terms;
 use logs::value::Value;
 use policies::node::Tag;
-use tables::words;
 ghost use mathlib.Core.Path.{_≡_};
 ghost use Prim.Native.Nat.{_≤_};
 ghost use Rattle.model.specs.Words.{word, predicateLimit};
@@ -16,7 +15,8 @@ ghost use Rattle.logs.specs.Chain.{Chained};
 ghost use Rattle.logs.specs.Key.{rowKey, atomKeys};
 ghost use Rattle.policies.specs.Node.{asTag};
 ghost use Rattle.policies.specs.Mode.{HereAtom};
-ghost use Rattle.listing.specs.Keeping.{RestrictionAt, TellsFalse, TellsKept};
+ghost use Rattle.environments.specs.Standing.{RestrictionAt};
+ghost use Rattle.listing.specs.Keeping.{TellsFalse, TellsKept};
 
 // Whether the ground atom at an index is known to be false.
 fn is_false(
@@ -34,12 +34,7 @@ fn is_false(
         ⌝ }
     ensures { λ r. ⌜ TellsFalse (now (table .entry)) (now (words .entry)) (now (log .entry)) environment at r ⌝ }
 {
-    let predicate = words::value(words, at + 1);
-    let n = words::value(words, at + 2);
-    let numbers = environment.numbers;
-    let mut arguments = [0; 6];
-    terms::arguments(&numbers, words, at + 3, n, &mut arguments);
-    let found = value::value_of(table, log, atoms, predicate, &arguments);
+    let found = lookup::value_at(table, words, log, atoms, environment, at);
     match found {
         Value::True => false,
         Value::False => true,

@@ -1,30 +1,24 @@
 // The listing of a restriction: each node makes of the list handed to it a list of its own, in the places of scratch.
-use crate::environment::Environment;
 use crate::keeping;
-use crate::lists;
-use crate::matching;
-use logs::key;
+use environments::environment::Environment;
+use environments::lists;
+use environments::rows;
+use environments::rows::Added;
 use policies::node;
 use policies::node::Tag;
 use tables::words;
 ghost use mathlib.Core.Path.{_≡_};
 ghost use mathlib.Core.Bool.{true, false};
 ghost use mathlib.Core.List.{List};
-ghost use Prim.Native.Nat.{ℕ, _+_, _*_, _^_, _≤_, _<_};
-ghost use lib.ListN.{length};
+ghost use Prim.Native.Nat.{_+_, _*_, _≤_, _<_};
 ghost use Rattle.model.specs.Words as W;
-ghost use Rattle.model.specs.Lists.{all};
-ghost use Rattle.model.specs.Log.{rows};
-ghost use Rattle.model.specs.Reading.{places, inScope};
 ghost use Rattle.model.specs.Listing as M;
 ghost use Rattle.logs.specs.Key.{TrueRows, behind};
 ghost use Rattle.model.specs.Tag as T;
 ghost use Rattle.model.specs.Level as L;
-ghost use Rattle.policies.specs.Mode.{termsAt, Here, HereAll};
+ghost use Rattle.policies.specs.Mode.{Here, HereAll};
 ghost use Rattle.policies.specs.Node.{asTag};
-ghost use Rattle.listing.specs.Environment.{Holds};
-ghost use Rattle.listing.specs.Keeping.{RestrictionAt};
-ghost use Rattle.listing.specs.Ways.{Leads};
+ghost use Rattle.environments.specs.Standing.{RestrictionAt};
 ghost use Rattle.listing.specs.Restrictions as R;
 
 // The list handed to a node, the first place behind all lists that are still read, the places counted so far, and how many
@@ -101,172 +95,6 @@ pub enum Made {
     List(Room, usize),
 }
 
-// How many places were filled, or that they ran out.
-pub enum Added {
-    Short,
-    Places(usize),
-}
-
-// A chain of true rows: where its links begin, how many keys they have, and its key.
-pub struct Way {
-    pub from: usize,
-    pub keys: usize,
-    pub key: usize,
-}
-
-// The chain of the true rows of a predicate that can fit an environment: by their first argument too, if its term has a number.
-fn lead(environment: Environment, words: &[i32], first: usize, n: usize, predicate: usize) -> Way
-    requires { ⌜
-        (first + 2 * n < 2 ^ 64)
-        × ((table : W.Words) → all (inScope table (now words) 16) (places first n) ≡ true)
-        × (predicate < 256)
-        × ((e : M.Environment) × Holds environment e)
-        × (1 ≤ n)
-        × (first + 2 * n ≤ length (now words))
-        ⌝ }
-    ensures { λ r. ⌜
-        ((log : W.Words) (links : List ℕ) →
-        TrueRows log links →
-        Leads (now (words .entry)) log (behind (r .from) links) (r .keys) (r .key) predicate first n environment
-        × (r .from ≤ length links))
-        ⌝ }
-{
-    if words::is(words, first, 0) {
-        return Way {
-            from: key::PREDICATE_LINKS,
-            keys: key::FIRST_KEYS,
-            key: key::of_first(predicate, words, first + 1),
-        };
-    }
-    let x = words::value(words, first + 1);
-    if !environment.marks[x] {
-        return Way {
-            from: 0,
-            keys: key::PREDICATE_KEYS,
-            key: predicate,
-        };
-    }
-    let numbers = environment.numbers;
-    Way {
-        from: key::PREDICATE_LINKS,
-        keys: key::FIRST_KEYS,
-        key: key::of_first(predicate, &numbers, x),
-    }
-}
-
-// The environments that the rows of a chain make of one environment, in row order, from a place on: at most so many. The rows
-// of other predicates are passed over.
-fn walk_rows(
-    environment: Environment,
-    words: &[i32],
-    first: usize,
-    n: usize,
-    log: &[i32],
-    links: &[u16],
-    keys: usize,
-    key: usize,
-    predicate: usize,
-    scratch: &mut [i32],
-    base: usize,
-    left: usize,
-) -> Added
-    requires { ⌜
-        (n ≤ 6)
-        × (first + 2 * n < 2 ^ 64)
-        × ((table : W.Words) → all (inScope table (now words) 16) (places first n) ≡ true)
-        × Leads (now words) (now log) (now links) keys key predicate first n environment
-        × (17 * (base + left) ≤ length (now scratch))
-        × ((e : M.Environment) × Holds environment e)
-        ⌝ }
-    ensures { λ r. ⌜
-        ((e : M.Environment) (table : W.Words) →
-        Holds environment e →
-        R.Adds
-        (M.matches (rows (now (log .entry))) predicate (termsAt table (now (words .entry)) first n) e)
-        base
-        left
-        (now (scratch .entry))
-        (now (scratch .exit))
-        r)
-        ⌝ }
-{
-    let rows = log.len() / 8;
-    let mut made = 0;
-    let mut link = links[key] as usize;
-    while link != 0 {
-        let row = rows - link;
-        link = links[keys + row] as usize;
-        if !words::is(log, 8 * row, predicate) {
-            continue;
-        }
-        let matched = matching::fit_row(environment, words, first, n, log, row);
-        let fits = matched.fits;
-        if fits {
-            if left <= made {
-                return Added::Short;
-            }
-            let next = matched.environment;
-            next.write(scratch, base + made);
-            made += 1;
-        }
-    }
-    Added::Places(made)
-}
-
-// The environments that the true rows of a predicate make of one environment, in row order, from a place on: at most so many.
-fn match_rows(
-    environment: Environment,
-    words: &[i32],
-    first: usize,
-    n: usize,
-    log: &[i32],
-    trues: &[u16],
-    predicate: usize,
-    scratch: &mut [i32],
-    base: usize,
-    left: usize,
-) -> Added
-    requires { ⌜
-        (n ≤ 6)
-        × (first + 2 * n < 2 ^ 64)
-        × ((table : W.Words) → all (inScope table (now words) 16) (places first n) ≡ true)
-        × TrueRows (now log) (now trues)
-        × (predicate < 256)
-        × (17 * (base + left) ≤ length (now scratch))
-        × ((e : M.Environment) × Holds environment e)
-        × (1 ≤ n)
-        × (first + 2 * n ≤ length (now words))
-        ⌝ }
-    ensures { λ r. ⌜
-        ((e : M.Environment) (table : W.Words) →
-        Holds environment e →
-        R.Adds
-        (M.matches (rows (now (log .entry))) predicate (termsAt table (now (words .entry)) first n) e)
-        base
-        left
-        (now (scratch .entry))
-        (now (scratch .exit))
-        r)
-        ⌝ }
-{
-    let way = lead(environment, words, first, n, predicate);
-    let from = way.from;
-    walk_rows(
-        environment,
-        words,
-        first,
-        n,
-        log,
-        &trues[from..],
-        way.keys,
-        way.key,
-        predicate,
-        scratch,
-        base,
-        left,
-    )
-}
-
 // An atom of tag 2 makes of each environment in turn those that the true rows of its predicate make.
 fn list_atom(
     words: &[i32],
@@ -297,7 +125,7 @@ fn list_atom(
     let mut i = 0;
     while i < room.count {
         let environment = Environment::read(scratch, room.from + i);
-        let added = match_rows(
+        let added = rows::match_rows(
             environment,
             words,
             at + 3,

@@ -74,12 +74,14 @@ askResidual table log tree scratch buffer = do
   write buffer (reduce table (rows log) tree [])
 
 -- reduce: 1 to 12; the length of the residual
+unfoldable pub askReduction : Words → Words → Words → ℕ → ℕ → Outcome Words
+askReduction table policy log scratch buffer = do
+  tree ← askPolicy table policy
+  _ ← askLog table log
+  askResidual table log tree scratch buffer
+
 unfoldable pub reduceCall : Words → Words → Words → ℕ → ℕ → Result
-reduceCall table policy log scratch buffer =
-    result scratch buffer do
-      tree ← askPolicy table policy
-      _ ← askLog table log
-      askResidual table log tree scratch buffer
+reduceCall table policy log scratch buffer = result scratch buffer (askReduction table policy log scratch buffer)
 
 -- dual: 1 to 7 and 12; the length of the dual
 unfoldable pub dualCall : Words → Words → ℕ → Result

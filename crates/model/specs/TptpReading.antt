@@ -6,7 +6,8 @@ use mathlib.Core.List.{List, [], _∷_}
 use lib.ListN.{length, drop}
 use lib.Dec.{leb, eqb}
 use lib.IntN.{ℤ, pos, negℤ}
-use Rattle.model.specs.Bytes.{Text, bytes, blank, digit, small, wordByte, nought, minus, comma, ampersand, bar, tilde, dollar, exclamation, interrogation, parenthesis}
+use Rattle.model.specs.Bytes.{Text, bytes, blank, digit, small, wordByte, nought, minus, comma, ampersand, bar, tilde, dollar}
+use Rattle.model.specs.Bytes.{exclamation, interrogation, parenthesis}
 use Rattle.model.specs.Bytes.{letterP, letterX, letterT, letterF}
 use Rattle.model.specs.Answer.{Outcome, passed, refused}
 use Rattle.model.specs.Tree.{Term, constant, variable, Tree, Trees, plain, atom, compare, join, quantifier, some, nil, cons}

@@ -24,7 +24,8 @@ use Rattle.laws.specs.Reading.Back.{encode-nonempty}
 use Rattle.laws.specs.Reading.Items.{two-places}
 use Rattle.laws.specs.Words.Standing.{below-value, below-pos}
 use Rattle.laws.specs.Reading.Nodes.{Node, Nodes}
-use Rattle.laws.specs.Reading.Parts.{root, root-tag, AtomParts, CompareParts, atom-parts, compare-parts, join-parts, some-parts, plain-parts}
+use Rattle.laws.specs.Reading.Parts.{root, root-tag, AtomParts, CompareParts, atom-parts, compare-parts, join-parts, some-parts}
+use Rattle.laws.specs.Reading.Parts.{plain-parts}
 use Rattle.tables.specs.declared.Checked.the-variants.{Passed}
 use Rattle.policies.specs.declared.mode.Bound.{Bound}
 use Rattle.policies.specs.Mode.{setOf, Here, HereAll, HereAtom, Binds, BindsAll, BindsAny}

@@ -8,7 +8,8 @@ use lib.IntN.{ℤ, pos}
 use Rattle.model.specs.Words.{Words, value}
 use Rattle.model.specs.Lists.{gather}
 use Rattle.model.specs.Tag.{Tag}
-use Rattle.model.specs.Tree.{Term, Tree, Trees, plain, atom, compare, join, quantifier, some, nil, cons, count, encodeTerm, encode, encodeAll}
+use Rattle.model.specs.Tree.{Term, Tree, Trees, plain, atom, compare, join, quantifier, some, nil, cons, count, encodeTerm, encode}
+use Rattle.model.specs.Tree.{encodeAll}
 use Rattle.model.specs.Putting.{putTerm, put, putAll}
 use Rattle.laws.specs.Words.Standing.{Stands, three-stand, code}
 use Rattle.laws.specs.Reading.Parts.{root}

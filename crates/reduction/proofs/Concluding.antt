@@ -14,9 +14,9 @@ use Rattle.model.specs.Joining.{append, joined}
 use Rattle.model.specs.Reduction as M
 use Rattle.laws.specs.Reading.Nodes.{Node}
 use Rattle.laws.specs.Reading.Parts.{quantifier-parts}
-use Rattle.listing.specs.declared.environment.Environment.{Environment}
-use Rattle.listing.specs.Keeping.{RestrictionAt}
-use Rattle.listing.specs.Closing.{TellsClosed}
+use Rattle.environments.specs.declared.environment.Environment.{Environment}
+use Rattle.environments.specs.Standing.{RestrictionAt}
+use Rattle.instances.specs.Closing.{TellsClosed}
 use Rattle.joining.specs.declared.answer.Reduced.{Reduced}
 use Rattle.joining.specs.declared.join.Join.{Join}
 use Rattle.joining.specs.Answer.{Answers}

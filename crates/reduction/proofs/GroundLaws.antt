@@ -4,16 +4,16 @@ use Prim.Native.Nat.{ℕ, _+_, _*_, _-_, _^_, _≤_, _<_}
 use native.Mathlib.Omega.{arith}
 use native.Mathlib.Numerals.{add-one}
 use native.Mathlib.Nat.{add-zero}
-use mathlib.Core.Path.{_≡_, refl, sym, ap, ap₂, _∙_, fun-ext, subst}
+use mathlib.Core.Path.{_≡_, refl, sym, ap, _∙_, fun-ext, subst}
 use mathlib.Core.Logic.{⊎-elim}
 use mathlib.Core.Bool.{Bool, true, false, not}
 use mathlib.Core.List.{List, [], _∷_, _++_, map, append-assoc, append-nil}
-use lib.ListN.{length, getD, take, drop, replicate, length-map, length-append, length-drop, List·getD-append, List·getD-eq-default}
+use lib.ListN.{length, getD, take, drop, length-append, length-drop, List·getD-append, List·getD-eq-default}
 use lib.Seq.{ext-getD, getD-take, getD-drop, getD-at, take-suc, take-at, length-take-le}
 use lib.IntN.{ℤ, pos, natAbs}
 use Rattle.model.specs.Words.{Words, word, value, same, predicateLimit}
 use Rattle.model.specs.Lists.{all}
-use Rattle.model.specs.Table.{predicates, arity}
+use Rattle.model.specs.Table.{predicates}
 use Rattle.model.specs.Log.{Value, known, rows, valueIn}
 use Rattle.model.specs.Tree.{Term, constant, variable, Tree, plain, atom, compare, encode}
 use Rattle.model.specs.Level.{Role, restriction, greatest}
@@ -29,25 +29,25 @@ use Rattle.laws.specs.Putting.Modes.{terms-length, put-length}
 use Rattle.laws.specs.Putting.Parts.{put-nil}
 use Rattle.laws.specs.Reading.Formed.{Formed}
 use Rattle.laws.specs.Reading.Nodes.{Node}
-use Rattle.laws.specs.Reading.Parts.{root, root-tag, atom-parts, compare-parts}
+use Rattle.laws.specs.Reading.Parts.{root, root-tag, compare-parts}
 use Rattle.laws.specs.Words.Standing.{stands-taken, three-stand}
 use Rattle.logs.specs.declared.value.Value.{Value as Found}
 use Rattle.logs.specs.declared.value.Value.the-variants.{True, False, Open}
 use Rattle.logs.specs.Search.{asValue}
-use Rattle.policies.specs.Mode.{HereAtom, termsAt}
-use Rattle.policies.proofs.ModeAtoms.{atom-words}
+use Rattle.policies.specs.Mode.{HereAtom}
 use Rattle.policies.proofs.ModeWalk.{here-atom, here-compare}
 use Rattle.preorder.specs.Grown.{Grown, Room-at}
 use Rattle.preorder.specs.Laying.{laid}
 use Rattle.preorder.specs.Forming.{node-grown}
-use Rattle.listing.specs.declared.environment.Environment.{Environment as Held}
-use Rattle.listing.specs.Environment.{numbersOf, Holds}
-use Rattle.listing.specs.Places.{numbers-length, number-at}
-use Rattle.listing.proofs.TermLaws.{sum-same}
+use Rattle.environments.specs.declared.environment.Environment.{Environment as Held}
+use Rattle.environments.specs.Environment.{numbersOf, Holds}
+use Rattle.environments.specs.Lookup.{Values}
+use Rattle.environments.specs.Places.{numbers-length, number-at}
+use Rattle.environments.proofs.TermLaws.{sum-same}
 use Rattle.joining.specs.declared.answer.Reduced.{Reduced}
 use Rattle.joining.specs.declared.answer.Reduced.the-variants.{Plain, Long, Part}
 use Rattle.joining.specs.Answer.{Answers}
-use Rattle.reduction.specs.Ground.{Outer, AtomAt, GrownAtom, CompareAt, Values, Stays, ReducesAtom, ReducesCompare}
+use Rattle.reduction.specs.Ground.{Outer, AtomAt, GrownAtom, CompareAt, Stays, ReducesAtom, ReducesCompare}
 use Rattle.joining.proofs.Parts.{Solid}
 use Rattle.joining.proofs.Answering.{answers-plain, answers-long, answers-part}
 
@@ -200,29 +200,6 @@ compare-asks words b at long (table, role, above, scope, small, d, x, y, next, n
     (sym (root-tag [] words restriction above scope at next (compare b d x y) node′))
     (compare b d x y, next, node′) long
 
--- the value of an atom, of the predicate and the number of terms that are read there
-pub atom-value :
-    (table words log : Words) (held : Held) (at p n : ℕ) (arguments : List ℤ) (found : Found) →
-    p ≡ value words (at + 1) →
-    n ≡ value words (at + 2) →
-    ((e : Environment) (table : Words) → Holds held e → arguments ≡ numbersIn e (termsAt table words (at + 3) n) ++ replicate (6 - n) (pos 0)) →
-    ((ns : List ℤ) → length ns ≡ arity table p → arguments ≡ ns ++ replicate (6 - length ns) (pos 0) → asValue found ≡ valueIn table (rows log) p ns) →
-    Values table words log held at found
-unfolding Formed
-atom-value table words log held at p n arguments found is-p is-n read look-up ρ scope o role above b q ts next node =
-    let a = atom-words table words scope at next q ts (atom-parts table words role above scope at next b q ts node) in
-    let ns = map (numberOf ρ) ts in
-    let many : length ns ≡ length ts = length-map ts (numberOf ρ) in
-    let same-p : p ≡ q = is-p ∙ a .predicate in
-    let few : n ≡ length ns = is-n ∙ a .number ∙ sym many in
-    let all : length ns ≡ arity table p = many ∙ sym (node .formed .1) ∙ ap (arity table) (sym same-p) in
-    let terms : termsAt table words (at + 3) n ≡ ts = ap (termsAt table words (at + 3)) is-n ∙ a .terms in
-    let numbers : arguments ≡ ns ++ replicate (6 - length ns) (pos 0)
-    = read (outer ρ) table (o .0)
-    ∙ ap₂ (λ (us : List Term) (k : ℕ). numbersIn (outer ρ) us ++ replicate (6 - k) (pos 0)) terms few
-    ∙ ap (λ (l : List ℤ). l ++ replicate (6 - length ns) (pos 0)) (terms-numbers ρ ts) in
-    look-up ns all numbers ∙ ap (λ (k : ℕ). valueIn table (rows log) k ns) same-p
-
 -- an atom that stays, n being the number of terms that is read there
 module _ (words : Words) (at n : ℕ) (is : n ≡ value words (at + 2)) where
   atom-size :
@@ -299,11 +276,20 @@ module _ (words : Words) (at n : ℕ) (is : n ≡ value words (at + 2)) where
 module _
     (table words log : Words) (held : Held) (scope : ℕ) (b : Bool) (at : ℕ) (found : Found)
     (values : Values table words log held at found) where
+  outer-value :
+      (ρ : List ℤ) →
+      Outer held scope ρ →
+      (role : Role) (above p : ℕ) (ts : List Term) (next : ℕ) →
+      Node table words role above scope at (atom b p ts) next →
+      asValue found ≡ valueIn table (rows log) p (map (numberOf ρ) ts)
+  outer-value ρ o role above p ts next node =
+      values (outer ρ) (o .0) role above scope b p ts next node ∙ ap (valueIn table (rows log) p) (terms-numbers ρ ts)
+
   reduces-known :
       (v r : Bool) → asValue found ≡ known v → same v b ≡ r → (out : Words) → ReducesAtom table words log held scope b at out out (Plain r)
   unfolding reduce settle
   reduces-known v r is e out ρ o role above p ts next node places =
-      let told = values ρ scope o role above b p ts next node in
+      let told = outer-value ρ o role above p ts next node in
       let tree : reduce table (rows log) (atom b p ts) ρ ≡ plain r
       = ap (λ (x : Value). settle x b (put (atom b p ts) ρ)) (sym told ∙ is) ∙ ap plain e in
       subst (λ (t : Tree). Answers places 0 t out out (Plain r)) (sym tree) (answers-plain r out places)
@@ -321,7 +307,7 @@ module _
       ReducesAtom table words log held scope b at before after r
   unfolding reduce settle
   reduces-open is before after r stays ρ o role above p ts next node places =
-      let told = values ρ scope o role above b p ts next node in
+      let told = outer-value ρ o role above p ts next node in
       let tree : reduce table (rows log) (atom b p ts) ρ ≡ put (atom b p ts) ρ
       = ap (λ (x : Value). settle x b (put (atom b p ts) ρ)) (sym told ∙ ap asValue is) in
       subst (λ (t : Tree). Answers places 0 t before after r) (sym tree)

@@ -23,12 +23,14 @@ use Rattle.laws.specs.Reading.Parts.{QuantifierParts, quantifier-parts}
 use Rattle.laws.specs.Words.Standing.{stands-left, stands-taken, three-stand}
 use Rattle.preorder.specs.Grown.{Grown, Room-at}
 use Rattle.preorder.specs.Forming.{node-grown}
-use Rattle.preorder.specs.Laying.{laid, laid-long, laid-laid, laid-word, laid-front, Filled, fill-start, fill-more, fill-end, fill-room, fill-long}
-use Rattle.listing.specs.Instances.{Instanced, instance-count, instance-tuple}
-use Rattle.listing.specs.Lists.{gather-append}
-use Rattle.listing.specs.declared.environment.Environment.{Environment as Held}
+use Rattle.preorder.specs.Laying.{laid, laid-long, laid-laid, laid-word, laid-front, Filled, fill-start, fill-more, fill-end, fill-room}
+use Rattle.preorder.specs.Laying.{fill-long}
+use Rattle.instances.specs.Instances.{Instanced, instance-count, instance-tuple}
+use Rattle.environments.specs.Lists.{gather-append}
+use Rattle.environments.specs.declared.environment.Environment.{Environment as Held}
 use Rattle.joining.specs.declared.answer.Reduced.the-variants.{Long, Part}
-use Rattle.reduction.specs.Last.{tupleWords, headWords, excludedWords, frontWords, Fronts, CopyRoom, QuantifierAt, HereQuantifier, Found, Remains}
+use Rattle.reduction.specs.Last.{tupleWords, headWords, excludedWords, frontWords, Fronts, CopyRoom, QuantifierAt, HereQuantifier}
+use Rattle.reduction.specs.Last.{Found, Remains}
 use Rattle.joining.proofs.Parts.{Solid}
 use Rattle.joining.proofs.Answering.{answers-long, answers-part}
 use Rattle.reduction.proofs.GroundLaws.{outer-numbers}

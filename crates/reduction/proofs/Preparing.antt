@@ -14,10 +14,10 @@ use Rattle.laws.specs.Reading.Items.{tuples}
 use Rattle.listing.specs.declared.restriction.Room.{Room}
 use Rattle.listing.specs.declared.restriction.Made.{Made}
 use Rattle.listing.specs.declared.restriction.Made.the-variants as M
-use Rattle.listing.specs.Environment.{put}
-use Rattle.listing.specs.Places.{put-here, put-length}
-use Rattle.listing.specs.Listed.{Listed, listed-none, listed-more}
-use Rattle.listing.specs.Instances.{Chosen}
+use Rattle.environments.specs.Environment.{put}
+use Rattle.environments.specs.Places.{put-here, put-length}
+use Rattle.environments.specs.Listed.{Listed, listed-none, listed-more}
+use Rattle.instances.specs.Instances.{Chosen}
 use Rattle.listing.specs.Restrictions as R
 use Rattle.reduction.specs.Last.{Found}
 use Rattle.reduction.specs.Prepare.{Stood, listed}

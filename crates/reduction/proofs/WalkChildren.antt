@@ -16,7 +16,7 @@ use Rattle.model.specs.Reduction.{reduce, reduceAll, need, needAll}
 use Rattle.laws.specs.Reading.Nodes.{Node, Nodes}
 use Rattle.laws.specs.Reading.Parts.{first-parts, rest-parts}
 use Rattle.policies.specs.Mode.{Here, HereAll}
-use Rattle.listing.specs.declared.environment.Environment.{Environment}
+use Rattle.environments.specs.declared.environment.Environment.{Environment}
 use Rattle.joining.specs.declared.answer.Reduced.{Reduced}
 use Rattle.joining.specs.declared.answer.Reduced.the-variants.{Short}
 use Rattle.joining.specs.declared.join.Join.{Join}

@@ -24,7 +24,7 @@ use Rattle.laws.specs.Lists.Span.{drop-take}
 use Rattle.policies.specs.Mode.{Here}
 use Rattle.preorder.specs.Grown.{Grown, Tree-at}
 use Rattle.preorder.specs.Forming.{node-grown}
-use Rattle.listing.specs.declared.environment.Environment.{Environment}
+use Rattle.environments.specs.declared.environment.Environment.{Environment}
 use Rattle.joining.specs.declared.answer.Reduced.{Reduced}
 use Rattle.joining.specs.declared.answer.Reduced.the-variants.{Short}
 use Rattle.joining.specs.declared.join.Join.{Join}

@@ -18,7 +18,7 @@ use Rattle.laws.specs.Reading.Parts.{plain-parts, atom-parts, compare-parts, jo
 use Rattle.policies.specs.Mode.{HereAll}
 use Rattle.policies.proofs.ModeWalk.{has}
 use Rattle.policies.proofs.ModeFormula.{Stood}
-use Rattle.listing.specs.declared.environment.Environment.{Environment}
+use Rattle.environments.specs.declared.environment.Environment.{Environment}
 use Rattle.joining.specs.declared.answer.Reduced.{Reduced}
 use Rattle.joining.specs.declared.answer.Reduced.the-variants.{Plain}
 use Rattle.reduction.specs.declared.walk.Walked.{Walked}

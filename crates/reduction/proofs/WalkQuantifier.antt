@@ -22,7 +22,7 @@ use Rattle.laws.specs.Reading.Formed.{Formed}
 use Rattle.laws.specs.Reading.Nodes.{Node}
 use Rattle.laws.specs.Reading.Items.{tuples}
 use Rattle.laws.specs.Reading.Parts.{QuantifierParts, quantifier-parts}
-use Rattle.listing.specs.declared.environment.Environment.{Environment}
+use Rattle.environments.specs.declared.environment.Environment.{Environment}
 use Rattle.joining.specs.declared.answer.Reduced.{Reduced}
 use Rattle.joining.specs.declared.answer.Reduced.the-variants.{Short}
 use Rattle.reduction.specs.declared.prepare.Prepared.{Prepared}

@@ -12,7 +12,7 @@ use Rattle.model.specs.Putting.{put}
 use Rattle.model.specs.Joining.{append, joined}
 use Rattle.model.specs.Reduction as M
 use Rattle.laws.specs.Reading.Nodes.{Node}
-use Rattle.listing.specs.declared.environment.Environment.{Environment}
+use Rattle.environments.specs.declared.environment.Environment.{Environment}
 use Rattle.joining.specs.declared.answer.Reduced.{Reduced}
 use Rattle.joining.specs.declared.join.Join.{Join}
 use Rattle.joining.specs.Answer.{Answers}

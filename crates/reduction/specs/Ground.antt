@@ -2,23 +2,21 @@
 use Prim.Native.Nat.{ℕ, _≤_}
 use mathlib.Core.Path.{_≡_}
 use mathlib.Core.Bool.{Bool}
-use mathlib.Core.List.{List, map}
+use mathlib.Core.List.{List}
 use lib.ListN.{length}
 use lib.IntN.{ℤ}
 use Rattle.model.specs.Words.{Words, same, scopeLimit}
 use Rattle.model.specs.Tree.{Term, atom, compare}
 use Rattle.model.specs.Level.{Role}
-use Rattle.model.specs.Log.{rows, valueIn}
+use Rattle.model.specs.Log.{rows}
 use Rattle.model.specs.Truth.{numberOf, sumAtMost}
 use Rattle.model.specs.Listing.{outer}
 use Rattle.model.specs.Putting.{put}
 use Rattle.model.specs.Reduction.{reduce}
 use Rattle.laws.specs.Reading.Nodes.{Node}
-use Rattle.logs.specs.declared.value.Value.{Value}
-use Rattle.logs.specs.Search.{asValue}
 use Rattle.preorder.specs.Grown.{Grown}
-use Rattle.listing.specs.declared.environment.Environment.{Environment as Held}
-use Rattle.listing.specs.Environment.{Holds}
+use Rattle.environments.specs.declared.environment.Environment.{Environment as Held}
+use Rattle.environments.specs.Environment.{Holds}
 use Rattle.joining.specs.declared.answer.Reduced.{Reduced}
 use Rattle.joining.specs.declared.answer.Reduced.the-variants.{Plain}
 use Rattle.joining.specs.Answer.{Answers}
@@ -39,15 +37,6 @@ abbrev pub CompareAt : Words → Bool → ℕ → Type 0
 CompareAt words b at =
     (table : Words) × (role : Role) × (above : ℕ) × (scope : ℕ) × (scope ≤ scopeLimit)
     × (d : ℤ) × (x : Term) × (y : Term) × (next : ℕ) × Node table words role above scope at (compare b d x y) next
-
--- r is the value of the atom at an index
-abbrev pub Values : Words → Words → Words → Held → ℕ → Value → Type 0
-Values table words log held at r =
-    (ρ : List ℤ) (scope : ℕ) →
-    Outer held scope ρ →
-    (role : Role) (above : ℕ) (b : Bool) (p : ℕ) (ts : List Term) (next : ℕ) →
-    Node table words role above scope at (atom b p ts) next →
-    asValue r ≡ valueIn table (rows log) p (map (numberOf ρ) ts)
 
 -- r says that the atom at an index stays
 abbrev pub Stays : Words → Held → ℕ → ℕ → Words → Words → Reduced → Type 0

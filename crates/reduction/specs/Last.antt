@@ -11,7 +11,7 @@ use Rattle.model.specs.Level.{Role}
 use Rattle.model.specs.Putting.{put}
 use Rattle.laws.specs.Reading.Nodes.{Node}
 use Rattle.preorder.specs.Grown.{Grown}
-use Rattle.listing.specs.declared.environment.Environment.{Environment as Held}
+use Rattle.environments.specs.declared.environment.Environment.{Environment as Held}
 use Rattle.joining.specs.declared.answer.Reduced.{Reduced}
 use Rattle.joining.specs.Answer.{Answers}
 use Rattle.reduction.specs.Ground.{Outer}

@@ -10,7 +10,7 @@ use Rattle.model.specs.Tree.{Tree, Trees, join, quantifier, count}
 use Rattle.model.specs.Level.{Role, operand}
 use Rattle.model.specs.Reduction as M
 use Rattle.laws.specs.Reading.Nodes.{Node, Nodes}
-use Rattle.listing.specs.declared.environment.Environment.{Environment}
+use Rattle.environments.specs.declared.environment.Environment.{Environment}
 use Rattle.joining.specs.declared.answer.Reduced.the-variants.{Short}
 use Rattle.reduction.specs.declared.walk.Walked.{Walked}
 use Rattle.reduction.specs.declared.walk.Worked.{Worked}

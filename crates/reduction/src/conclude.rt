@@ -1,9 +1,9 @@
 // What is left of a quantifier once its bodies are joined: the join, with the last part if the restriction is not closed.
 use crate::last;
+use environments::environment::Environment;
+use instances::closing;
 use joining::answer::Reduced;
 use joining::join::Join;
-use listing::closing;
-use listing::environment::Environment;
 use tables::words;
 ghost use Prim.Native.Nat.{_+_, _*_, _≤_};
 ghost use lib.ListN.{length};

@@ -1,8 +1,8 @@
 // The reduction of ground atoms and comparisons, all of whose variables are outer ones, and the environment of an instance.
+use environments::environment::Environment;
+use environments::lookup;
+use environments::terms;
 use joining::answer::Reduced;
-use listing::environment::Environment;
-use listing::terms;
-use logs::value;
 use logs::value::Value;
 use preorder::putting;
 use tables::words;
@@ -10,29 +10,8 @@ ghost use mathlib.Core.List.{List, _++_};
 ghost use Prim.Native.Nat.{_+_, _*_, _≤_};
 ghost use lib.ListN.{length, take, drop};
 ghost use lib.IntN.{ℤ};
-ghost use Rattle.policies.specs.Mode.{HereAtom};
 ghost use Rattle.listing.specs.Restrictions.{Looks};
-ghost use Rattle.reduction.specs.Ground.{Outer, AtomAt, GrownAtom, CompareAt, Values, Stays, ReducesAtom, ReducesCompare};
-
-// The value of the ground atom at an index.
-fn value_at(
-    table: &[i32],
-    words: &[i32],
-    log: &[i32],
-    atoms: &[u16],
-    environment: Environment,
-    at: usize,
-) -> Value
-    requires { ⌜ Looks (now table) (now log) (now atoms) × HereAtom (now table) (now words) at ⌝ }
-    ensures { λ r. ⌜ Values (now (table .entry)) (now (words .entry)) (now (log .entry)) environment at r ⌝ }
-{
-    let predicate = words::value(words, at + 1);
-    let n = words::value(words, at + 2);
-    let numbers = environment.numbers;
-    let mut arguments = [0; 6];
-    terms::arguments(&numbers, words, at + 3, n, &mut arguments);
-    value::value_of(table, log, atoms, predicate, &arguments)
-}
+ghost use Rattle.reduction.specs.Ground.{Outer, AtomAt, GrownAtom, CompareAt, Stays, ReducesAtom, ReducesCompare};
 
 // The atom at an index stays, with the outer numbers put in, if it fits.
 fn stay(
@@ -79,7 +58,7 @@ pub fn atom(
         ReducesAtom (now (table .entry)) (now (words .entry)) (now (log .entry)) environment scope holds at (now (out .entry)) (now (out .exit)) r
         ⌝ }
 {
-    let found = value_at(table, words, log, atoms, environment, at);
+    let found = lookup::value_at(table, words, log, atoms, environment, at);
     match found {
         Value::True => Reduced::Plain(holds),
         Value::False => Reduced::Plain(!holds),

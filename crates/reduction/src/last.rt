@@ -1,7 +1,7 @@
 // The last part of a quantifier's reduction: the same quantifier with the instances put behind its excluded tuples, and its
 // restriction and body with the outer numbers put in.
+use environments::environment::Environment;
 use joining::answer::Reduced;
-use listing::environment::Environment;
 use preorder::putting;
 use tables::words;
 ghost use mathlib.Core.Path.{_≡_};

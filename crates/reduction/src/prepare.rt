@@ -1,6 +1,6 @@
 // The instances of a quantifier: its restriction is listed from the outer environment, and the instances are chosen.
-use listing::environment::Environment;
-use listing::instances;
+use environments::environment::Environment;
+use instances::choosing;
 use listing::restriction;
 use listing::restriction::Made;
 use listing::restriction::Room;
@@ -100,6 +100,6 @@ pub fn prepare(
     let Made::List(to, body) = made else {
         return Prepared::Short;
     };
-    let k = instances::instances(words, at + 3, m, v, scope, scratch, to.from, to.count);
+    let k = choosing::instances(words, at + 3, m, v, scope, scratch, to.from, to.count);
     Prepared::Instances(to.from, k, to.used, body)
 }

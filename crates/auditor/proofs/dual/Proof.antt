@@ -22,7 +22,8 @@ returns c =
     let q = c .before .before .before .before in
     let k = q .before .before in
     let a = k .before .args in
-    dual-refused (a .table .now) (a .policy .now) (a .buffer .now) _ (sym (q .asked .given .1) ∙ k .check-policy .ensures .same) (c .before .clear .ensures)
+    dual-refused (a .table .now) (a .policy .now) (a .buffer .now) _
+    (sym (q .asked .given .1) ∙ k .check-policy .ensures .same) (c .before .clear .ensures)
 
 enum-told : tie.Need-enum-told
 enum-told c = search needs
@@ -38,14 +39,18 @@ returns-2 c =
     let i = c .before .before .before in
     let k = i .before .before .before in
     let a = k .before .args in
-    dual-no-room (a .table .now) (a .policy .now) (a .buffer .now) _ (sym (i .before .enum-told .given .1) ∙ k .check-policy .ensures .same) (i .if1 .taken) (c .before .clear2 .ensures)
+    dual-no-room (a .table .now) (a .policy .now) (a .buffer .now) _
+    (sym (i .before .enum-told .given .1) ∙ k .check-policy .ensures .same) (i .if1 .taken) (c .before .clear2 .ensures)
 
 write-requires : tie.Need-write-requires
 write-requires c κs =
     let i = c .before in
     let k = i .before .before .before in
-    let a = k .before .args in
-    (i .if1 .left, tree-written (a .table .now) (a .policy .now) (a .buffer .now) (a .buffer .now) (sym (i .before .enum-told .given .1) ∙ k .check-policy .ensures .same))
+    let a = k .before .args in (
+      i .if1 .left,
+      tree-written (a .table .now) (a .policy .now) (a .buffer .now) (a .buffer .now)
+          (sym (i .before .enum-told .given .1) ∙ k .check-policy .ensures .same),
+    )
 
 same-length-3 : tie.Need-same-length-3
 same-length-3 c = search needs
@@ -55,7 +60,8 @@ returns-3 c =
     let i = c .before .before .before in
     let k = i .before .before .before in
     let a = k .before .args in
-    dual-written (a .table .now) (a .policy .now) (a .buffer .now) _ (sym (i .before .enum-told .given .1) ∙ k .check-policy .ensures .same) (i .if1 .left) (c .before .write .ensures)
+    dual-written (a .table .now) (a .policy .now) (a .buffer .now) _
+    (sym (i .before .enum-told .given .1) ∙ k .check-policy .ensures .same) (i .if1 .left) (c .before .write .ensures)
 
 pub dual-spec : {M : Type 1} → statement M
 dual-spec =

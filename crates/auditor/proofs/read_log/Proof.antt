@@ -24,7 +24,8 @@ returns c =
     let k = c .before .before in
     let r = k .before .before .before in
     let a = r .before .before .before .args in
-    read-cleared (a .table .now) (a .text .now) (a .buffer .now) (r .read .last .1 .1 .0) _ _ _ (r .read .ensures) (r .read .kept .1 .1 .0) (k .counted .ensures) (c .before .clear .ensures)
+    read-cleared (a .table .now) (a .text .now) (a .buffer .now) (r .read .last .1 .1 .0) _ _ _ (r .read .ensures)
+    (r .read .kept .1 .1 .0) (k .counted .ensures) (c .before .clear .ensures)
 
 pub read-log-spec : {M : Type 1} → statement M
 read-log-spec =

@@ -21,7 +21,8 @@ returns c =
     let k = c .before .before in
     let r = k .before .before .before in
     let a = r .before .before .before .args in
-    policy-cleared (a .table .now) (a .text .now) (a .buffer .now) (r .read .last .1 .1 .0) _ _ _ (r .read .ensures) (r .read .kept .1 .1 .0) (k .counted .ensures) (c .before .clear .ensures)
+    policy-cleared (a .table .now) (a .text .now) (a .buffer .now) (r .read .last .1 .1 .0) _ _ _ (r .read .ensures)
+    (r .read .kept .1 .1 .0) (k .counted .ensures) (c .before .clear .ensures)
 
 pub read-policy-spec : {M : Type 1} → statement M
 read-policy-spec =

@@ -11,8 +11,10 @@ use borrow.Author.Tests.{eqb-true, leb-true, not-true}
 use Rattle.model.specs.Bytes.{Text, lf, cr, quote, comma}
 use Rattle.model.specs.Lists.{all, gather}
 use Rattle.model.specs.Answer.{passed}
-use Rattle.model.specs.Csv.{textData, quotable, Field, bare, quoted, content, goodField, doubled, spellField, spellRecord, Lines, none, last, line, spell, goodLines, contents}
-use Rattle.model.specs.CsvReading.{Records, State, start, field, inside, quoting, closing, adds, move, moveFirst, moveBare, moveBehind, addByte, addField, addRecord, atEnd, follow, readFrom, readCsv}
+use Rattle.model.specs.Csv.{textData, quotable, Field, bare, quoted, content, goodField, doubled, spellField, spellRecord, Lines, none}
+use Rattle.model.specs.Csv.{last, line, spell, goodLines, contents}
+use Rattle.model.specs.CsvReading.{Records, State, start, field, inside, quoting, closing, adds, move, moveFirst, moveBare, moveBehind}
+use Rattle.model.specs.CsvReading.{addByte, addField, addRecord, atEnd, follow, readFrom, readCsv}
 use Rattle.laws.specs.Words.Tests.{decide, and-left, and-right}
 use Rattle.laws.specs.Answer.{pass-then}
 

@@ -7,7 +7,8 @@ use lib.ListN.{length, take}
 use Rattle.model.specs.Bytes.{Text, lf, quote}
 use Rattle.model.specs.Answer.{Outcome, refused, passed, _>>=_}
 use Rattle.model.specs.Csv.{contents, Allowed, Begins}
-use Rattle.model.specs.CsvReading.{Records, State, start, field, inside, quoting, closing, ending, Move, adds, leads, endsField, endsRecord, stops, move, addByte, addField, addRecord, atEnd, follow, readFrom, readCsv}
+use Rattle.model.specs.CsvReading.{Records, State, start, field, inside, quoting, closing, ending, Move, adds, leads, endsField, endsRecord}
+use Rattle.model.specs.CsvReading.{stops, move, addByte, addField, addRecord, atEnd, follow, readFrom, readCsv}
 use Rattle.model.specs.declared.Refusal.{Refusal}
 use Rattle.model.specs.declared.Refusal.the-variants.{Csv}
 use Rattle.laws.specs.Answer.{refused-passed, then-same, then-passed, pass-then}

@@ -12,8 +12,10 @@ use borrow.Author.Tests.{eqb-true, leb-true, le-leb}
 use Rattle.model.specs.Bytes.{Text, lf, cr, quote, comma}
 use Rattle.model.specs.Lists.{all, gather}
 use Rattle.model.specs.Answer.{Outcome, passed, _>>=_}
-use Rattle.model.specs.Csv.{textData, quotable, Field, bare, quoted, content, goodField, doubled, spellField, spellRecord, Lines, none, last, line, spell, goodLines, contents}
-use Rattle.model.specs.CsvReading.{Records, State, start, field, inside, quoting, closing, ending, move, moveFirst, moveBare, moveBehind, addByte, addField, addRecord, atEnd, follow, readFrom, readCsv}
+use Rattle.model.specs.Csv.{textData, quotable, Field, bare, quoted, content, goodField, doubled, spellField, spellRecord, Lines, none}
+use Rattle.model.specs.Csv.{last, line, spell, goodLines, contents}
+use Rattle.model.specs.CsvReading.{Records, State, start, field, inside, quoting, closing, ending, move, moveFirst, moveBare, moveBehind}
+use Rattle.model.specs.CsvReading.{addByte, addField, addRecord, atEnd, follow, readFrom, readCsv}
 use Rattle.laws.specs.Words.Tests.{decide, and-left, and-right, and-true}
 use Rattle.laws.specs.Answer.{refused-passed, passed-same, then-passed}
 

@@ -26,7 +26,8 @@ use Rattle.laws.specs.Reading.Formed.{Formed, FormedAll}
 use Rattle.laws.specs.Log.{Sound, holds-predicate, holds-arguments, holds-intro, value-of-row, row-of-value}
 use Rattle.laws.specs.Lists.Span.{side}
 use Rattle.laws.specs.Mode.{after, afterAll, afterAny, Passes, PassesAll, PassesAny, bindings-passes}
-use Rattle.laws.specs.Listing.Fitting.{Agrees, Binds, Supported, Found, bound-free, bound-same, release-same, release-other, same-or-not, fit-sound, fit-complete, fit-binds, fit-supported}
+use Rattle.laws.specs.Listing.Fitting.{Agrees, Binds, Supported, Found, bound-free, bound-same, release-same, release-other}
+use Rattle.laws.specs.Listing.Fitting.{same-or-not, fit-sound, fit-complete, fit-binds, fit-supported}
 
 -- every environment of a list binds those variables, and only the first n
 abbrev pub Fits : Variables → ℕ → List Environment → Type 0

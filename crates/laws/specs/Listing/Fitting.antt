@@ -5,7 +5,8 @@ use native.Mathlib.Omega.{arith}
 use mathlib.Core.Path.{_≡_, refl, sym, ap, ap₂, _∙_, subst}
 use mathlib.Core.Logic.{_⊎_, inl, inr, ⊎-elim}
 use mathlib.Core.Bool.{Bool, true, false, cond, _||_}
-use mathlib.Core.List.{List, [], _∷_, map, List·Memᴰ, List·Memᴰ·head, List·Memᴰ·not-nil, List·Memᴰ·eq-of-singleton, cons≢nil, head-eq-of-cons-eq, tail-eq-of-cons-eq}
+use mathlib.Core.List.{List, [], _∷_, map, List·Memᴰ, List·Memᴰ·head, List·Memᴰ·not-nil, List·Memᴰ·eq-of-singleton, cons≢nil}
+use mathlib.Core.List.{head-eq-of-cons-eq, tail-eq-of-cons-eq}
 use lib.ListN.{length, getD, take}
 use lib.Dec.{eqb}
 use lib.IntN.{ℤ, pos}

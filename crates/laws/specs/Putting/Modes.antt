@@ -13,7 +13,8 @@ use borrow.Author.Tests.{eqb-true, eqb-false, eq-eqb, ne-eqb, ltb-true, ltb-fals
 use Rattle.model.specs.Words.{Words}
 use Rattle.model.specs.Lists.{span, all, any, gather}
 use Rattle.model.specs.Table.{input}
-use Rattle.model.specs.Tree.{Term, constant, variable, Tree, Trees, plain, atom, compare, join, quantifier, some, nil, cons, encodeTerm, encode, encodeAll}
+use Rattle.model.specs.Tree.{Term, constant, variable, Tree, Trees, plain, atom, compare, join, quantifier, some, nil, cons, encodeTerm}
+use Rattle.model.specs.Tree.{encode, encodeAll}
 use Rattle.model.specs.Mode.{Variables, isBound, isVariable, inputsBound}
 use Rattle.model.specs.Putting.{putTerm, put, putAll}
 use Rattle.laws.specs.Words.Tests.{decide, and-true, or-left}

@@ -7,7 +7,8 @@ use native.Mathlib.Omega.{arith}
 use mathlib.Core.Path.{_≡_, refl, sym, ap, ap₂, _∙_, subst, fun-ext}
 use mathlib.Core.Logic.{⊎-elim}
 use mathlib.Core.Bool.{Bool, true, false, cond, _&&_}
-use mathlib.Core.List.{List, [], _∷_, _++_, map, append-assoc, append-nil, List·Memᴰ, List·Memᴰ·head, List·Memᴰ·tail, List·Memᴰ·not-nil, List·Memᴰ·append-cases, List·Memᴰ·eq-of-singleton}
+use mathlib.Core.List.{List, [], _∷_, _++_, map, append-assoc, append-nil, List·Memᴰ, List·Memᴰ·head, List·Memᴰ·tail, List·Memᴰ·not-nil}
+use mathlib.Core.List.{List·Memᴰ·append-cases, List·Memᴰ·eq-of-singleton}
 use lib.ListN.{length, getD, length-append, length-map, List·getD-append}
 use lib.Seq.{getD-append-add}
 use lib.Dec.{eqb, ltb}
@@ -17,7 +18,8 @@ use Rattle.model.specs.Lists.{span, keep, gather}
 use Rattle.model.specs.Tree.{Term, constant, variable, Tree, Trees, plain, atom, compare, join, quantifier, some, nil, cons}
 use Rattle.model.specs.Log.{arguments, saysTrue, valueIn}
 use Rattle.model.specs.Truth.{numberOf, sumAtMost}
-use Rattle.model.specs.Listing.{Slot, bound, free, Environment, outer, bind, release, numberIn, look, numbersIn, meet, fit, matches, isFalse, list, listAll, listAny, entries, entriesAll, entriesAny}
+use Rattle.model.specs.Listing.{Slot, bound, free, Environment, outer, bind, release, numberIn, look, numbersIn, meet, fit, matches}
+use Rattle.model.specs.Listing.{isFalse, list, listAll, listAny, entries, entriesAll, entriesAny}
 use Rattle.model.specs.Putting.{putTerm, put, putAll}
 use Rattle.model.specs.Joining.{append, joined}
 use Rattle.model.specs.Reduction.{settle, closed, fresh, each, most, tuple, instances, reduce, reduceAll, need, needAll}

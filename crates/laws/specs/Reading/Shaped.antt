@@ -20,10 +20,12 @@ use Rattle.model.specs.Reading.{isFormula, own, questions}
 use Rattle.model.specs.Mode.{size}
 use Rattle.model.specs.Tptp.{goodTree, goodTrees}
 use Rattle.laws.specs.Words.Tests.{and-left, and-right, and-true}
-use Rattle.laws.specs.Words.Standing.{Stands, stands-whole, stands-left, stands-right, stands-first, stands-rest, two-stand, three-stand, code, tag-code, atLeast-value, within-value}
+use Rattle.laws.specs.Words.Standing.{Stands, stands-whole, stands-left, stands-right, stands-first, stands-rest, two-stand}
+use Rattle.laws.specs.Words.Standing.{three-stand, code, tag-code, atLeast-value, within-value}
 use Rattle.laws.specs.Reading.Formed.{AllOfLength}
 use Rattle.laws.specs.Reading.Nodes.{under-kind, restriction-kind}
-use Rattle.laws.specs.Reading.Trees.{Known, plain-known, atom-known, compare-known, join-known, quantifier-known, some-known, node-asks, nodes-ask, quantifier-parts, tuples-length}
+use Rattle.laws.specs.Reading.Trees.{Known, plain-known, atom-known, compare-known, join-known, quantifier-known, some-known}
+use Rattle.laws.specs.Reading.Trees.{node-asks, nodes-ask, quantifier-parts, tuples-length}
 use Rattle.laws.specs.Tptp.Good.{atom-good, quantifier-good, good-join, good-quantifier, good-some, good-trees}
 use Rattle.laws.specs.Tptp.Sized.{sized-atom, sized-compare, sized-join, sized-quantifier, sized-some, sized-trees}
 

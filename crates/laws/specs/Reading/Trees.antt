@@ -15,14 +15,16 @@ use Rattle.model.specs.Lists.{all, gather}
 use Rattle.model.specs.Answer.{Outcome, passed, refused, ask, _>>=_}
 use Rattle.model.specs.Table.{predicates, arity, askTable}
 use Rattle.model.specs.Tag.{Tag, tagOf}
-use Rattle.model.specs.Tree.{Term, constant, variable, Tree, Trees, plain, atom, compare, join, quantifier, some, nil, cons, count, encodeTerm, encode, encodeAll}
+use Rattle.model.specs.Tree.{Term, constant, variable, Tree, Trees, plain, atom, compare, join, quantifier, some, nil, cons, count}
+use Rattle.model.specs.Tree.{encodeTerm, encode, encodeAll}
 use Rattle.model.specs.Level.{Role, restriction, formula, under, quantifierCost, cost}
 use Rattle.model.specs.Reading.{Read, isFormula, places, repeat, termAt, goodKind, inScope, own, questions, build, readNode, readPolicy}
 use Rattle.model.specs.Mode.{size, askModes}
 use Rattle.model.specs.Calls.{askPolicy}
 use Rattle.model.specs.Tptp.{greatestNumber, goodTerm, goodTuple, goodTree, goodTrees}
 use Rattle.laws.specs.Words.Tests.{and-left, and-right, and-true, and-one}
-use Rattle.laws.specs.Words.Standing.{Stands, stands-whole, stands-left, stands-right, stands-first, stands-rest, two-stand, three-stand, code, tag-code, below-value, atLeast-pos, within-pos}
+use Rattle.laws.specs.Words.Standing.{Stands, stands-whole, stands-left, stands-right, stands-first, stands-rest, two-stand}
+use Rattle.laws.specs.Words.Standing.{three-stand, code, tag-code, below-value, atLeast-pos, within-pos}
 use Rattle.laws.specs.Reading.Formed.{InScope, AllInScope, AllOfLength}
 use Rattle.laws.specs.Reading.Items.{tuples, two-places, term-back, terms-back, tuples-back}
 use Rattle.laws.specs.Reading.Nodes.{under-kind, kind-restriction}

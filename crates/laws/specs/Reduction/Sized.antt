@@ -16,7 +16,8 @@ use Rattle.model.specs.Lists.{span, all}
 use Rattle.model.specs.Answer.{passed}
 use Rattle.model.specs.Log.{arguments}
 use Rattle.model.specs.Tree.{Term, constant, variable, Tree, Trees, plain, atom, compare, join, quantifier, some, nil, cons, count, encode}
-use Rattle.model.specs.Listing.{Slot, bound, free, Environment, outer, bind, release, numberIn, look, meet, fit, matches, list, listAll, listAny}
+use Rattle.model.specs.Listing.{Slot, bound, free, Environment, outer, bind, release, numberIn, look, meet, fit, matches, list, listAll}
+use Rattle.model.specs.Listing.{listAny}
 use Rattle.model.specs.Putting.{putTerm, put, putAll}
 use Rattle.model.specs.Joining.{joined}
 use Rattle.model.specs.Reduction.{closed, tuple, instances, reduce, reduceAll}
@@ -30,7 +31,8 @@ use Rattle.laws.specs.Joining.{All, joined-has, result-all}
 use Rattle.laws.specs.Calls.Policy.{accepted-rules}
 use Rattle.laws.specs.Reduction.Instances.{fresh-mem, instances-length}
 use Rattle.laws.specs.Reduction.Accepted.{settle-has}
-use Rattle.laws.specs.Tptp.Good.{atom-good, quantifier-good, good-atom, good-compare, good-join, good-quantifier, good-some, good-trees}
+use Rattle.laws.specs.Tptp.Good.{atom-good, quantifier-good, good-atom, good-compare, good-join, good-quantifier, good-some}
+use Rattle.laws.specs.Tptp.Good.{good-trees}
 use Rattle.laws.specs.Tptp.Sized.{formed-good, good-sized}
 
 -- an environment binds numbers of 32 bits only

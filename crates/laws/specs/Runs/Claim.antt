@@ -12,7 +12,8 @@ use lib.Seq.{take-at}
 use lib.Dec.{leb, eqb}
 use Rattle.model.specs.declared.Answer.the-variants.{Accepted}
 use Rattle.model.specs.declared.Refusal.{Refusal}
-use Rattle.model.specs.declared.Refusal.the-variants.{Table, PolicyLength, Shape, Level, Predicate, Variable, Mode, LogLength, Row, Repeat, Scratch, Room, Csv, Record, Tptp}
+use Rattle.model.specs.declared.Refusal.the-variants.{Table, PolicyLength, Shape, Level, Predicate, Variable, Mode, LogLength, Row, Repeat}
+use Rattle.model.specs.declared.Refusal.the-variants.{Scratch, Room, Csv, Record, Tptp}
 use Rattle.model.specs.Words.{Words, policyLimit, placeWords}
 use Rattle.model.specs.Answer.{Outcome, passed, refused, ask, answer, question, number, count, _>>=_}
 use Rattle.model.specs.Table.{askTable}
@@ -21,7 +22,7 @@ use Rattle.model.specs.Tree.{Tree, encode}
 use Rattle.model.specs.Level.{formula, greatest}
 use Rattle.model.specs.Truth.{Structure, structure, Extends, Is}
 use Rattle.model.specs.Reduction.{need, reduce}
-use Rattle.model.specs.Calls.{zeros, filled, result, askPolicy, write, askResidual, checkPolicy, checkLog, reduceCall}
+use Rattle.model.specs.Calls.{zeros, filled, result, askPolicy, write, askResidual, checkPolicy, checkLog, askReduction, reduceCall}
 use Rattle.model.specs.Runs.{Call, accepted, Settled, leaves, next, after, held, clear, proviso, RunClaim, EveryRun}
 use Rattle.laws.specs.Words.Tests.{and-left, and-right, decide, clash}
 use Rattle.laws.specs.Answer.{passed-same, then-passed}
@@ -86,7 +87,7 @@ module _ (table log : Words) (logged : askLog table log ≡ passed tt) where
       (held : Words) (tree : Tree) (call : Call) →
       askPolicy table held ≡ passed tree →
       leaves table log held call ≡ result (call .scratch) (call .buffer) (outcome tree call)
-  unfolding leaves reduceCall _>>=_
+  unfolding leaves reduceCall askReduction _>>=_
   leaves-outcome held tree call e = rw (e, front-accepted table log (call .part) logged)
 
   wrote : (tree : Tree) (call : Call) {ws : Words} → outcome tree call ≡ passed ws → (ws ≡ encode (residual tree call)) × (length (encode (residual tree call)) ≤ policyLimit)

@@ -11,10 +11,12 @@ use Rattle.model.specs.Bytes.{Text, bytes, blank, comma, letterP, letterT, lett
 use Rattle.model.specs.Lists.{all}
 use Rattle.model.specs.Decimal.{digits}
 use Rattle.model.specs.Tree.{Term, Tree, plain, atom, compare}
-use Rattle.model.specs.Tptp.{Tokens, greatestNumber, predicateToken, termToken, parenthesized, separated, negation, isJoin, enclosed, tokens, goodTerm, goodTree}
+use Rattle.model.specs.Tptp.{Tokens, greatestNumber, predicateToken, termToken, parenthesized, separated, negation, isJoin, enclosed}
+use Rattle.model.specs.Tptp.{tokens, goodTerm, goodTree}
 use Rattle.model.specs.TptpReading.{terms, readAtom, readCompare, readDollar, readNegated}
 use Rattle.laws.specs.Words.Tests.{and-true}
-use Rattle.laws.specs.Tptp.Stand.{Fill, Trail, fill-append, fill-blanks, fill-longer, fill-word, trail-none, trail-blanks, trail-append, trail-fill}
+use Rattle.laws.specs.Tptp.Stand.{Fill, Trail, fill-append, fill-blanks, fill-longer, fill-word, trail-none, trail-blanks}
+use Rattle.laws.specs.Tptp.Stand.{trail-append, trail-fill}
 use Rattle.laws.specs.Tptp.Reads.{Spelling, behind, Reads, cond-reads, then-reads, map-reads, behind-both}
 use Rattle.laws.specs.Tptp.Marks.{literal-reads, token-reads, peek-reads, look-reads, opening-reads}
 use Rattle.laws.specs.Tptp.Numbers.{Item, natural-reads, integer-reads, term-reads}

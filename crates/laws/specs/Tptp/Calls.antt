@@ -17,7 +17,8 @@ use Rattle.model.specs.Level.{formula}
 use Rattle.model.specs.Mode.{askModes}
 use Rattle.model.specs.Tptp.{goodTree, Spells, policyText}
 use Rattle.model.specs.TptpReading.{readText}
-use Rattle.model.specs.Calls.{zeros, filled, result, askPolicy, askPolicyReading, readPolicyCall, askPolicyWriting, filledText, textResult, writePolicyCall}
+use Rattle.model.specs.Calls.{zeros, filled, result, askPolicy, askPolicyReading, readPolicyCall, askPolicyWriting, filledText, textResult}
+use Rattle.model.specs.Calls.{writePolicyCall}
 use Rattle.laws.specs.Answer.{passed-same, then-passed, both-passed, pass-then, answer-accepted}
 use Rattle.laws.specs.Reading.Encoded.{read-length}
 use Rattle.laws.specs.Reading.Trees.{askTree, ask-tree}

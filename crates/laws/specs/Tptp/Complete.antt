@@ -12,7 +12,8 @@ use Rattle.model.specs.Lists.{all}
 use Rattle.model.specs.Answer.{Outcome, passed, refused}
 use Rattle.model.specs.Tree.{Tree}
 use Rattle.model.specs.Tptp.{Stand, parenthesized, textTokens, tokens, lowerWord, goodTree, Spells}
-use Rattle.model.specs.TptpReading.{Got, give, onwards, _>>=_, peek, look, blanks, wordBytes, name, behindBlanks, readers, ending, readWhole, treeOf, readTptp}
+use Rattle.model.specs.TptpReading.{Got, give, onwards, _>>=_, peek, look, blanks, wordBytes, name, behindBlanks, readers, ending}
+use Rattle.model.specs.TptpReading.{readWhole, treeOf, readTptp}
 use Rattle.model.specs.declared.Refusal.the-variants.{Level}
 use Rattle.laws.specs.Words.Tests.{decide, and-left, and-right, and-true, clash}
 use Rattle.laws.specs.Answer.{passed-same}

@@ -14,8 +14,10 @@ use Rattle.model.specs.Lists.{span, gather}
 use Rattle.model.specs.Answer.{passed}
 use Rattle.model.specs.Bytes.{Text, bytes}
 use Rattle.model.specs.Decimal.{decimal}
-use Rattle.model.specs.Tree.{Term, constant, variable, Tree, Trees, plain, atom, compare, join, quantifier, some, nil, cons, encodeTerm, encode, encodeAll}
-use Rattle.model.specs.Tptp.{Tokens, predicateToken, variableToken, termToken, parenthesized, separated, connective, negation, binder, unequals, excludes, restricted, isJoin, enclosed, tokens, operands, textTokens, Stand, Spells, policyText}
+use Rattle.model.specs.Tree.{Term, constant, variable, Tree, Trees, plain, atom, compare, join, quantifier, some, nil, cons, encodeTerm}
+use Rattle.model.specs.Tree.{encode, encodeAll}
+use Rattle.model.specs.Tptp.{Tokens, predicateToken, variableToken, termToken, parenthesized, separated, connective, negation, binder}
+use Rattle.model.specs.Tptp.{unequals, excludes, restricted, isJoin, enclosed, tokens, operands, textTokens, Stand, Spells, policyText}
 use Rattle.model.specs.Calls.{askPolicy}
 use Rattle.laws.specs.Decimal.{digits-few, digits-some, digits-two}
 use Rattle.laws.specs.Reading.Formed.{Formed, FormedAll, AllOfLength}

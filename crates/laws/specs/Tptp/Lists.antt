@@ -13,7 +13,8 @@ use Rattle.model.specs.Bytes.{Text, bytes, blank, comma}
 use Rattle.model.specs.Lists.{span, all, gather}
 use Rattle.model.specs.Decimal.{decimal}
 use Rattle.model.specs.Tptp.{Tokens, variableToken, separated, binder, unequals, excludes, parenthesized, goodTuple}
-use Rattle.model.specs.TptpReading.{Reader, give, _>>=_, token, upTo, more, behindBlanks, beginsWith, declaration, variables, readBinder, unequal, readUnequals, readTuple}
+use Rattle.model.specs.TptpReading.{Reader, give, _>>=_, token, upTo, more, behindBlanks, beginsWith, declaration, variables, readBinder}
+use Rattle.model.specs.TptpReading.{unequal, readUnequals, readTuple}
 use Rattle.laws.specs.Words.Tests.{and-true}
 use Rattle.laws.specs.Tptp.Stand.{Fill, Trail, fill-append, fill-trail, trail-none, trail-blanks, trail-append, trail-fill}
 use Rattle.laws.specs.Tptp.Reads.{behind, Comes, Reads, reads-as, give-reads, cond-reads, then-reads, map-reads}

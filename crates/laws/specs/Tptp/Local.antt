@@ -10,7 +10,8 @@ use lib.ListN.{length, length-append}
 use lib.Dec.{leb, eqb}
 use Rattle.model.specs.Bytes.{Text, blank, digit, small, wordByte, nought, minus, parenthesis, letterX}
 use Rattle.model.specs.Answer.{Outcome, passed, refused}
-use Rattle.model.specs.TptpReading.{Got, Reader, give, stop, onwards, _>>=_, blanks, peek, literal, look, token, moreDigits, number, natural, integer, wordBytes, name, opening, term, ending}
+use Rattle.model.specs.TptpReading.{Got, Reader, give, stop, onwards, _>>=_, blanks, peek, literal, look, token, moreDigits, number}
+use Rattle.model.specs.TptpReading.{natural, integer, wordBytes, name, opening, term, ending}
 use Rattle.model.specs.declared.Refusal.{Refusal}
 use Rattle.model.specs.declared.Refusal.the-variants.{Level, Tptp}
 use Rattle.laws.specs.Words.Tests.{decide}

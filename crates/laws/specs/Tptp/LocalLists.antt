@@ -11,12 +11,15 @@ use lib.Dec.{eqb}
 use Rattle.model.specs.Bytes.{Text, comma, letterP, letterT, letterF}
 use Rattle.model.specs.Answer.{Outcome, passed}
 use Rattle.model.specs.Tptp.{Stand}
-use Rattle.model.specs.TptpReading.{Got, Reader, give, _>>=_, token, upTo, more, term, terms, readAtom, readCompare, readDollar, readNegated, declaration, variables, readBinder, unequal, readUnequals, readTuple}
+use Rattle.model.specs.TptpReading.{Got, Reader, give, _>>=_, token, upTo, more, term, terms, readAtom, readCompare, readDollar}
+use Rattle.model.specs.TptpReading.{readNegated, declaration, variables, readBinder, unequal, readUnequals, readTuple}
 use Rattle.laws.specs.Words.Tests.{decide}
 use Rattle.laws.specs.Tptp.Reads.{comes-passed}
 use Rattle.laws.specs.Tptp.Marks.{token-reads}
 use Rattle.laws.specs.Tptp.Lists.{another, noneOr}
-use Rattle.laws.specs.Tptp.Local.{Shares, behind-front, Local, late-more, local-late, then-shares, then-local, give-shares, give-local, cond-local, look-local, peek-local, literal-local, token-local, natural-local, integer-local, term-local, opening-local}
+use Rattle.laws.specs.Tptp.Local.{Shares, behind-front, Local, late-more, local-late, then-shares, then-local, give-shares}
+use Rattle.laws.specs.Tptp.Local.{give-local, cond-local, look-local, peek-local, literal-local, token-local, natural-local}
+use Rattle.laws.specs.Tptp.Local.{integer-local, term-local, opening-local}
 
 -- a byte that is read makes the text shorter
 byte-shorter :

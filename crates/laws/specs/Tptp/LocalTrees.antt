@@ -14,13 +14,18 @@ use Rattle.model.specs.Lists.{all}
 use Rattle.model.specs.Tree.{Tree}
 use Rattle.model.specs.Tptp.{isJoin}
 use Rattle.model.specs.Answer.{Outcome, passed, refused}
-use Rattle.model.specs.TptpReading.{Got, token, opening, readQuantifier, readSome, readJoin, readOperand, readRestriction, noReaders, readers, Reader, Readers, Restricted, onwards, upTo, give, stop, _>>=_, behindBlanks, beginsWith, beginsTuple, beginsExcluding, more, readTuple, joining, whole, excluding}
+use Rattle.model.specs.TptpReading.{Got, token, opening, readQuantifier, readSome, readJoin, readOperand, readRestriction, noReaders}
+use Rattle.model.specs.TptpReading.{readers, Reader, Readers, Restricted, onwards, upTo, give, stop, _>>=_, behindBlanks, beginsWith}
+use Rattle.model.specs.TptpReading.{beginsTuple, beginsExcluding, more, readTuple, joining, whole, excluding}
 use Rattle.model.specs.declared.Refusal.{Refusal}
 use Rattle.model.specs.declared.Refusal.the-variants.{Level, Tptp}
 use Rattle.laws.specs.Words.Tests.{decide, and-true}
-use Rattle.laws.specs.Tptp.Local.{Late, late-pass, late-stop, Shares, both-pass, both-stop, behind-front, Local, late-more, local-late, then-local, give-local, stop-local, cond-local, look-local, token-local, opening-none, opening-local}
+use Rattle.laws.specs.Tptp.Local.{Late, late-pass, late-stop, Shares, both-pass, both-stop, behind-front, Local, late-more}
+use Rattle.laws.specs.Tptp.Local.{local-late, then-local, give-local, stop-local, cond-local, look-local, token-local, opening-none}
+use Rattle.laws.specs.Tptp.Local.{opening-local}
 use Rattle.laws.specs.Tptp.LocalLists.{more-local, atom-local, dollar-local, negated-local, binder-local, tuple-local}
-use Rattle.laws.specs.Tptp.Waits.{end-late, Waits, then-waits, look-waits, Holds, tuple-waits, tuple-holds, more-refused, joining-refused, operand-waits, readers-hold}
+use Rattle.laws.specs.Tptp.Waits.{end-late, Waits, then-waits, look-waits, Holds, tuple-waits, tuple-holds, more-refused}
+use Rattle.laws.specs.Tptp.Waits.{joining-refused, operand-waits, readers-hold}
 
 -- a text, and what is behind its blanks
 blanks-split : (t : Text) → (gap : Text) × (all blank gap ≡ true) × (t ≡ gap ++ behindBlanks t)

@@ -11,11 +11,13 @@ use Rattle.model.specs.Bytes.{Text, bytes, blank, small, capital, digit, wordBy
 use Rattle.model.specs.Lists.{all}
 use Rattle.model.specs.Answer.{Outcome, passed, refused}
 use Rattle.model.specs.Tptp.{lowerWord}
-use Rattle.model.specs.TptpReading.{Got, Reader, stop, onwards, _>>=_, blanks, peek, literal, look, token, wordBytes, name, opening, behindBlanks, ending}
+use Rattle.model.specs.TptpReading.{Got, Reader, stop, onwards, _>>=_, blanks, peek, literal, look, token, wordBytes, name, opening}
+use Rattle.model.specs.TptpReading.{behindBlanks, ending}
 use Rattle.model.specs.declared.Refusal.the-variants.{Level}
 use Rattle.laws.specs.Words.Tests.{decide, and-true, or-left}
 use Rattle.laws.specs.Tptp.Stand.{Fill, fill-token}
-use Rattle.laws.specs.Tptp.Reads.{Spelling, behind, at-last, Comes, halted, Reads, comes-behind, comes-give, comes-stop, comes-as, reads-as, then-reads}
+use Rattle.laws.specs.Tptp.Reads.{Spelling, behind, at-last, Comes, halted, Reads, comes-behind, comes-give, comes-stop, comes-as}
+use Rattle.laws.specs.Tptp.Reads.{reads-as, then-reads}
 
 -- a byte, and what comes of the text behind it
 pub comes-byte :

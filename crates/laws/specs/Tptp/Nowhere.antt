@@ -20,7 +20,8 @@ use Rattle.laws.specs.Lists.Span.{side}
 use Rattle.laws.specs.Tptp.Opened.{opened}
 use Rattle.laws.specs.Tptp.Place.{tree-refused}
 use Rattle.laws.specs.Tptp.Complete.{tptp-complete, tptp-over}
-use Rattle.laws.specs.Tptp.Local.{Late, late-pass, late-stop, Shares, both-pass, both-stop, behind-front, Local, then-local, give-local, blanks-local, token-local, name-local, ending-local}
+use Rattle.laws.specs.Tptp.Local.{Late, late-pass, late-stop, Shares, both-pass, both-stop, behind-front, Local, then-local}
+use Rattle.laws.specs.Tptp.Local.{give-local, blanks-local, token-local, name-local, ending-local}
 use Rattle.laws.specs.Tptp.LocalTrees.{whole-local, readers-local}
 
 text-local : (room : ℕ) → Local (readWhole room)

@@ -19,7 +19,8 @@ use Rattle.model.specs.TptpReading.{moreDigits, number, natural, integer, term}
 use Rattle.laws.specs.Words.Tests.{decide, and-left, and-right, and-true, or-left, or-right}
 use Rattle.laws.specs.Decimal.{digit-range, decimal-only}
 use Rattle.laws.specs.Tptp.Stand.{Fill, fill-token, fill-blanks, fill-longer}
-use Rattle.laws.specs.Tptp.Reads.{Spelling, Comes, Reads, comes-give, comes-stop, comes-as, reads-as, cond-reads, then-reads, map-reads}
+use Rattle.laws.specs.Tptp.Reads.{Spelling, Comes, Reads, comes-give, comes-stop, comes-as, reads-as, cond-reads, then-reads}
+use Rattle.laws.specs.Tptp.Reads.{map-reads}
 use Rattle.laws.specs.Tptp.Marks.{comes-byte, literal-reads, token-reads, look-reads}
 
 -- further digits, behind those that stand for n: none behind a 0 in front

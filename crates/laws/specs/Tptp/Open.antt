@@ -10,12 +10,16 @@ use lib.ListN.{length, take}
 use lib.Seq.{take-at}
 use lib.Dec.{ltb, eqb}
 use borrow.Author.Tests.{ne-eqb}
-use Rattle.model.specs.Bytes.{Text, bytes, nought, comma, ampersand, bar, tilde, dollar, exclamation, interrogation, parenthesis, letterP, letterT, letterF}
+use Rattle.model.specs.Bytes.{Text, bytes, nought, comma, ampersand, bar, tilde, dollar, exclamation, interrogation, parenthesis, letterP}
+use Rattle.model.specs.Bytes.{letterT, letterF}
 use Rattle.model.specs.Answer.{Outcome, passed, refused}
 use Rattle.model.specs.Decimal.{digits}
 use Rattle.model.specs.Tree.{Tree}
 use Rattle.model.specs.Tptp.{variableToken, isJoin}
-use Rattle.model.specs.TptpReading.{Got, Reader, Readers, Restricted, give, stop, _>>=_, token, upTo, more, term, terms, readAtom, readCompare, readDollar, readNegated, declaration, variables, readBinder, unequal, readUnequals, readTuple, joining, whole, readQuantifier, readSome, readJoin, readOperand, excluding, readRestriction, beginsExcluding, noReaders, readers, readWhole, treeOf, readTptp}
+use Rattle.model.specs.TptpReading.{Got, Reader, Readers, Restricted, give, stop, _>>=_, token, upTo, more, term, terms, readAtom}
+use Rattle.model.specs.TptpReading.{readCompare, readDollar, readNegated, declaration, variables, readBinder, unequal, readUnequals}
+use Rattle.model.specs.TptpReading.{readTuple, joining, whole, readQuantifier, readSome, readJoin, readOperand, excluding, readRestriction}
+use Rattle.model.specs.TptpReading.{beginsExcluding, noReaders, readers, readWhole, treeOf, readTptp}
 use Rattle.model.specs.declared.Refusal.the-variants.{Level}
 use Rattle.laws.specs.Words.Tests.{decide}
 use Rattle.laws.specs.Answer.{refused-passed}
@@ -23,7 +27,10 @@ use Rattle.laws.specs.Tptp.Opened.{closing}
 use Rattle.laws.specs.Tptp.Texts.{text-last}
 use Rattle.laws.specs.Tptp.Place.{tree-refused}
 use Rattle.laws.specs.Tptp.Nowhere.{level-tptp}
-use Rattle.laws.specs.Tptp.Weighs.{occurs, occurs-append, Open, OpenAtMost, Turns, turns-mark, turns-opening, Weight, weighed, filled, stopped, Weighs, give-weighs, stop-weighs, cond-weighs, then-weighs, blanks-weighs, peek-weighs, look-weighs, literal-weighs, token-weighs, mark-weighs, natural-weighs, integer-weighs, term-weighs, name-weighs, ending-weighs, opening-weighs, enclosed-weighs, closing-weighs}
+use Rattle.laws.specs.Tptp.Weighs.{occurs, occurs-append, Open, OpenAtMost, Turns, turns-mark, turns-opening, Weight, weighed, filled}
+use Rattle.laws.specs.Tptp.Weighs.{stopped, Weighs, give-weighs, stop-weighs, cond-weighs, then-weighs, blanks-weighs, peek-weighs}
+use Rattle.laws.specs.Tptp.Weighs.{look-weighs, literal-weighs, token-weighs, mark-weighs, natural-weighs, integer-weighs}
+use Rattle.laws.specs.Tptp.Weighs.{term-weighs, name-weighs, ending-weighs, opening-weighs, enclosed-weighs, closing-weighs}
 
 -- digits are no parentheses, and a variable has none
 digits-occurs : (c : ℕ) → c < 48 → (k n : ℕ) → occurs c (digits k n) ≡ 0

@@ -15,7 +15,7 @@ use Rattle.model.specs.Log.{rowCount, rowAt, rows, askLog}
 use Rattle.model.specs.Tree.{Tree}
 use Rattle.model.specs.Reduction.{reduce, need}
 use Rattle.model.specs.Tptp.{policyText}
-use Rattle.model.specs.Calls.{zeros, filled, result, askPolicy, askResidual, reduceCall, readPolicyCall, writePolicyCall}
+use Rattle.model.specs.Calls.{zeros, filled, result, askPolicy, askResidual, askReduction, reduceCall, readPolicyCall, writePolicyCall}
 use Rattle.laws.specs.Answer.{then-passed, answer-accepted}
 use Rattle.laws.specs.Lists.Membership.{all-intro, all-take, all-drop, map-mem}
 use Rattle.laws.specs.Calls.Policy.{accepted-rules, rules-accepted}
@@ -43,7 +43,7 @@ reduction-left :
     (table policy log : Words) (scratch buffer n : ℕ) →
     reduceCall table policy log scratch buffer .answer ≡ Accepted n →
     Left table policy log (take n (reduceCall table policy log scratch buffer .buffer)) n
-unfolding reduceCall askResidual result filled
+unfolding reduceCall askReduction askResidual result filled
 reduction-left table policy log scratch buffer n e =
     let (ws, passes, long) = answer-accepted length _ n e in
     let (tree, e₁, e₂) = then-passed (askPolicy table policy) _ passes in

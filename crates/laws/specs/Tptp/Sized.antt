@@ -12,13 +12,15 @@ use lib.Signed.{leZ}
 use borrow.Author.Tests.{leb-true, le-leb, eq-eqb}
 use Rattle.model.specs.Words.{Words, wordSized, policyLimit}
 use Rattle.model.specs.Lists.{all, gather}
-use Rattle.model.specs.Tree.{count, Term, constant, variable, Tree, Trees, plain, atom, compare, join, quantifier, some, nil, cons, encodeTerm, encode, encodeAll}
+use Rattle.model.specs.Tree.{count, Term, constant, variable, Tree, Trees, plain, atom, compare, join, quantifier, some, nil, cons}
+use Rattle.model.specs.Tree.{encodeTerm, encode, encodeAll}
 use Rattle.model.specs.Tptp.{greatestNumber, goodTerm, goodTuple, goodTree, goodTrees}
 use Rattle.laws.specs.Words.Tests.{and-left, and-right, and-true}
 use Rattle.laws.specs.Lists.Membership.{all-append, all-parts}
 use Rattle.laws.specs.Reading.Formed.{Formed, FormedAll, AllOfLength}
 use Rattle.laws.specs.Reading.Back.{encode-nonempty}
-use Rattle.laws.specs.Tptp.Good.{atom-good, quantifier-good, good-atom, good-compare, good-join, good-quantifier, good-some, good-trees, good-tuple}
+use Rattle.laws.specs.Tptp.Good.{atom-good, quantifier-good, good-atom, good-compare, good-join, good-quantifier, good-some}
+use Rattle.laws.specs.Tptp.Good.{good-trees, good-tuple}
 
 -- terms, tuples and trees of accepted words of 32 bits are good
 sized-number : (n : ℕ) → wordSized (pos n) ≡ true → leb n greatestNumber ≡ true

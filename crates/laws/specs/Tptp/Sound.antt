@@ -10,7 +10,8 @@ use Rattle.model.specs.Lists.{all, gather}
 use Rattle.model.specs.Answer.{Outcome, passed, refused}
 use Rattle.model.specs.Tree.{Tree}
 use Rattle.model.specs.Tptp.{Tokens, Stand, excludes, restricted, isJoin, enclosed, tokens, goodTuple, goodTree, Spells}
-use Rattle.model.specs.TptpReading.{Got, Reader, Restricted, stop, upTo, more, behindBlanks, beginsWith, joining, whole, readers, readWhole, treeOf, readTptp}
+use Rattle.model.specs.TptpReading.{Got, Reader, Restricted, stop, upTo, more, behindBlanks, beginsWith, joining, whole, readers, readWhole}
+use Rattle.model.specs.TptpReading.{treeOf, readTptp}
 use Rattle.laws.specs.Answer.{refused-passed, passed-same}
 use Rattle.laws.specs.Tptp.Stand.{Fill, Trail, fill-stand, stand-fill}
 use Rattle.laws.specs.Tptp.Reads.{Spelling, Read, Reads, comes-passed, sound-reads}

@@ -10,11 +10,13 @@ use Rattle.model.specs.Bytes.{Text, bytes, blank, digit, dollar, letterP}
 use Rattle.model.specs.Decimal.{digits, decimal}
 use Rattle.model.specs.Tree.{Term, Tree, plain, atom, compare}
 use Rattle.model.specs.Tptp.{Tokens, Stand, predicateToken, termToken, parenthesized, separated, goodTerm}
-use Rattle.model.specs.TptpReading.{onwards, _>>=_, give, peek, literal, token, behindBlanks, readAtom, readCompare, readDollar, readNegated}
+use Rattle.model.specs.TptpReading.{onwards, _>>=_, give, peek, literal, token, behindBlanks, readAtom, readCompare, readDollar}
+use Rattle.model.specs.TptpReading.{readNegated}
 use Rattle.laws.specs.Tptp.Opened.{closing}
 use Rattle.laws.specs.Tptp.Good.{GoodAtom}
 use Rattle.laws.specs.Tptp.Ahead.{free, solid, stand-ahead, ahead-token, ahead-first, stand-apart}
-use Rattle.laws.specs.Tptp.Takes.{took, Completes, blanks-passed, map-completes, free-completes, token-completes, last-completes, look-completes, opening-completes}
+use Rattle.laws.specs.Tptp.Takes.{took, Completes, blanks-passed, map-completes, free-completes, token-completes, last-completes}
+use Rattle.laws.specs.Tptp.Takes.{look-completes, opening-completes}
 use Rattle.laws.specs.Tptp.TakesNumbers.{word-completes, integer-completes, term-completes}
 use Rattle.laws.specs.Tptp.TakesLists.{stand-next, terms-completes}
 

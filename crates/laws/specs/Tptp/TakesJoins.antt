@@ -13,7 +13,8 @@ use Rattle.model.specs.TptpReading.{Reader, Readers, give, stop, trees, joining
 use Rattle.laws.specs.Tptp.Good.{good-join}
 use Rattle.laws.specs.Tptp.Opened.{closing, enclosing, opened, openedAll}
 use Rattle.laws.specs.Tptp.Ahead.{free, solid, apart, ahead-first, stand-apart}
-use Rattle.laws.specs.Tptp.Takes.{Completes, give-completes, map-completes, then-completes, last-completes, look-completes, opening-completes}
+use Rattle.laws.specs.Tptp.Takes.{Completes, give-completes, map-completes, then-completes, last-completes, look-completes}
+use Rattle.laws.specs.Tptp.Takes.{opening-completes}
 use Rattle.laws.specs.Tptp.TakesLists.{Next, next-first, stand-next, highest, row, Each, more-completes}
 use Rattle.laws.specs.Tptp.Atoms.{shown}
 use Rattle.laws.specs.Tptp.Joins.{trees-operands, connecting, connecting-token, enclosed-not}

@@ -13,15 +13,19 @@ use Rattle.model.specs.Bytes.{Text, bytes, blank, digit, comma}
 use Rattle.model.specs.Lists.{span, all, gather}
 use Rattle.model.specs.Decimal.{decimal}
 use Rattle.model.specs.Tree.{Term}
-use Rattle.model.specs.Tptp.{Tokens, termToken, goodTerm, Stand, variableToken, separated, binder, unequals, excludes, parenthesized, goodTuple}
-use Rattle.model.specs.TptpReading.{Reader, term, terms, give, _>>=_, token, opening, upTo, more, behindBlanks, declaration, variables, readBinder, unequal, readUnequals, readTuple}
+use Rattle.model.specs.Tptp.{Tokens, termToken, goodTerm, Stand, variableToken, separated, binder, unequals, excludes, parenthesized}
+use Rattle.model.specs.Tptp.{goodTuple}
+use Rattle.model.specs.TptpReading.{Reader, term, terms, give, _>>=_, token, opening, upTo, more, behindBlanks, declaration, variables}
+use Rattle.model.specs.TptpReading.{readBinder, unequal, readUnequals, readTuple}
 use Rattle.laws.specs.Words.Tests.{and-left, and-right}
 use Rattle.laws.specs.Lists.Membership.{all-mem}
 use Rattle.laws.specs.Tptp.Good.{good-tuple}
 use Rattle.laws.specs.Tptp.Opened.{closing, tupled}
 use Rattle.laws.specs.Tptp.Stand.{stand-split}
-use Rattle.laws.specs.Tptp.Ahead.{free, behind-length, stand-length, solid, apart, Ahead, stand-ahead, ahead-token, ahead-first, stand-apart}
-use Rattle.laws.specs.Tptp.Takes.{Completes, give-completes, map-completes, then-completes, free-completes, token-completes, last-completes, look-completes, opening-completes}
+use Rattle.laws.specs.Tptp.Ahead.{free, behind-length, stand-length, solid, apart, Ahead, stand-ahead, ahead-token, ahead-first}
+use Rattle.laws.specs.Tptp.Ahead.{stand-apart}
+use Rattle.laws.specs.Tptp.Takes.{Completes, give-completes, map-completes, then-completes, free-completes, token-completes}
+use Rattle.laws.specs.Tptp.Takes.{last-completes, look-completes, opening-completes}
 use Rattle.laws.specs.Tptp.TakesNumbers.{integer-completes, term-completes}
 
 -- a byte is next in a text, behind blanks; it is none, and the text does not begin with a digit

@@ -16,7 +16,8 @@ use Rattle.model.specs.Answer.{Outcome, passed}
 use Rattle.model.specs.Decimal.{numeral, plainDigits, goodNumber, numberOf, digits, decimal}
 use Rattle.model.specs.Tree.{Term, constant, variable}
 use Rattle.model.specs.Tptp.{Tokens, Stand, greatestNumber, variableToken, termToken, goodTerm}
-use Rattle.model.specs.TptpReading.{Got, Reader, give, onwards, _>>=_, peek, literal, look, token, behindBlanks, moreDigits, number, natural, integer, term}
+use Rattle.model.specs.TptpReading.{Got, Reader, give, onwards, _>>=_, peek, literal, look, token, behindBlanks, moreDigits, number}
+use Rattle.model.specs.TptpReading.{natural, integer, term}
 use Rattle.laws.specs.Words.Tests.{decide, and-left, and-right, and-true, or-cases, clash}
 use Rattle.laws.specs.Lists.Span.{side}
 use Rattle.laws.specs.Decimal.{digit-range, decimal-good}

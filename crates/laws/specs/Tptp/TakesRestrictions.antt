@@ -12,8 +12,10 @@ use lib.IntN.{ℤ}
 use Rattle.model.specs.Bytes.{Text, bytes, blank, digit, ampersand, parenthesis, letterX}
 use Rattle.model.specs.Lists.{all, gather}
 use Rattle.model.specs.Tree.{Tree, Trees, plain, atom, compare, join, quantifier, some, cons, count}
-use Rattle.model.specs.Tptp.{Tokens, Stand, predicateToken, variableToken, negation, connective, parenthesized, separated, unequals, excludes, restricted, isJoin, enclosed, tokens, goodTuple, goodTree, goodTrees}
-use Rattle.model.specs.TptpReading.{Readers, stop, Restricted, behindBlanks, beginsWith, beginsTuple, beginsExcluding, excluding, readTuple, readOperand, readRestriction}
+use Rattle.model.specs.Tptp.{Tokens, Stand, predicateToken, variableToken, negation, connective, parenthesized, separated, unequals}
+use Rattle.model.specs.Tptp.{excludes, restricted, isJoin, enclosed, tokens, goodTuple, goodTree, goodTrees}
+use Rattle.model.specs.TptpReading.{Readers, stop, Restricted, behindBlanks, beginsWith, beginsTuple, beginsExcluding, excluding, readTuple}
+use Rattle.model.specs.TptpReading.{readOperand, readRestriction}
 use Rattle.laws.specs.Words.Tests.{decide, and-left}
 use Rattle.laws.specs.Lists.Membership.{all-mem}
 use Rattle.laws.specs.Tptp.Good.{good-join, good-trees, good-tuple}

@@ -12,14 +12,17 @@ use Rattle.model.specs.Bytes.{Text, bytes, blank, digit, tilde, dollar, exclama
 use Rattle.model.specs.Lists.{all}
 use Rattle.model.specs.Decimal.{digits}
 use Rattle.model.specs.Tree.{Term, Tree, Trees, count, plain, atom, compare, join, quantifier, some, nil, cons}
-use Rattle.model.specs.Tptp.{predicateToken, parenthesized, negation, excludes, restricted, isJoin, enclosed, tokens, goodTerm, goodTuple, goodTree, goodTrees}
+use Rattle.model.specs.Tptp.{predicateToken, parenthesized, negation, excludes, restricted, isJoin, enclosed, tokens, goodTerm, goodTuple}
+use Rattle.model.specs.Tptp.{goodTree, goodTrees}
 use Rattle.model.specs.TptpReading.{Readers, whole, readQuantifier, readSome, readOperand, readRestriction, noReaders, readers}
 use Rattle.laws.specs.Tptp.Good.{GoodAtom, good-atom, good-compare, good-join, good-quantifier, good-some, good-trees}
 use Rattle.laws.specs.Tptp.Opened.{closing, enclosing, restricting, opened, openedAll}
 use Rattle.laws.specs.Tptp.Ahead.{solid, ahead-first}
-use Rattle.laws.specs.Tptp.Takes.{Completes, map-completes, then-completes, free-completes, token-completes, last-completes, look-completes, opening-completes}
+use Rattle.laws.specs.Tptp.Takes.{Completes, map-completes, then-completes, free-completes, token-completes, last-completes}
+use Rattle.laws.specs.Tptp.Takes.{look-completes, opening-completes}
 use Rattle.laws.specs.Tptp.TakesLists.{Next, stand-next, Each, binder-completes}
-use Rattle.laws.specs.Tptp.TakesAtoms.{plain-completes, atom-completes, compare-completes, lesseq-completes, negated-atom, negated-compare}
+use Rattle.laws.specs.Tptp.TakesAtoms.{plain-completes, atom-completes, compare-completes, lesseq-completes, negated-atom}
+use Rattle.laws.specs.Tptp.TakesAtoms.{negated-compare}
 use Rattle.laws.specs.Tptp.Atoms.{shown}
 use Rattle.laws.specs.Tptp.TakesJoins.{forest, members, needed, whole-completes, enclosed-completes}
 use Rattle.laws.specs.Tptp.TakesRestrictions.{excluded-from, restriction-completes}

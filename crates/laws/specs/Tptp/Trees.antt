@@ -12,7 +12,8 @@ use borrow.Author.Tests.{le-leb}
 use Rattle.model.specs.Bytes.{Text, bytes, blank, ampersand, tilde, dollar, exclamation, interrogation, parenthesis, letterP}
 use Rattle.model.specs.Lists.{all, gather}
 use Rattle.model.specs.Tree.{Tree, plain, quantifier, some}
-use Rattle.model.specs.Tptp.{Tokens, parenthesized, separated, negation, binder, excludes, restricted, isJoin, enclosed, tokens, goodTuple, goodTree}
+use Rattle.model.specs.Tptp.{Tokens, parenthesized, separated, negation, binder, excludes, restricted, isJoin, enclosed, tokens, goodTuple}
+use Rattle.model.specs.Tptp.{goodTree}
 use Rattle.model.specs.TptpReading.{Readers, Restricted, _>>=_, behindBlanks, beginsWith, beginsExcluding}
 use Rattle.model.specs.TptpReading.{readQuantifier, readSome, readJoin, readOperand, excluding, readRestriction, noReaders, readers}
 use Rattle.laws.specs.Words.Tests.{decide, and-left, and-right, and-true}

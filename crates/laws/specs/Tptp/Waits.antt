@@ -12,7 +12,8 @@ use Rattle.model.specs.Lists.{all}
 use Rattle.model.specs.Answer.{Outcome, passed, refused}
 use Rattle.model.specs.Tree.{Tree}
 use Rattle.model.specs.Tptp.{variableToken}
-use Rattle.model.specs.TptpReading.{Got, Reader, Readers, give, onwards, _>>=_, blanks, peek, literal, look, token, opening, upTo, more, unequal, readUnequals, readTuple, joining, readJoin, readOperand, noReaders, readers}
+use Rattle.model.specs.TptpReading.{Got, Reader, Readers, give, onwards, _>>=_, blanks, peek, literal, look, token, opening, upTo, more}
+use Rattle.model.specs.TptpReading.{unequal, readUnequals, readTuple, joining, readJoin, readOperand, noReaders, readers}
 use Rattle.model.specs.declared.Refusal.{Refusal}
 use Rattle.model.specs.declared.Refusal.the-variants.{Level, Tptp}
 use Rattle.laws.specs.Words.Tests.{and-left, and-right}

@@ -12,7 +12,8 @@ use lib.Seq.{take-nil, take-append-le, take-append-add}
 use lib.Dec.{leb, eqb}
 use Rattle.model.specs.Bytes.{Text, bytes, blank, digit, small, capital, wordByte, nought, minus, parenthesis, letterX}
 use Rattle.model.specs.Answer.{Outcome, passed, refused}
-use Rattle.model.specs.TptpReading.{Got, Reader, give, stop, onwards, _>>=_, blanks, peek, literal, look, token, moreDigits, number, natural, integer, wordBytes, name, opening, term, ending}
+use Rattle.model.specs.TptpReading.{Got, Reader, give, stop, onwards, _>>=_, blanks, peek, literal, look, token, moreDigits, number}
+use Rattle.model.specs.TptpReading.{natural, integer, wordBytes, name, opening, term, ending}
 use Rattle.model.specs.declared.Refusal.the-variants.{Level, Tptp}
 use borrow.Author.Tests.{eqb-true}
 use Rattle.laws.specs.Words.Tests.{decide, and-left, clash}

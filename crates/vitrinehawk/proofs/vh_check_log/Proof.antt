@@ -16,7 +16,13 @@ number-of-requires : tie.Need-number-of-requires
 number-of-requires c κs = search needs
 
 returns : tie.Need-returns
-returns c = (c .number-of .ensures ∙ ap number (c .before .before .check-log .ensures .same), c .before .detail-of .ensures ∙ ap detailed (c .before .before .check-log .ensures .same))
+returns c =
+    let at-check-log = c .before .before in
+    let check-log = at-check-log .check-log in (
+      c .number-of .ensures ∙ ap number (check-log .ensures .same),
+      c .before .detail-of .ensures ∙ ap detailed
+          (check-log .ensures .same),
+    )
 
 pub vh-check-log-spec : {M : Type 1} → statement M
 vh-check-log-spec = tie.close (tie.spec check-log-requires detail-of-requires number-of-requires returns)

@@ -16,7 +16,13 @@ number-of-requires : tie.Need-number-of-requires
 number-of-requires c κs = search needs
 
 returns : tie.Need-returns
-returns c = (c .number-of .ensures ∙ ap number (c .before .before .check-policy .ensures .same), c .before .detail-of .ensures ∙ ap detailed (c .before .before .check-policy .ensures .same))
+returns c =
+    let at-check-policy = c .before .before in
+    let check-policy = at-check-policy .check-policy in (
+      c .number-of .ensures ∙ ap number (check-policy .ensures .same),
+      c .before .detail-of .ensures ∙ ap detailed
+          (check-policy .ensures .same),
+    )
 
 pub vh-check-policy-spec : {M : Type 1} → statement M
 vh-check-policy-spec = tie.close (tie.spec check-policy-requires detail-of-requires number-of-requires returns)

@@ -19,7 +19,12 @@ same-length : tie.Need-same-length
 same-length c = search needs
 
 returns : tie.Need-returns
-returns c = (c .number-of .ensures ∙ ap number (c .before .before .before .dual .ensures .0 .same), (c .before .detail-of .ensures ∙ ap detailed (c .before .before .before .dual .ensures .0 .same), c .before .before .before .dual .ensures .1))
+returns c =
+    let at-dual = c .before .before .before in
+    let dual = at-dual .dual in (
+      c .number-of .ensures ∙ ap number (dual .ensures .0 .same),
+      (c .before .detail-of .ensures ∙ ap detailed (dual .ensures .0 .same), dual .ensures .1),
+    )
 
 pub vh-dual-spec : {M : Type 1} → statement M
 vh-dual-spec = tie.close (tie.spec dual-requires detail-of-requires number-of-requires same-length returns)

@@ -19,7 +19,10 @@ same-length : tie.Need-same-length
 same-length c = search needs
 
 returns : tie.Need-returns
-returns c = let d = c .before .before .before .read-log .ensures in (c .number-of .ensures ∙ ap number (d .0 .same), (c .before .detail-of .ensures ∙ ap detailed (d .0 .same), d .1))
+returns c =
+    let at-read-log = c .before .before .before in
+    let d = at-read-log .read-log .ensures in
+    (c .number-of .ensures ∙ ap number (d .0 .same), (c .before .detail-of .ensures ∙ ap detailed (d .0 .same), d .1))
 
 pub vh-read-log-spec : {M : Type 1} → statement M
 vh-read-log-spec =

@@ -19,7 +19,10 @@ same-length : tie.Need-same-length
 same-length c = search needs
 
 returns : tie.Need-returns
-returns c = let d = c .before .before .before .read-policy .ensures in (c .number-of .ensures ∙ ap number (d .0 .same), (c .before .detail-of .ensures ∙ ap detailed (d .0 .same), d .1))
+returns c =
+    let at-read-policy = c .before .before .before in
+    let d = at-read-policy .read-policy .ensures in
+    (c .number-of .ensures ∙ ap number (d .0 .same), (c .before .detail-of .ensures ∙ ap detailed (d .0 .same), d .1))
 
 pub vh-read-policy-spec : {M : Type 1} → statement M
 vh-read-policy-spec =

@@ -22,7 +22,15 @@ same-length-2 : tie.Need-same-length-2
 same-length-2 c = search needs
 
 returns : tie.Need-returns
-returns c = (c .number-of .ensures ∙ ap number (c .before .before .before .before .reduce .ensures .answered .same), (c .before .detail-of .ensures ∙ ap detailed (c .before .before .before .before .reduce .ensures .answered .same), (c .before .before .before .before .reduce .ensures .wrote, c .before .before .before .before .reduce .ensures .cleared)))
+returns c =
+    let at-reduce = c .before .before .before .before in
+    let reduce = at-reduce .reduce in (
+      c .number-of .ensures ∙ ap number (reduce .ensures .answered .same),
+      (
+        c .before .detail-of .ensures ∙ ap detailed (reduce .ensures .answered .same),
+        (reduce .ensures .wrote, reduce .ensures .cleared),
+      ),
+    )
 
 pub vh-reduce-spec : {M : Type 1} → statement M
 vh-reduce-spec = tie.close (tie.spec reduce-requires detail-of-requires number-of-requires same-length same-length-2 returns)

@@ -6,7 +6,7 @@ use Rattle.model.specs.Answer.{passed, answer}
 use Rattle.model.specs.Log.{rowCount}
 use Rattle.model.specs.Table.{askTable}
 use Rattle.tables.specs.Checked.{outcome}
-use Rattle.texts.specs.Rows.{Stand, RowsRead}
+use Rattle.csv_reading.specs.Rows.{Stand, RowsRead}
 use Rattle.auditor.specs.LogText.{settledLog}
 use Rattle.auditor.proofs.LogReading.{table-refused, text-refused, rows-settled}
 use borrow.Author.Needs.{needs}
@@ -78,9 +78,10 @@ returns-3 c =
     let t = r .before .before in
     let a = t .before .before .before .before .args in
     let s = rows-stand f in
-    rows-settled (a .table .now) (a .text .now) (length (a .buffer .now)) (r .read-rows .last .1 .1 .0) (f .found2 .given .0 .0) _ (r .read-rows .kept .1 .1 .0) (good-table t) s
-    (c .settle-rows .ensures (s .log) (s .asked)
-    ∙ ap (λ (room : ℕ). answer rowCount (settledLog (a .table .now) room (s .log))) (r .read-rows .kept .1 .1 .0))
+    rows-settled (a .table .now) (a .text .now) (length (a .buffer .now)) (r .read-rows .last .1 .1 .0)
+    (f .found2 .given .0 .0) _ (r .read-rows .kept .1 .1 .0) (good-table t) s
+    (c .settle-rows .ensures (s .log) (s .asked) ∙ ap
+    (λ (room : ℕ). answer rowCount (settledLog (a .table .now) room (s .log))) (r .read-rows .kept .1 .1 .0))
 
 pub read-spec : {M : Type 1} → statement M
 read-spec =

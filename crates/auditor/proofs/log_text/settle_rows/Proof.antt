@@ -9,7 +9,7 @@ use Rattle.model.specs.Words.{Words}
 use Rattle.model.specs.Answer.{passed}
 use Rattle.model.specs.Log.{askLog}
 use Rattle.tables.specs.Checked.{outcome}
-use Rattle.texts.specs.Rows.{askText}
+use Rattle.csv_reading.specs.Rows.{askText}
 use Rattle.auditor.proofs.LogReading.{log-long, log-stands, settled-many, settled-refused, settled-passed}
 use borrow.Author.Needs.{needs}
 use Rattle.auditor.proofs.log_text.settle_rows.Statement.{statement}
@@ -19,7 +19,8 @@ returns : tie.Need-returns
 returns c =
     let s = c .before .before in
     let a = s .args in
-    λ log e. settled-many (a .table .now) _ log (a .rows) (log-long (a .table .now) (a .text .now) (a .buffer .now) (a .rows) (s .pre .1) log e) (c .if1 .taken)
+    λ log e. settled-many (a .table .now) _ log (a .rows)
+    (log-long (a .table .now) (a .text .now) (a .buffer .now) (a .rows) (s .pre .1) log e) (c .if1 .taken)
 
 mul-n : tie.Need-mul-n
 mul-n c = search needs
@@ -78,9 +79,9 @@ returns-4 c =
     let k = c .before .before in
     let s = k .before .before .before .before .before in
     let a = s .args in
-    λ log e.
-    let long = log-long (a .table .now) (a .text .now) (a .buffer .now) (a .rows) (s .pre .1) log e in
-    settled-passed (a .table .now) _ log (a .rows) long (sym (asked-of k log e) ∙ ap outcome (c .enum-told .given .1)) (omega (arith, k .before .before .if2 .left))
+    λ log e. let long = log-long (a .table .now) (a .text .now) (a .buffer .now) (a .rows) (s .pre .1) log e in
+    settled-passed (a .table .now) _ log (a .rows) long (sym (asked-of k log e) ∙ ap outcome (c .enum-told .given .1))
+    (omega (arith, k .before .before .if2 .left))
 
 pub settle-rows-spec : {M : Type 1} → statement M
 settle-rows-spec =

@@ -13,7 +13,7 @@ use Rattle.auditor.proofs.policy_text.read.Tie as tie
 use Rattle.auditor.proofs.policy_text.read.Reads as reads
 use Rattle.auditor.proofs.policy_text.read.Lts as lts
 use Rattle.auditor.proofs.policy_text.settle.Reads as settle-reads
-use Rattle.parsing.proofs.policy.policy.Reads as policy-reads
+use Rattle.tptp_reading.proofs.policy.policy.Reads as policy-reads
 use Rattle.tables.proofs.table.check_table.Reads as check-table-reads
 
 check-table-requires : tie.Need-check-table-requires
@@ -24,8 +24,10 @@ enum-known-first c = search needs
 
 returns : tie.Need-returns
 returns c =
-    let a = c .before .before .before .before .before .args in
-    table-refused (a .table .now) (a .text .now) _ _ (sym (c .before .before .before .check-table .ensures) ∙ ap outcome (c .before .first .given .1))
+    let at-check-table = c .before .before .before in
+    let a = at-check-table .before .before .args in
+    table-refused (a .table .now) (a .text .now) _ _
+    (sym (at-check-table .check-table .ensures) ∙ ap outcome (c .before .first .given .1))
 
 enum-told : tie.Need-enum-told
 enum-told c = search needs
@@ -52,17 +54,27 @@ same-length c = search needs
 
 returns-2 : tie.Need-returns-2
 returns-2 c =
-    let a = c .before .before .before .before .before .before .before .before .before .before .before .args in
-    came-refused (a .table .now) (a .text .now) (a .buffer .now) _ (good-table (c .before .before .before .before .before .before .before)) (c .before .before .before .before .before .policy .result) (c .before .before .before .before .before .policy .ensures) (c .before .end .given .1)
+    let at-policy = c .before .before .before .before .before in
+    let policy = at-policy .policy in
+    let then = at-policy .before .before in
+    let a = then .before .before .before .before .args in
+    came-refused (a .table .now) (a .text .now) (a .buffer .now) _ (good-table then) (policy .result) (policy .ensures)
+    (c .before .end .given .1)
 
 same-length-2 : tie.Need-same-length-2
 same-length-2 c = search needs
 
 returns-3 : tie.Need-returns-3
 returns-3 c =
-    let a = c .before .before .before .before .before .before .before .before .before .before .before .args in
-    came-read (a .table .now) (a .text .now) (a .buffer .now) _ (good-table (c .before .before .before .before .before .before .before)) (c .before .before .before .before .before .policy .result) (c .before .before .before .before .before .policy .ensures) (c .before .enum-told2 .given .1) _
-    (c .settle .ensures ∙ ap (λ (room : ℕ). answer (λ _. c .before .before .before .before .before .policy .result .state .words) (settledPolicy room (c .before .before .before .before .before .policy .result .state))) (c .before .before .before .before .before .policy .kept .1 .1 .0))
+    let at-policy = c .before .before .before .before .before in
+    let policy = at-policy .policy in
+    let then = at-policy .before .before in
+    let a = then .before .before .before .before .args in
+    came-read (a .table .now) (a .text .now) (a .buffer .now) _ (good-table then) (policy .result) (policy .ensures)
+    (c .before .enum-told2 .given .1) _
+    (c .settle .ensures ∙ ap
+    (λ (room : ℕ). answer (λ _. policy .result .state .words) (settledPolicy room (policy .result .state)))
+    (policy .kept .1 .1 .0))
 
 pub read-spec : {M : Type 1} → statement M
 read-spec =

@@ -27,21 +27,30 @@ enum-known-moded c = search needs
 
 returns-3 : tie.Need-returns-3
 returns-3 c =
-    let a = c .before .before .before .before .before .before .args in
-    settle-moded (a .room) (a .state) (c .before .before .before .before .before .if1 .left) (c .before .before .before .enum-told .given .1) (c .before .moded .given .1)
+    let at-enum-told = c .before .before .before in
+    let at-if1 = at-enum-told .before .before in
+    let a = at-if1 .before .args in
+    settle-moded (a .room) (a .state) (at-if1 .if1 .left) (at-enum-told .enum-told .given .1)
+    (c .before .moded .given .1)
 
 enum-told-2 : tie.Need-enum-told-2
 enum-told-2 c = search needs
 
 returns-4 : tie.Need-returns-4
 returns-4 c =
-    let a = c .before .before .before .before .before .before .args in
-    settle-short (a .room) (a .state) (c .before .before .before .before .before .if1 .left) (c .before .before .before .enum-told .given .1) (c .before .enum-told2 .given .1) (c .if2 .taken)
+    let at-enum-told = c .before .before .before in
+    let at-if1 = at-enum-told .before .before in
+    let a = at-if1 .before .args in
+    settle-short (a .room) (a .state) (at-if1 .if1 .left) (at-enum-told .enum-told .given .1)
+    (c .before .enum-told2 .given .1) (c .if2 .taken)
 
 returns-5 : tie.Need-returns-5
 returns-5 c =
-    let a = c .before .before .before .before .before .before .args in
-    settle-passed (a .room) (a .state) (c .before .before .before .before .before .if1 .left) (c .before .before .before .enum-told .given .1) (c .before .enum-told2 .given .1) (c .if2 .left)
+    let at-enum-told = c .before .before .before in
+    let at-if1 = at-enum-told .before .before in
+    let a = at-if1 .before .args in
+    settle-passed (a .room) (a .state) (at-if1 .if1 .left) (at-enum-told .enum-told .given .1)
+    (c .before .enum-told2 .given .1) (c .if2 .left)
 
 pub settle-spec : {M : Type 1} → statement M
 settle-spec =

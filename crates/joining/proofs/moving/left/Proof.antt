@@ -67,8 +67,11 @@ same-length c = long (c .before)
 
 returns : tie.Need-returns Inv-loop μ-loop
 returns c =
-    let a = c .before .before .args in
-    left-end (a .out .now) (a .at) (a .n) (c .before .before .pre) (c .before .loop .i) (c .before .loop .out) (c .before .loop .inv) (c .loop-test .left)
+    let at-loop = c .before in
+    let loop = at-loop .loop in
+    let start = at-loop .before in
+    let a = start .args in
+    left-end (a .out .now) (a .at) (a .n) (start .pre) (loop .i) (loop .out) (loop .inv) (c .loop-test .left)
 
 pub left-spec : {M : Type 1} → statement M
 left-spec =

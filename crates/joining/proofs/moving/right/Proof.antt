@@ -43,21 +43,26 @@ loop-less c = omega arith
 
 loop-again : tie.Need-loop-again Inv-loop μ-loop
 loop-again c =
-    let a = c .before .before .before .args in
-    let l = c .before .before .loop in
+    let at-loop = c .before .before in
+    let start = at-loop .before in
+    let a = start .args in
+    let l = at-loop .loop in
     let i = l .i - 1 in
     let z = getD (l .out) i (pos 0) in
     let back : toZ w32 (ofZ w32 z) ≡ z = search needs in
-    right-more (a .out .now) (a .n) (c .before .before .before .pre) (l .i) i (l .out) (l .inv) (omega (arith, c .before .loop-test .taken)) _ back _ refl
-    (length-set (l .out) (i + 2) _)
+    right-more (a .out .now) (a .n) (start .pre) (l .i) i (l .out) (l .inv) (omega (arith, c .before .loop-test .taken))
+    _ back _ refl (length-set (l .out) (i + 2) _)
 
 same-length : tie.Need-same-length Inv-loop μ-loop
 same-length c = c .before .loop .inv .1
 
 returns : tie.Need-returns Inv-loop μ-loop
 returns c =
-    let a = c .before .before .args in
-    right-end (a .out .now) (a .n) (c .before .before .pre) (c .before .loop .i) (c .before .loop .out) (c .before .loop .inv) (c .loop-test .left)
+    let at-loop = c .before in
+    let loop = at-loop .loop in
+    let start = at-loop .before in
+    let a = start .args in
+    right-end (a .out .now) (a .n) (start .pre) (loop .i) (loop .out) (loop .inv) (c .loop-test .left)
 
 pub right-spec : {M : Type 1} → statement M
 right-spec =

@@ -20,7 +20,7 @@ use Rattle.policies.proofs.node.Tag.{the-type as tag-type}
 use Rattle.policies.proofs.ModeWalk.{here-atom, here-join, here-some, low, inside, inside-all}
 use Rattle.listing.specs.Keeping.{LeafTag}
 use Rattle.listing.specs.Restrictions.{MakesTree}
-use Rattle.listing.proofs.WayLaws.{terms-there}
+use Rattle.listing.proofs.AtomLaws.{terms-there}
 use Rattle.listing.proofs.WalkLaws.{AllSoFar, all-first, all-asks, all-next, all-stop, all-numbers, all-more, all-last}
 use Rattle.listing.proofs.WalkLaws.{AnySoFar, any-first, any-asks, any-moves, any-next, any-stop, any-numbers, any-more, any-last}
 use Rattle.listing.proofs.WalkLaws.{from-atom, from-kept, from-join, from-some}
@@ -40,8 +40,8 @@ use Rattle.listing.proofs.restriction.+list+list_all+list_any+list_some
 use Rattle.listing.proofs.restriction.list_some.Reads as list-some
 use Rattle.listing.proofs.restriction.list_some.Kinds as list-some-kinds
 use Rattle.listing.proofs.restriction.+list+list_all+list_any+list_some.Lts-list_some as list-some-lts
-use Rattle.listing.proofs.lists.move_list.Reads as move-list-reads
-use Rattle.listing.proofs.lists.release_all.Reads as release-all-reads
+use Rattle.environments.proofs.lists.move_list.Reads as move-list-reads
+use Rattle.environments.proofs.lists.release_all.Reads as release-all-reads
 use Rattle.listing.proofs.restriction.Room.behind.Reads as behind-reads
 use Rattle.listing.proofs.restriction.Room.counted.Reads as counted-reads
 use Rattle.listing.proofs.restriction.Room.joined.Reads as joined-reads
@@ -170,7 +170,14 @@ module _ (t : ℕ) where
   list-enum-known-tag c = search needs
 
   list-add-value : list-lts.Need-add-value list-calls list-at list.Post
-  list-add-value c = omega (arith, inside (c .before .before .before .before .before .before .args .table .now) (c .before .before .before .before .before .before .args .words .now) restriction (c .before .before .before .before .before .before .args .above) (c .before .before .before .before .before .before .args .scope) (c .before .before .before .before .before .before .args .at) (c .before .before .before .before .before .before .pre .1 .3), c .before .before .before .before .before .before .good .1 .0)
+  list-add-value c =
+      let start = c .before .before .before .before .before .before in
+      let a = start .args in
+      omega (
+        arith,
+        inside (a .table .now) (a .words .now) restriction (a .above) (a .scope) (a .at) (start .pre .1 .3),
+        start .good .1 .0,
+      )
 
   list-value-requires : list-lts.Need-value-requires list-calls list-at list.Post
   list-value-requires c κs = search needs
@@ -180,101 +187,262 @@ module _ (t : ℕ) where
 
   list-add-list-all-2 : list-lts.Need-add-list-all-2 list-calls list-at list.Post
   list-add-list-all-2 c =
-      let j = here-join (c .before .before .before .before .before .before .before .before .before .args .table .now) (c .before .before .before .before .before .before .before .before .before .args .words .now) (c .before .before .before .before .before .before .before .before .before .args .above) (c .before .before .before .before .before .before .before .before .before .args .scope) (c .before .before .before .before .before .before .before .before .before .args .at) (c .before .before .before .before .before .before .before .before .before .pre .1 .0 .looks .few) (c .before .before .before .before .before .before .before .before .before .pre .1 .2) _ (ap asTag (sym (c .before .before .before .before .tag .given .1)) ∙ c .before .before .before .before .before .before .tag-at .ensures) (c .before .before .before .before .before .before .before .before .before .pre .1 .3) in
-      omega (arith, inside-all (c .before .before .before .before .before .before .before .before .before .args .table .now) (c .before .before .before .before .before .before .before .before .before .args .words .now) restriction (c .before .before .before .before .before .before .before .before .before .args .above + 1) (c .before .before .before .before .before .before .before .before .before .args .scope) (c .before .before .before .before .before .before .before .before .before .args .at + 2) _ (j .0), c .before .before .before .before .before .before .before .before .before .good .1 .0)
+      let at-tag = c .before .before .before .before in
+      let at-tag-at = at-tag .before .before in
+      let start = at-tag-at .before .before .before in
+      let a = start .args in
+      let j =
+      here-join (a .table .now) (a .words .now) (a .above) (a .scope) (a .at) (start .pre .1 .0 .looks .few)
+      (start .pre .1 .2) _ (ap asTag (sym (at-tag .tag .given .1)) ∙ at-tag-at .tag-at .ensures) (start .pre .1 .3) in
+      omega (
+        arith,
+        inside-all (a .table .now) (a .words .now) restriction (a .above + 1) (a .scope) (a .at + 2) _ (j .0),
+        start .good .1 .0,
+      )
 
   list-list-all-requires : list-lts.Need-list-all-requires list-calls list-at list.Post
   list-list-all-requires c κs =
-      let j = here-join (c .before .before .before .before .before .before .before .before .before .args .table .now) (c .before .before .before .before .before .before .before .before .before .args .words .now) (c .before .before .before .before .before .before .before .before .before .args .above) (c .before .before .before .before .before .before .before .before .before .args .scope) (c .before .before .before .before .before .before .before .before .before .args .at) (c .before .before .before .before .before .before .before .before .before .pre .1 .0 .looks .few) (c .before .before .before .before .before .before .before .before .before .pre .1 .2) _ (ap asTag (sym (c .before .before .before .before .tag .given .1)) ∙ c .before .before .before .before .before .before .tag-at .ensures) (c .before .before .before .before .before .before .before .before .before .pre .1 .3) in
-      let l = low (c .before .before .before .before .before .before .before .before .before .args .table .now) (c .before .before .before .before .before .before .before .before .before .args .words .now) restriction (c .before .before .before .before .before .before .before .before .before .args .above) (c .before .before .before .before .before .before .before .before .before .args .scope) (c .before .before .before .before .before .before .before .before .before .args .at) (c .before .before .before .before .before .before .before .before .before .pre .1 .3) in
-      let here = subst (λ (n : ℕ). HereAll (c .before .before .before .before .before .before .before .before .before .args .table .now) (c .before .before .before .before .before .before .before .before .before .args .words .now) restriction (c .before .before .before .before .before .before .before .before .before .args .above + 1) (c .before .before .before .before .before .before .before .before .before .args .scope) n (c .before .before .before .before .before .before .before .before .before .args .at + 2)) (sym (c .before .before .value .ensures)) (j .0) in
-      (omega (arith, l, c .before .before .before .before .before .before .before .before .before .pre .0), (c .before .before .before .before .before .before .before .before .before .pre .1 .0, l, c .before .before .before .before .before .before .before .before .before .pre .1 .2, omega (arith, j .1, c .before .before .value .ensures), here, c .before .before .before .before .before .before .before .before .before .pre .1 .4, c .before .before .before .before .before .before .before .before .before .pre .1 .5))
+      let at-value = c .before .before in
+      let value = at-value .value in
+      let at-tag = at-value .before .before in
+      let at-tag-at = at-tag .before .before in
+      let start = at-tag-at .before .before .before in
+      let a = start .args in
+      let j =
+      here-join (a .table .now) (a .words .now) (a .above) (a .scope) (a .at) (start .pre .1 .0 .looks .few)
+      (start .pre .1 .2) _ (ap asTag (sym (at-tag .tag .given .1)) ∙ at-tag-at .tag-at .ensures) (start .pre .1 .3) in
+      let l = low (a .table .now) (a .words .now) restriction (a .above) (a .scope) (a .at) (start .pre .1 .3) in
+      let here =
+      subst (λ (n : ℕ). HereAll (a .table .now) (a .words .now) restriction (a .above + 1) (a .scope) n (a .at + 2))
+      (sym (value .ensures)) (j .0) in (
+        omega (arith, l, start .pre .0),
+        (
+          start .pre .1 .0,
+          l,
+          start .pre .1 .2,
+          omega (arith, j .1, value .ensures),
+          here,
+          start .pre .1 .4,
+          start .pre .1 .5,
+        ),
+      )
 
   list-add-list-any : list-lts.Need-add-list-any list-calls list-at list.Post
   list-add-list-any c = omega (arith, c .before .before .before .before .before .before .before .before .before .pre .1 .1)
 
   list-add-list-any-2 : list-lts.Need-add-list-any-2 list-calls list-at list.Post
   list-add-list-any-2 c =
-      let j = here-join (c .before .before .before .before .before .before .before .before .before .args .table .now) (c .before .before .before .before .before .before .before .before .before .args .words .now) (c .before .before .before .before .before .before .before .before .before .args .above) (c .before .before .before .before .before .before .before .before .before .args .scope) (c .before .before .before .before .before .before .before .before .before .args .at) (c .before .before .before .before .before .before .before .before .before .pre .1 .0 .looks .few) (c .before .before .before .before .before .before .before .before .before .pre .1 .2) _ (ap asTag (sym (c .before .before .before .before .tag .given .1)) ∙ c .before .before .before .before .before .before .tag-at .ensures) (c .before .before .before .before .before .before .before .before .before .pre .1 .3) in
-      omega (arith, inside-all (c .before .before .before .before .before .before .before .before .before .args .table .now) (c .before .before .before .before .before .before .before .before .before .args .words .now) restriction (c .before .before .before .before .before .before .before .before .before .args .above + 1) (c .before .before .before .before .before .before .before .before .before .args .scope) (c .before .before .before .before .before .before .before .before .before .args .at + 2) _ (j .0), c .before .before .before .before .before .before .before .before .before .good .1 .0)
+      let at-tag = c .before .before .before .before in
+      let at-tag-at = at-tag .before .before in
+      let start = at-tag-at .before .before .before in
+      let a = start .args in
+      let j =
+      here-join (a .table .now) (a .words .now) (a .above) (a .scope) (a .at) (start .pre .1 .0 .looks .few)
+      (start .pre .1 .2) _ (ap asTag (sym (at-tag .tag .given .1)) ∙ at-tag-at .tag-at .ensures) (start .pre .1 .3) in
+      omega (
+        arith,
+        inside-all (a .table .now) (a .words .now) restriction (a .above + 1) (a .scope) (a .at + 2) _ (j .0),
+        start .good .1 .0,
+      )
 
   list-list-any-requires : list-lts.Need-list-any-requires list-calls list-at list.Post
   list-list-any-requires c κs =
-      let j = here-join (c .before .before .before .before .before .before .before .before .before .args .table .now) (c .before .before .before .before .before .before .before .before .before .args .words .now) (c .before .before .before .before .before .before .before .before .before .args .above) (c .before .before .before .before .before .before .before .before .before .args .scope) (c .before .before .before .before .before .before .before .before .before .args .at) (c .before .before .before .before .before .before .before .before .before .pre .1 .0 .looks .few) (c .before .before .before .before .before .before .before .before .before .pre .1 .2) _ (ap asTag (sym (c .before .before .before .before .tag .given .1)) ∙ c .before .before .before .before .before .before .tag-at .ensures) (c .before .before .before .before .before .before .before .before .before .pre .1 .3) in
-      let l = low (c .before .before .before .before .before .before .before .before .before .args .table .now) (c .before .before .before .before .before .before .before .before .before .args .words .now) restriction (c .before .before .before .before .before .before .before .before .before .args .above) (c .before .before .before .before .before .before .before .before .before .args .scope) (c .before .before .before .before .before .before .before .before .before .args .at) (c .before .before .before .before .before .before .before .before .before .pre .1 .3) in
-      let here = subst (λ (n : ℕ). HereAll (c .before .before .before .before .before .before .before .before .before .args .table .now) (c .before .before .before .before .before .before .before .before .before .args .words .now) restriction (c .before .before .before .before .before .before .before .before .before .args .above + 1) (c .before .before .before .before .before .before .before .before .before .args .scope) n (c .before .before .before .before .before .before .before .before .before .args .at + 2)) (sym (c .before .before .value .ensures)) (j .0) in
-      (omega (arith, l, c .before .before .before .before .before .before .before .before .before .pre .0), (c .before .before .before .before .before .before .before .before .before .pre .1 .0, l, c .before .before .before .before .before .before .before .before .before .pre .1 .2, omega (arith, j .1, c .before .before .value .ensures), here, c .before .before .before .before .before .before .before .before .before .pre .1 .4, c .before .before .before .before .before .before .before .before .before .pre .1 .5))
+      let at-value = c .before .before in
+      let value = at-value .value in
+      let at-tag = at-value .before .before in
+      let at-tag-at = at-tag .before .before in
+      let start = at-tag-at .before .before .before in
+      let a = start .args in
+      let j =
+      here-join (a .table .now) (a .words .now) (a .above) (a .scope) (a .at) (start .pre .1 .0 .looks .few)
+      (start .pre .1 .2) _ (ap asTag (sym (at-tag .tag .given .1)) ∙ at-tag-at .tag-at .ensures) (start .pre .1 .3) in
+      let l = low (a .table .now) (a .words .now) restriction (a .above) (a .scope) (a .at) (start .pre .1 .3) in
+      let here =
+      subst (λ (n : ℕ). HereAll (a .table .now) (a .words .now) restriction (a .above + 1) (a .scope) n (a .at + 2))
+      (sym (value .ensures)) (j .0) in (
+        omega (arith, l, start .pre .0),
+        (
+          start .pre .1 .0,
+          l,
+          start .pre .1 .2,
+          omega (arith, j .1, value .ensures),
+          here,
+          start .pre .1 .4,
+          start .pre .1 .5,
+        ),
+      )
 
   list-enum-told : list-lts.Need-enum-told list-calls list-at list.Post
   list-enum-told c = search needs
 
   list-list-some-requires : list-lts.Need-list-some-requires list-calls list-at list.Post
   list-list-some-requires c κs =
-      let k = here-some (c .before .before .before .before .before .before .args .table .now) (c .before .before .before .before .before .before .args .words .now) (c .before .before .before .before .before .before .args .above) (c .before .before .before .before .before .before .args .scope) (c .before .before .before .before .before .before .args .at) (c .before .before .before .before .before .before .pre .1 .0 .looks .few) (c .before .before .before .before .before .before .pre .1 .2) (ap asTag (sym (c .before .enum-told .given .1)) ∙ c .before .before .before .tag-at .ensures) (c .before .before .before .before .before .before .pre .1 .3) in
-      let l = low (c .before .before .before .before .before .before .args .table .now) (c .before .before .before .before .before .before .args .words .now) restriction (c .before .before .before .before .before .before .args .above) (c .before .before .before .before .before .before .args .scope) (c .before .before .before .before .before .before .args .at) (c .before .before .before .before .before .before .pre .1 .3) in
-      (omega (arith, l, c .before .before .before .before .before .before .pre .0), (c .before .before .before .before .before .before .pre .1 .0, omega (arith, l), omega (arith, k .0), k .1, c .before .before .before .before .before .before .pre .1 .4, c .before .before .before .before .before .before .pre .1 .5))
+      let at-tag-at = c .before .before .before in
+      let start = at-tag-at .before .before .before in
+      let a = start .args in
+      let k =
+      here-some (a .table .now) (a .words .now) (a .above) (a .scope) (a .at) (start .pre .1 .0 .looks .few)
+      (start .pre .1 .2) (ap asTag (sym (c .before .enum-told .given .1)) ∙ at-tag-at .tag-at .ensures)
+      (start .pre .1 .3) in
+      let l = low (a .table .now) (a .words .now) restriction (a .above) (a .scope) (a .at) (start .pre .1 .3) in (
+        omega (arith, l, start .pre .0),
+        (start .pre .1 .0, omega (arith, l), omega (arith, k .0), k .1, start .pre .1 .4, start .pre .1 .5),
+      )
 
   list-enum-known-tag-2 : list-lts.Need-enum-known-tag-2 list-calls list-at list.Post
   list-enum-known-tag-2 c = search needs
 
   list-list-atom-requires : list-lts.Need-list-atom-requires list-calls list-at list.Post
-  list-list-atom-requires c κs = (
-    c .before .before .before .before .before .before .before .before .pre .1 .0 .trueRows,
-    here-atom (c .before .before .before .before .before .before .before .before .args .table .now) (c .before .before .before .before .before .before .before .before .args .words .now) (c .before .before .before .before .before .before .before .before .args .above) (c .before .before .before .before .before .before .before .before .args .scope) (c .before .before .before .before .before .before .before .before .args .at) (c .before .before .before .before .before .before .before .before .pre .1 .0 .looks .few) (c .before .before .before .before .before .before .before .before .pre .1 .2) _ (ap asTag (sym (c .before .before .before .tag2 .given .1)) ∙ c .before .before .before .before .before .tag-at .ensures) (c .before .before .before .before .before .before .before .before .pre .1 .3) (omega (arith, c .before .before .before .before .before .before .before .before .good .1 .0)),
-    c .before .before .before .before .before .before .before .before .pre .1 .4,
-    c .before .before .before .before .before .before .before .before .pre .1 .5,
-    terms-there (c .before .before .before .before .before .before .before .before .args .table .now) (c .before .before .before .before .before .before .before .before .args .words .now) (c .before .before .before .before .before .before .before .before .args .above) (c .before .before .before .before .before .before .before .before .args .scope) (c .before .before .before .before .before .before .before .before .args .at) _ (ap asTag (sym (c .before .before .before .tag2 .given .1)) ∙ c .before .before .before .before .before .tag-at .ensures) (c .before .before .before .before .before .before .before .before .pre .1 .3),
-  )
+  list-list-atom-requires c κs =
+      let at-tag2 = c .before .before .before in
+      let tag2 = at-tag2 .tag2 in
+      let at-tag-at = at-tag2 .before .before in
+      let tag-at = at-tag-at .tag-at in
+      let start = at-tag-at .before .before .before in
+      let a = start .args in (
+        start .pre .1 .0 .trueRows,
+        here-atom (a .table .now) (a .words .now) (a .above) (a .scope) (a .at)
+            (start .pre .1 .0 .looks .few) (start .pre .1 .2) _ (ap asTag (sym (tag2 .given .1)) ∙ tag-at .ensures)
+            (start .pre .1 .3) (omega (arith, start .good .1 .0)),
+        start .pre .1 .4,
+        start .pre .1 .5,
+        terms-there
+            (a .table .now) (a .words .now) (a .above) (a .scope) (a .at) _
+            (ap asTag (sym (tag2 .given .1)) ∙ tag-at .ensures) (start .pre .1 .3),
+      )
 
   list-list-kept-requires : list-lts.Need-list-kept-requires list-calls list-at list.Post
-  list-list-kept-requires c κs = (c .before .before .before .before .before .before .before .before .pre .1 .0 .looks, (c .before .before .before .before .before .before .before .before .args .above, c .before .before .before .before .before .before .before .before .args .scope, c .before .before .before .before .before .before .before .before .pre .1 .2, c .before .before .before .before .before .before .before .before .pre .1 .3), (ap asTag (sym (c .before .before .before .tag2 .given .1)) ∙ c .before .before .before .before .before .tag-at .ensures), c .before .before .before .before .before .before .before .before .pre .1 .4, c .before .before .before .before .before .before .before .before .pre .1 .5)
+  list-list-kept-requires c κs =
+      let at-tag2 = c .before .before .before in
+      let at-tag-at = at-tag2 .before .before in
+      let start = at-tag-at .before .before .before in
+      let a = start .args in (
+        start .pre .1 .0 .looks,
+        (a .above, a .scope, start .pre .1 .2, start .pre .1 .3),
+        (ap asTag (sym (at-tag2 .tag2 .given .1)) ∙ at-tag-at .tag-at .ensures),
+        start .pre .1 .4,
+        start .pre .1 .5,
+      )
 
   list-list-kept-requires-2 : list-lts.Need-list-kept-requires-2 list-calls list-at list.Post
-  list-list-kept-requires-2 c κs = (c .before .before .before .before .before .pre .1 .0 .looks, (c .before .before .before .before .before .args .above, c .before .before .before .before .before .args .scope, c .before .before .before .before .before .pre .1 .2, c .before .before .before .before .before .pre .1 .3), c .before .before .tag-at .ensures, c .before .before .before .before .before .pre .1 .4, c .before .before .before .before .before .pre .1 .5)
+  list-list-kept-requires-2 c κs =
+      let at-tag-at = c .before .before in
+      let start = at-tag-at .before .before .before in
+      let a = start .args in (
+        start .pre .1 .0 .looks,
+        (a .above, a .scope, start .pre .1 .2, start .pre .1 .3),
+        at-tag-at .tag-at .ensures,
+        start .pre .1 .4,
+        start .pre .1 .5,
+      )
 
   list-same-length : list-lts.Need-same-length list-calls list-at list.Post
   list-same-length c = c .before .list-all .kept .1 .1 .1 .1 .1 .0
 
   list-returns : list-lts.Need-returns list-calls list-at list.Post
-  list-returns c = λ es h. from-join (c .before .before .before .before .before .before .before .before .before .before .before .args .table .now) (c .before .before .before .before .before .before .before .before .before .before .before .args .words .now) (c .before .before .before .before .before .before .before .before .before .before .before .args .log .now) (c .before .before .before .before .before .before .before .before .before .before .before .args .above) (c .before .before .before .before .before .before .before .before .before .before .before .args .scope) (c .before .before .before .before .before .before .before .before .before .before .before .args .at) es (c .before .before .before .before .before .before .before .before .before .before .before .args .room) (c .before .before .before .before .before .before .before .before .before .before .before .args .scratch .now) _ _ true (ap T.Tag.join (sym (c .before .before .before .if1 .taken)) ∙ (ap asTag (sym (c .before .before .before .before .before .before .tag .given .1)) ∙ c .before .before .before .before .before .before .before .before .tag-at .ensures)) (λ ts next nodes n. c .before .list-all .ensures es h ts next nodes (n ∙ sym (c .before .before .before .before .value .ensures)))
+  list-returns c =
+      let at-if1 = c .before .before .before in
+      let at-value = at-if1 .before in
+      let at-tag = at-value .before .before in
+      let at-tag-at = at-tag .before .before in
+      let a = at-tag-at .before .before .before .args in
+      λ es h. from-join (a .table .now) (a .words .now) (a .log .now) (a .above) (a .scope) (a .at) es (a .room)
+      (a .scratch .now) _ _ true
+      (ap T.Tag.join (sym (at-if1 .if1 .taken)) ∙ (ap asTag (sym (at-tag .tag .given .1)) ∙ at-tag-at .tag-at .ensures))
+      (λ ts next nodes n. c .before .list-all .ensures es h ts next nodes (n ∙ sym (at-value .value .ensures)))
 
   list-same-length-2 : list-lts.Need-same-length-2 list-calls list-at list.Post
   list-same-length-2 c = c .before .list-any .kept .1 .1 .1 .1 .1 .0
 
   list-returns-2 : list-lts.Need-returns-2 list-calls list-at list.Post
-  list-returns-2 c = λ es h. from-join (c .before .before .before .before .before .before .before .before .before .before .before .args .table .now) (c .before .before .before .before .before .before .before .before .before .before .before .args .words .now) (c .before .before .before .before .before .before .before .before .before .before .before .args .log .now) (c .before .before .before .before .before .before .before .before .before .before .before .args .above) (c .before .before .before .before .before .before .before .before .before .before .before .args .scope) (c .before .before .before .before .before .before .before .before .before .before .before .args .at) es (c .before .before .before .before .before .before .before .before .before .before .before .args .room) (c .before .before .before .before .before .before .before .before .before .before .before .args .scratch .now) _ _ false (ap T.Tag.join (sym (c .before .before .before .if1 .left)) ∙ (ap asTag (sym (c .before .before .before .before .before .before .tag .given .1)) ∙ c .before .before .before .before .before .before .before .before .tag-at .ensures)) (λ ts next nodes n. c .before .list-any .ensures es h ts next nodes (n ∙ sym (c .before .before .before .before .value .ensures)))
+  list-returns-2 c =
+      let at-if1 = c .before .before .before in
+      let at-value = at-if1 .before in
+      let at-tag = at-value .before .before in
+      let at-tag-at = at-tag .before .before in
+      let a = at-tag-at .before .before .before .args in
+      λ es h. from-join (a .table .now) (a .words .now) (a .log .now) (a .above) (a .scope) (a .at) es (a .room)
+      (a .scratch .now) _ _ false
+      (ap T.Tag.join (sym (at-if1 .if1 .left)) ∙ (ap asTag (sym (at-tag .tag .given .1)) ∙ at-tag-at .tag-at .ensures))
+      (λ ts next nodes n. c .before .list-any .ensures es h ts next nodes (n ∙ sym (at-value .value .ensures)))
 
   list-same-length-3 : list-lts.Need-same-length-3 list-calls list-at list.Post
   list-same-length-3 c = c .before .list-some .kept .1 .1 .1 .1 .1 .0
 
   list-returns-3 : list-lts.Need-returns-3 list-calls list-at list.Post
-  list-returns-3 c = λ es h. from-some (c .before .before .before .before .before .before .before .before .args .table .now) (c .before .before .before .before .before .before .before .before .args .words .now) (c .before .before .before .before .before .before .before .before .args .log .now) (c .before .before .before .before .before .before .before .before .args .above) (c .before .before .before .before .before .before .before .before .args .scope) (c .before .before .before .before .before .before .before .before .args .at) es (c .before .before .before .before .before .before .before .before .args .room) (c .before .before .before .before .before .before .before .before .args .scratch .now) _ _ (ap asTag (sym (c .before .before .before .enum-told .given .1)) ∙ c .before .before .before .before .before .tag-at .ensures) (c .before .list-some .ensures es h)
+  list-returns-3 c =
+      let at-enum-told = c .before .before .before in
+      let at-tag-at = at-enum-told .before .before in
+      let a = at-tag-at .before .before .before .args in
+      λ es h. from-some (a .table .now) (a .words .now) (a .log .now) (a .above) (a .scope) (a .at) es (a .room)
+      (a .scratch .now) _ _ (ap asTag (sym (at-enum-told .enum-told .given .1)) ∙ at-tag-at .tag-at .ensures)
+      (c .before .list-some .ensures es h)
 
   list-same-length-4 : list-lts.Need-same-length-4 list-calls list-at list.Post
   list-same-length-4 c = c .before .list-atom .kept .1 .1 .1 .0
 
   list-returns-4 : list-lts.Need-returns-4 list-calls list-at list.Post
-  list-returns-4 c = λ es h. from-atom (c .before .before .before .before .before .before .before .before .before .before .args .table .now) (c .before .before .before .before .before .before .before .before .before .before .args .words .now) (c .before .before .before .before .before .before .before .before .before .before .args .log .now) (c .before .before .before .before .before .before .before .before .before .before .args .above) (c .before .before .before .before .before .before .before .before .before .before .args .scope) (c .before .before .before .before .before .before .before .before .before .before .args .at) es (c .before .before .before .before .before .before .before .before .before .before .args .room) (c .before .before .before .before .before .before .before .before .before .before .args .scratch .now) _ _ (ap T.Tag.atom (sym (c .before .before .before .if2 .taken)) ∙ (ap asTag (sym (c .before .before .before .before .before .tag2 .given .1)) ∙ c .before .before .before .before .before .before .before .tag-at .ensures)) (c .before .list-atom .ensures es (c .before .before .before .before .before .before .before .before .before .before .args .table .now) h)
+  list-returns-4 c =
+      let at-if2 = c .before .before .before in
+      let at-tag2 = at-if2 .before .before in
+      let at-tag-at = at-tag2 .before .before in
+      let a = at-tag-at .before .before .before .args in
+      λ es h. from-atom (a .table .now) (a .words .now) (a .log .now) (a .above) (a .scope) (a .at) es (a .room)
+      (a .scratch .now) _ _
+      (ap T.Tag.atom (sym (at-if2 .if2 .taken))
+      ∙ (ap asTag (sym (at-tag2 .tag2 .given .1)) ∙ at-tag-at .tag-at .ensures))
+      (c .before .list-atom .ensures es (a .table .now) h)
 
   list-same-length-5 : list-lts.Need-same-length-5 list-calls list-at list.Post
   list-same-length-5 c = c .before .list-kept .kept .1 .1 .1 .1 .0
 
   list-returns-5 : list-lts.Need-returns-5 list-calls list-at list.Post
-  list-returns-5 c = λ es h. from-kept (c .before .before .before .before .before .before .before .before .before .before .args .table .now) (c .before .before .before .before .before .before .before .before .before .before .args .words .now) (c .before .before .before .before .before .before .before .before .before .before .args .log .now) (c .before .before .before .before .before .before .before .before .before .before .args .above) (c .before .before .before .before .before .before .before .before .before .before .args .scope) (c .before .before .before .before .before .before .before .before .before .before .args .at) es (c .before .before .before .before .before .before .before .before .before .before .args .room) (c .before .before .before .before .before .before .before .before .before .before .args .scratch .now) _ _ (T.Tag.atom false) (ap T.Tag.atom (sym (c .before .before .before .if2 .left)) ∙ (ap asTag (sym (c .before .before .before .before .before .tag2 .given .1)) ∙ c .before .before .before .before .before .before .before .tag-at .ensures)) tt (c .before .list-kept .ensures es h)
+  list-returns-5 c =
+      let at-if2 = c .before .before .before in
+      let at-tag2 = at-if2 .before .before in
+      let at-tag-at = at-tag2 .before .before in
+      let a = at-tag-at .before .before .before .args in
+      λ es h. from-kept (a .table .now) (a .words .now) (a .log .now) (a .above) (a .scope) (a .at) es (a .room)
+      (a .scratch .now) _ _ (T.Tag.atom false)
+      (ap T.Tag.atom (sym (at-if2 .if2 .left)) ∙ (ap asTag (sym (at-tag2 .tag2 .given .1)) ∙ at-tag-at .tag-at .ensures))
+      tt (c .before .list-kept .ensures es h)
 
   list-same-length-6 : list-lts.Need-same-length-6 list-calls list-at list.Post
   list-same-length-6 c = c .before .list-kept2 .kept .1 .1 .1 .1 .0
 
   list-returns-6 : list-lts.Need-returns-6 list-calls list-at list.Post
-  list-returns-6 c = λ es h. from-kept (c .before .before .before .before .before .before .before .args .table .now) (c .before .before .before .before .before .before .before .args .words .now) (c .before .before .before .before .before .before .before .args .log .now) (c .before .before .before .before .before .before .before .args .above) (c .before .before .before .before .before .before .before .args .scope) (c .before .before .before .before .before .before .before .args .at) es (c .before .before .before .before .before .before .before .args .room) (c .before .before .before .before .before .before .before .args .scratch .now) _ _ (asTag (c .before .before .before .before .tag-at .result)) (c .before .before .before .before .tag-at .ensures) (other (c .before .before .before .before .tag-at .result) (c .before .before .before .match .keys4)) (c .before .list-kept2 .ensures es h)
+  list-returns-6 c =
+      let at-match = c .before .before .before in
+      let at-tag-at = at-match .before in
+      let tag-at = at-tag-at .tag-at in
+      let a = at-tag-at .before .before .before .args in
+      λ es h. from-kept (a .table .now) (a .words .now) (a .log .now) (a .above) (a .scope) (a .at) es (a .room)
+      (a .scratch .now) _ _ (asTag (tag-at .result)) (tag-at .ensures) (other (tag-at .result) (at-match .match .keys4))
+      (c .before .list-kept2 .ensures es h)
 
   list-all-loop-holds : list-all-lts.Need-loop-holds list-all-calls list-all-at list-all.Post list-all-Inv-loop list-all-μ-loop
-  list-all-loop-holds c = (omega arith, refl, all-first (c .before .before .args .table .now) (c .before .before .args .words .now) (c .before .before .args .log .now) (c .before .before .args .above) (c .before .before .args .scope) (c .before .before .args .n) (c .before .before .args .at) (c .before .before .args .room) (c .before .before .args .scratch .now) (c .before .before .pre .1 .5))
+  list-all-loop-holds c =
+      let start = c .before .before in
+      let a = start .args in (
+        omega arith,
+        refl,
+        all-first (a .table .now) (a .words .now) (a .log .now) (a .above) (a .scope) (a .n) (a .at)
+            (a .room) (a .scratch .now) (start .pre .1 .5),
+      )
 
   list-all-list-requires : list-all-lts.Need-list-requires list-all-calls list-all-at list-all.Post list-all-Inv-loop list-all-μ-loop
   list-all-list-requires c κs =
-      let (here, roomy, holds) = all-asks (c .before .before .before .before .before .args .table .now) (c .before .before .before .before .before .args .words .now) (c .before .before .before .before .before .args .log .now) (c .before .before .before .before .before .args .above) (c .before .before .before .before .before .args .scope) (c .before .before .before .before .before .args .n) (c .before .before .before .before .before .args .at) (c .before .before .before .before .before .args .room) (c .before .before .before .before .before .args .scratch .now) (c .before .before .before .before .before .pre .1 .5) (c .before .before .loop .i) (c .before .before .loop .next) (c .before .before .loop .handed) (c .before .before .loop .scratch) (c .before .before .loop .inv .2) (c .before .before .loop .inv .1) (c .before .loop-test .taken) (c .before .before .before .before .before .pre .1 .4) (c .before .before .before .before .before .pre .1 .6) in
-      (omega (arith, c .before .before .before .before .before .pre .0, c .before .before .before .before .before .pre .1 .1), (c .before .before .before .before .before .pre .1 .0, c .before .before .before .before .before .pre .1 .1, c .before .before .before .before .before .pre .1 .2, here, roomy, holds))
+      let at-loop = c .before .before in
+      let loop = at-loop .loop in
+      let start = at-loop .before .before .before in
+      let a = start .args in
+      let (here, roomy, holds) =
+      all-asks (a .table .now) (a .words .now) (a .log .now) (a .above) (a .scope) (a .n) (a .at) (a .room)
+      (a .scratch .now) (start .pre .1 .5) (loop .i) (loop .next) (loop .handed) (loop .scratch) (loop .inv .2)
+      (loop .inv .1) (c .before .loop-test .taken) (start .pre .1 .4) (start .pre .1 .6) in (
+        omega (arith, start .pre .0, start .pre .1 .1),
+        (start .pre .1 .0, start .pre .1 .1, start .pre .1 .2, here, roomy, holds),
+      )
 
   list-all-enum-known-child : list-all-lts.Need-enum-known-child list-all-calls list-all-at list-all.Post list-all-Inv-loop list-all-μ-loop
   list-all-enum-known-child c = search needs
@@ -283,45 +451,129 @@ module _ (t : ℕ) where
   list-all-enum-told c = search needs
 
   list-all-same-length : list-all-lts.Need-same-length list-all-calls list-all-at list-all.Post list-all-Inv-loop list-all-μ-loop
-  list-all-same-length c = c .before .before .before .list .kept .1 .1 .1 .1 .1 .0 ∙ c .before .before .before .before .before .before .loop .inv .1
+  list-all-same-length c =
+      let at-list = c .before .before .before in
+      let at-loop = at-list .before .before .before in
+      at-list .list .kept .1 .1 .1 .1 .1 .0 ∙ at-loop .loop .inv .1
 
   list-all-returns : list-all-lts.Need-returns list-all-calls list-all-at list-all.Post list-all-Inv-loop list-all-μ-loop
-  list-all-returns c = all-stop (c .before .before .before .before .before .before .before .before .before .args .table .now) (c .before .before .before .before .before .before .before .before .before .args .words .now) (c .before .before .before .before .before .before .before .before .before .args .log .now) (c .before .before .before .before .before .before .before .before .before .args .above) (c .before .before .before .before .before .before .before .before .before .args .scope) (c .before .before .before .before .before .before .before .before .before .args .n) (c .before .before .before .before .before .before .before .before .before .args .at) (c .before .before .before .before .before .before .before .before .before .args .room) (c .before .before .before .before .before .before .before .before .before .args .scratch .now) (c .before .before .before .before .before .before .before .before .before .pre .1 .5) (c .before .before .before .before .before .before .loop .i) (c .before .before .before .before .before .before .loop .next) (c .before .before .before .before .before .before .loop .handed) (c .before .before .before .before .before .before .loop .scratch) (c .before .before .before .before .before .before .loop .inv .2) (c .before .before .before .before .before .before .loop .inv .1) (c .before .before .before .before .before .loop-test .taken) (c .enum-told .given .1) (c .before .before .before .list .ensures)
+  list-all-returns c =
+      let at-list = c .before .before .before in
+      let at-loop-test = at-list .before .before in
+      let at-loop = at-loop-test .before in
+      let loop = at-loop .loop in
+      let start = at-loop .before .before .before in
+      let a = start .args in
+      all-stop (a .table .now) (a .words .now) (a .log .now) (a .above) (a .scope) (a .n) (a .at) (a .room)
+      (a .scratch .now) (start .pre .1 .5) (loop .i) (loop .next) (loop .handed) (loop .scratch) (loop .inv .2)
+      (loop .inv .1) (at-loop-test .loop-test .taken) (c .enum-told .given .1) (at-list .list .ensures)
 
   list-all-add-i : list-all-lts.Need-add-i list-all-calls list-all-at list-all.Post list-all-Inv-loop list-all-μ-loop
-  list-all-add-i c = omega (arith, c .before .before .before .before .before .before .loop-test .taken, c .before .before .before .before .before .before .before .before .before .before .fits .n)
+  list-all-add-i c =
+      let at-loop-test = c .before .before .before .before .before .before in
+      let at-fits = at-loop-test .before .before .before .before in
+      omega (arith, at-loop-test .loop-test .taken, at-fits .fits .n)
 
   list-all-loop-less : list-all-lts.Need-loop-less list-all-calls list-all-at list-all.Post list-all-Inv-loop list-all-μ-loop
   list-all-loop-less c = omega (arith, c .before .before .before .before .before .before .loop-test .taken)
 
   list-all-loop-again : list-all-lts.Need-loop-again list-all-calls list-all-at list-all.Post list-all-Inv-loop list-all-μ-loop
-  list-all-loop-again c = (omega (arith, c .before .before .before .before .before .before .loop-test .taken), c .before .before .before .before .list .kept .1 .1 .1 .1 .1 .0 ∙ c .before .before .before .before .before .before .before .loop .inv .1, all-next (c .before .before .before .before .before .before .before .before .before .before .args .table .now) (c .before .before .before .before .before .before .before .before .before .before .args .words .now) (c .before .before .before .before .before .before .before .before .before .before .args .log .now) (c .before .before .before .before .before .before .before .before .before .before .args .above) (c .before .before .before .before .before .before .before .before .before .before .args .scope) (c .before .before .before .before .before .before .before .before .before .before .args .n) (c .before .before .before .before .before .before .before .before .before .before .args .at) (c .before .before .before .before .before .before .before .before .before .before .args .room) (c .before .before .before .before .before .before .before .before .before .before .args .scratch .now) (c .before .before .before .before .before .before .before .before .before .before .pre .1 .5) (c .before .before .before .before .before .before .before .loop .i) (c .before .before .before .before .before .before .before .loop .next) (c .before .before .before .before .before .before .before .loop .handed) (c .before .before .before .before .before .before .before .loop .scratch) (c .before .before .before .before .before .before .before .loop .inv .2) (c .before .before .before .before .before .before .before .loop .inv .1) (c .before .before .before .before .before .before .loop-test .taken) (c .before .child .given .1) (c .before .before .before .before .list .ensures))
+  list-all-loop-again c =
+      let at-list = c .before .before .before .before in
+      let list = at-list .list in
+      let at-loop-test = at-list .before .before in
+      let loop-test = at-loop-test .loop-test in
+      let at-loop = at-loop-test .before in
+      let loop = at-loop .loop in
+      let start = at-loop .before .before .before in
+      let a = start .args in (
+        omega (arith, loop-test .taken),
+        list .kept .1 .1 .1 .1 .1 .0 ∙ loop .inv .1,
+        all-next (a .table .now)
+            (a .words .now) (a .log .now) (a .above) (a .scope) (a .n) (a .at) (a .room) (a .scratch .now) (start .pre .1 .5)
+            (loop .i) (loop .next) (loop .handed) (loop .scratch) (loop .inv .2) (loop .inv .1) (loop-test .taken)
+            (c .before .child .given .1) (list .ensures),
+      )
 
   list-all-sub-if1 : list-all-lts.Need-sub-if1 list-all-calls list-all-at list-all.Post list-all-Inv-loop list-all-μ-loop
-  list-all-sub-if1 c = omega (arith, all-numbers (c .before .before .before .before .before .args .table .now) (c .before .before .before .before .before .args .words .now) (c .before .before .before .before .before .args .log .now) (c .before .before .before .before .before .args .above) (c .before .before .before .before .before .args .scope) (c .before .before .before .before .before .args .n) (c .before .before .before .before .before .args .at) (c .before .before .before .before .before .args .room) (c .before .before .before .before .before .args .scratch .now) (c .before .before .before .before .before .pre .1 .5) (c .before .before .loop .i) (c .before .before .loop .next) (c .before .before .loop .handed) (c .before .before .loop .scratch) (c .before .before .loop .inv .2) (c .before .before .loop .inv .1) (c .before .before .before .before .before .pre .1 .4) (c .before .before .before .before .before .pre .1 .6))
+  list-all-sub-if1 c =
+      let at-loop = c .before .before in
+      let loop = at-loop .loop in
+      let start = at-loop .before .before .before in
+      let a = start .args in
+      omega (
+        arith,
+        all-numbers (a .table .now) (a .words .now) (a .log .now) (a .above) (a .scope) (a .n) (a .at) (a .room)
+            (a .scratch .now) (start .pre .1 .5) (loop .i) (loop .next) (loop .handed) (loop .scratch) (loop .inv .2)
+            (loop .inv .1) (start .pre .1 .4) (start .pre .1 .6),
+      )
 
   list-all-same-length-2 : list-all-lts.Need-same-length-2 list-all-calls list-all-at list-all.Post list-all-Inv-loop list-all-μ-loop
   list-all-same-length-2 c = c .before .before .before .before .loop .inv .1
 
   list-all-returns-2 : list-all-lts.Need-returns-2 list-all-calls list-all-at list-all.Post list-all-Inv-loop list-all-μ-loop
-  list-all-returns-2 c = all-more (c .before .before .before .before .before .before .before .args .table .now) (c .before .before .before .before .before .before .before .args .words .now) (c .before .before .before .before .before .before .before .args .log .now) (c .before .before .before .before .before .before .before .args .above) (c .before .before .before .before .before .before .before .args .scope) (c .before .before .before .before .before .before .before .args .n) (c .before .before .before .before .before .before .before .args .at) (c .before .before .before .before .before .before .before .args .room) (c .before .before .before .before .before .before .before .args .scratch .now) (c .before .before .before .before .before .before .before .pre .1 .5) (c .before .before .before .before .loop .i) (c .before .before .before .before .loop .next) (c .before .before .before .before .loop .handed) (c .before .before .before .before .loop .scratch) (c .before .before .before .before .loop .inv .2) (c .before .before .before .before .loop .inv .1) (c .before .before .before .loop-test .left) (c .if1 .taken)
+  list-all-returns-2 c =
+      let at-loop-test = c .before .before .before in
+      let at-loop = at-loop-test .before in
+      let loop = at-loop .loop in
+      let start = at-loop .before .before .before in
+      let a = start .args in
+      all-more (a .table .now) (a .words .now) (a .log .now) (a .above) (a .scope) (a .n) (a .at) (a .room)
+      (a .scratch .now) (start .pre .1 .5) (loop .i) (loop .next) (loop .handed) (loop .scratch) (loop .inv .2)
+      (loop .inv .1) (at-loop-test .loop-test .left) (c .if1 .taken)
 
   list-all-counted-requires : list-all-lts.Need-counted-requires list-all-calls list-all-at list-all.Post list-all-Inv-loop list-all-μ-loop
-  list-all-counted-requires c κs = omega (arith, all-numbers (c .before .before .before .before .before .before .before .args .table .now) (c .before .before .before .before .before .before .before .args .words .now) (c .before .before .before .before .before .before .before .args .log .now) (c .before .before .before .before .before .before .before .args .above) (c .before .before .before .before .before .before .before .args .scope) (c .before .before .before .before .before .before .before .args .n) (c .before .before .before .before .before .before .before .args .at) (c .before .before .before .before .before .before .before .args .room) (c .before .before .before .before .before .before .before .args .scratch .now) (c .before .before .before .before .before .before .before .pre .1 .5) (c .before .before .before .before .loop .i) (c .before .before .before .before .loop .next) (c .before .before .before .before .loop .handed) (c .before .before .before .before .loop .scratch) (c .before .before .before .before .loop .inv .2) (c .before .before .before .before .loop .inv .1) (c .before .before .before .before .before .before .before .pre .1 .4) (c .before .before .before .before .before .before .before .pre .1 .6), c .if1 .left)
+  list-all-counted-requires c κs =
+      let at-loop = c .before .before .before .before in
+      let loop = at-loop .loop in
+      let start = at-loop .before .before .before in
+      let a = start .args in
+      omega (
+        arith,
+        all-numbers (a .table .now) (a .words .now) (a .log .now) (a .above) (a .scope) (a .n) (a .at) (a .room)
+            (a .scratch .now) (start .pre .1 .5) (loop .i) (loop .next) (loop .handed) (loop .scratch) (loop .inv .2)
+            (loop .inv .1) (start .pre .1 .4) (start .pre .1 .6),
+        c .if1 .left,
+      )
 
   list-all-same-length-3 : list-all-lts.Need-same-length-3 list-all-calls list-all-at list-all.Post list-all-Inv-loop list-all-μ-loop
   list-all-same-length-3 c = c .before .before .before .before .before .loop .inv .1
 
   list-all-returns-3 : list-all-lts.Need-returns-3 list-all-calls list-all-at list-all.Post list-all-Inv-loop list-all-μ-loop
-  list-all-returns-3 c = all-last (c .before .before .before .before .before .before .before .before .args .table .now) (c .before .before .before .before .before .before .before .before .args .words .now) (c .before .before .before .before .before .before .before .before .args .log .now) (c .before .before .before .before .before .before .before .before .args .above) (c .before .before .before .before .before .before .before .before .args .scope) (c .before .before .before .before .before .before .before .before .args .n) (c .before .before .before .before .before .before .before .before .args .at) (c .before .before .before .before .before .before .before .before .args .room) (c .before .before .before .before .before .before .before .before .args .scratch .now) (c .before .before .before .before .before .before .before .before .pre .1 .5) (c .before .before .before .before .before .loop .i) (c .before .before .before .before .before .loop .next) (c .before .before .before .before .before .loop .handed) (c .before .before .before .before .before .loop .scratch) (c .before .before .before .before .before .loop .inv .2) (c .before .before .before .before .before .loop .inv .1) (c .before .before .before .before .loop-test .left) (c .before .before .before .before .before .before .before .before .pre .1 .3) (c .before .before .before .before .before .loop .inv .0) (c .before .if1 .left) (c .counted .ensures)
+  list-all-returns-3 c =
+      let at-loop-test = c .before .before .before .before in
+      let at-loop = at-loop-test .before in
+      let loop = at-loop .loop in
+      let start = at-loop .before .before .before in
+      let a = start .args in
+      all-last (a .table .now) (a .words .now) (a .log .now) (a .above) (a .scope) (a .n) (a .at) (a .room)
+      (a .scratch .now) (start .pre .1 .5) (loop .i) (loop .next) (loop .handed) (loop .scratch) (loop .inv .2)
+      (loop .inv .1) (at-loop-test .loop-test .left) (start .pre .1 .3) (loop .inv .0) (c .before .if1 .left)
+      (c .counted .ensures)
 
   list-any-loop-holds : list-any-lts.Need-loop-holds list-any-calls list-any-at list-any.Post list-any-Inv-loop list-any-μ-loop
-  list-any-loop-holds c = (omega arith, refl, any-first (c .before .before .args .table .now) (c .before .before .args .words .now) (c .before .before .args .log .now) (c .before .before .args .above) (c .before .before .args .scope) (c .before .before .args .n) (c .before .before .args .at) (c .before .before .args .room) (c .before .before .args .scratch .now) (c .before .before .pre .1 .5))
+  list-any-loop-holds c =
+      let start = c .before .before in
+      let a = start .args in (
+        omega arith,
+        refl,
+        any-first (a .table .now) (a .words .now) (a .log .now) (a .above) (a .scope) (a .n) (a .at)
+            (a .room) (a .scratch .now) (start .pre .1 .5),
+      )
 
   list-any-list-requires : list-any-lts.Need-list-requires list-any-calls list-any-at list-any.Post list-any-Inv-loop list-any-μ-loop
   list-any-list-requires c κs =
-      let (here, roomy, holds) = any-asks (c .before .before .before .before .before .args .table .now) (c .before .before .before .before .before .args .words .now) (c .before .before .before .before .before .args .log .now) (c .before .before .before .before .before .args .above) (c .before .before .before .before .before .args .scope) (c .before .before .before .before .before .args .n) (c .before .before .before .before .before .args .at) (c .before .before .before .before .before .args .room) (c .before .before .before .before .before .args .scratch .now) (c .before .before .before .before .before .pre .1 .5) (c .before .before .loop .i) (c .before .before .loop .next) (c .before .before .loop .branch) (c .before .before .loop .scratch) (c .before .before .loop .inv .2) (c .before .before .loop .inv .1) (c .before .loop-test .taken) (c .before .before .before .before .before .pre .1 .4) (c .before .before .before .before .before .pre .1 .6) in
-      (omega (arith, c .before .before .before .before .before .pre .0, c .before .before .before .before .before .pre .1 .1), (c .before .before .before .before .before .pre .1 .0, c .before .before .before .before .before .pre .1 .1, c .before .before .before .before .before .pre .1 .2, here, roomy, holds))
+      let at-loop = c .before .before in
+      let loop = at-loop .loop in
+      let start = at-loop .before .before .before in
+      let a = start .args in
+      let (here, roomy, holds) =
+      any-asks (a .table .now) (a .words .now) (a .log .now) (a .above) (a .scope) (a .n) (a .at) (a .room)
+      (a .scratch .now) (start .pre .1 .5) (loop .i) (loop .next) (loop .branch) (loop .scratch) (loop .inv .2)
+      (loop .inv .1) (c .before .loop-test .taken) (start .pre .1 .4) (start .pre .1 .6) in (
+        omega (arith, start .pre .0, start .pre .1 .1),
+        (start .pre .1 .0, start .pre .1 .1, start .pre .1 .2, here, roomy, holds),
+      )
 
   list-any-enum-known-child : list-any-lts.Need-enum-known-child list-any-calls list-any-at list-any.Post list-any-Inv-loop list-any-μ-loop
   list-any-enum-known-child c = search needs
@@ -330,51 +582,158 @@ module _ (t : ℕ) where
   list-any-enum-told c = search needs
 
   list-any-same-length : list-any-lts.Need-same-length list-any-calls list-any-at list-any.Post list-any-Inv-loop list-any-μ-loop
-  list-any-same-length c = c .before .before .before .list .kept .1 .1 .1 .1 .1 .0 ∙ c .before .before .before .before .before .before .loop .inv .1
+  list-any-same-length c =
+      let at-list = c .before .before .before in
+      let at-loop = at-list .before .before .before in
+      at-list .list .kept .1 .1 .1 .1 .1 .0 ∙ at-loop .loop .inv .1
 
   list-any-returns : list-any-lts.Need-returns list-any-calls list-any-at list-any.Post list-any-Inv-loop list-any-μ-loop
-  list-any-returns c = any-stop (c .before .before .before .before .before .before .before .before .before .args .table .now) (c .before .before .before .before .before .before .before .before .before .args .words .now) (c .before .before .before .before .before .before .before .before .before .args .log .now) (c .before .before .before .before .before .before .before .before .before .args .above) (c .before .before .before .before .before .before .before .before .before .args .scope) (c .before .before .before .before .before .before .before .before .before .args .n) (c .before .before .before .before .before .before .before .before .before .args .at) (c .before .before .before .before .before .before .before .before .before .args .room) (c .before .before .before .before .before .before .before .before .before .args .scratch .now) (c .before .before .before .before .before .before .before .before .before .pre .1 .5) (c .before .before .before .before .before .before .loop .i) (c .before .before .before .before .before .before .loop .next) (c .before .before .before .before .before .before .loop .branch) (c .before .before .before .before .before .before .loop .scratch) (c .before .before .before .before .before .before .loop .inv .2) (c .before .before .before .before .before .before .loop .inv .1) (c .before .before .before .before .before .loop-test .taken) (c .enum-told .given .1) (c .before .before .before .list .ensures)
+  list-any-returns c =
+      let at-list = c .before .before .before in
+      let at-loop-test = at-list .before .before in
+      let at-loop = at-loop-test .before in
+      let loop = at-loop .loop in
+      let start = at-loop .before .before .before in
+      let a = start .args in
+      any-stop (a .table .now) (a .words .now) (a .log .now) (a .above) (a .scope) (a .n) (a .at) (a .room)
+      (a .scratch .now) (start .pre .1 .5) (loop .i) (loop .next) (loop .branch) (loop .scratch) (loop .inv .2)
+      (loop .inv .1) (at-loop-test .loop-test .taken) (c .enum-told .given .1) (at-list .list .ensures)
 
   list-any-move-list-requires : list-any-lts.Need-move-list-requires list-any-calls list-any-at list-any.Post list-any-Inv-loop list-any-μ-loop
   list-any-move-list-requires c κs =
-      let (down, fits, room) = any-moves (c .before .before .before .before .before .before .before .before .before .before .before .args .table .now) (c .before .before .before .before .before .before .before .before .before .before .before .args .words .now) (c .before .before .before .before .before .before .before .before .before .before .before .args .log .now) (c .before .before .before .before .before .before .before .before .before .before .before .args .above) (c .before .before .before .before .before .before .before .before .before .before .before .args .scope) (c .before .before .before .before .before .before .before .before .before .before .before .args .n) (c .before .before .before .before .before .before .before .before .before .before .before .args .at) (c .before .before .before .before .before .before .before .before .before .before .before .args .room) (c .before .before .before .before .before .before .before .before .before .before .before .args .scratch .now) (c .before .before .before .before .before .before .before .before .before .before .before .pre .1 .5) (c .before .before .before .before .before .before .before .before .loop .i) (c .before .before .before .before .before .before .before .before .loop .next) (c .before .before .before .before .before .before .before .before .loop .branch) (c .before .before .before .before .before .before .before .before .loop .scratch) (c .before .before .before .before .before .before .before .before .loop .inv .2) (c .before .before .before .before .before .before .before .before .loop .inv .1) (c .before .before .before .before .before .before .before .loop-test .taken) (c .before .before .child .given .1) (c .before .before .before .before .before .list .ensures) (c .before .before .before .before .before .before .before .before .before .before .before .pre .1 .4) (c .before .before .before .before .before .before .before .before .before .before .before .pre .1 .6) in
-      let (here, roomy, holds) = any-asks (c .before .before .before .before .before .before .before .before .before .before .before .args .table .now) (c .before .before .before .before .before .before .before .before .before .before .before .args .words .now) (c .before .before .before .before .before .before .before .before .before .before .before .args .log .now) (c .before .before .before .before .before .before .before .before .before .before .before .args .above) (c .before .before .before .before .before .before .before .before .before .before .before .args .scope) (c .before .before .before .before .before .before .before .before .before .before .before .args .n) (c .before .before .before .before .before .before .before .before .before .before .before .args .at) (c .before .before .before .before .before .before .before .before .before .before .before .args .room) (c .before .before .before .before .before .before .before .before .before .before .before .args .scratch .now) (c .before .before .before .before .before .before .before .before .before .before .before .pre .1 .5) (c .before .before .before .before .before .before .before .before .loop .i) (c .before .before .before .before .before .before .before .before .loop .next) (c .before .before .before .before .before .before .before .before .loop .branch) (c .before .before .before .before .before .before .before .before .loop .scratch) (c .before .before .before .before .before .before .before .before .loop .inv .2) (c .before .before .before .before .before .before .before .before .loop .inv .1) (c .before .before .before .before .before .before .before .loop-test .taken) (c .before .before .before .before .before .before .before .before .before .before .before .pre .1 .4) (c .before .before .before .before .before .before .before .before .before .before .before .pre .1 .6) in
+      let at-child = c .before .before in
+      let at-list = at-child .before .before .before in
+      let list = at-list .list in
+      let at-loop-test = at-list .before .before in
+      let loop-test = at-loop-test .loop-test in
+      let at-loop = at-loop-test .before in
+      let loop = at-loop .loop in
+      let start = at-loop .before .before .before in
+      let a = start .args in
+      let (down, fits, room) =
+      any-moves (a .table .now) (a .words .now) (a .log .now) (a .above) (a .scope) (a .n) (a .at) (a .room)
+      (a .scratch .now) (start .pre .1 .5) (loop .i) (loop .next) (loop .branch) (loop .scratch) (loop .inv .2)
+      (loop .inv .1) (loop-test .taken) (at-child .child .given .1) (list .ensures) (start .pre .1 .4)
+      (start .pre .1 .6) in
+      let (here, roomy, holds) =
+      any-asks (a .table .now) (a .words .now) (a .log .now) (a .above) (a .scope) (a .n) (a .at) (a .room)
+      (a .scratch .now) (start .pre .1 .5) (loop .i) (loop .next) (loop .branch) (loop .scratch) (loop .inv .2)
+      (loop .inv .1) (loop-test .taken) (start .pre .1 .4) (start .pre .1 .6) in
       let there = roomy .there in
-      let long = c .before .before .before .before .before .list .kept .1 .1 .1 .1 .1 .0 in
+      let long = list .kept .1 .1 .1 .1 .1 .0 in
       (down, omega arith)
 
   list-any-behind-requires : list-any-lts.Need-behind-requires list-any-calls list-any-at list-any.Post list-any-Inv-loop list-any-μ-loop
-  list-any-behind-requires c κs = any-moves (c .before .before .before .before .before .before .before .before .before .before .before .before .before .args .table .now) (c .before .before .before .before .before .before .before .before .before .before .before .before .before .args .words .now) (c .before .before .before .before .before .before .before .before .before .before .before .before .before .args .log .now) (c .before .before .before .before .before .before .before .before .before .before .before .before .before .args .above) (c .before .before .before .before .before .before .before .before .before .before .before .before .before .args .scope) (c .before .before .before .before .before .before .before .before .before .before .before .before .before .args .n) (c .before .before .before .before .before .before .before .before .before .before .before .before .before .args .at) (c .before .before .before .before .before .before .before .before .before .before .before .before .before .args .room) (c .before .before .before .before .before .before .before .before .before .before .before .before .before .args .scratch .now) (c .before .before .before .before .before .before .before .before .before .before .before .before .before .pre .1 .5) (c .before .before .before .before .before .before .before .before .before .before .loop .i) (c .before .before .before .before .before .before .before .before .before .before .loop .next) (c .before .before .before .before .before .before .before .before .before .before .loop .branch) (c .before .before .before .before .before .before .before .before .before .before .loop .scratch) (c .before .before .before .before .before .before .before .before .before .before .loop .inv .2) (c .before .before .before .before .before .before .before .before .before .before .loop .inv .1) (c .before .before .before .before .before .before .before .before .before .loop-test .taken) (c .before .before .before .before .child .given .1) (c .before .before .before .before .before .before .before .list .ensures) (c .before .before .before .before .before .before .before .before .before .before .before .before .before .pre .1 .4) (c .before .before .before .before .before .before .before .before .before .before .before .before .before .pre .1 .6) .2
+  list-any-behind-requires c κs =
+      let at-child = c .before .before .before .before in
+      let at-list = at-child .before .before .before in
+      let at-loop-test = at-list .before .before in
+      let at-loop = at-loop-test .before in
+      let loop = at-loop .loop in
+      let start = at-loop .before .before .before in
+      let a = start .args in
+      any-moves (a .table .now) (a .words .now) (a .log .now) (a .above) (a .scope) (a .n) (a .at) (a .room)
+      (a .scratch .now) (start .pre .1 .5) (loop .i) (loop .next) (loop .branch) (loop .scratch) (loop .inv .2)
+      (loop .inv .1) (at-loop-test .loop-test .taken) (at-child .child .given .1) (at-list .list .ensures)
+      (start .pre .1 .4) (start .pre .1 .6) .2
 
   list-any-add-i : list-any-lts.Need-add-i list-any-calls list-any-at list-any.Post list-any-Inv-loop list-any-μ-loop
-  list-any-add-i c = omega (arith, c .before .before .before .before .before .before .before .before .before .before .loop-test .taken, c .before .before .before .before .before .before .before .before .before .before .before .before .before .before .fits .n)
+  list-any-add-i c =
+      let at-loop-test = c .before .before .before .before .before .before .before .before .before .before in
+      let at-fits = at-loop-test .before .before .before .before in
+      omega (arith, at-loop-test .loop-test .taken, at-fits .fits .n)
 
   list-any-loop-less : list-any-lts.Need-loop-less list-any-calls list-any-at list-any.Post list-any-Inv-loop list-any-μ-loop
   list-any-loop-less c = omega (arith, c .before .before .before .before .before .before .before .before .before .before .loop-test .taken)
 
   list-any-loop-again : list-any-lts.Need-loop-again list-any-calls list-any-at list-any.Post list-any-Inv-loop list-any-μ-loop
-  list-any-loop-again c = (omega (arith, c .before .before .before .before .before .before .before .before .before .before .loop-test .taken), c .before .before .move-list .kept .0 ∙ c .before .before .before .before .before .before .before .before .list .kept .1 .1 .1 .1 .1 .0 ∙ c .before .before .before .before .before .before .before .before .before .before .before .loop .inv .1, any-next (c .before .before .before .before .before .before .before .before .before .before .before .before .before .before .args .table .now) (c .before .before .before .before .before .before .before .before .before .before .before .before .before .before .args .words .now) (c .before .before .before .before .before .before .before .before .before .before .before .before .before .before .args .log .now) (c .before .before .before .before .before .before .before .before .before .before .before .before .before .before .args .above) (c .before .before .before .before .before .before .before .before .before .before .before .before .before .before .args .scope) (c .before .before .before .before .before .before .before .before .before .before .before .before .before .before .args .n) (c .before .before .before .before .before .before .before .before .before .before .before .before .before .before .args .at) (c .before .before .before .before .before .before .before .before .before .before .before .before .before .before .args .room) (c .before .before .before .before .before .before .before .before .before .before .before .before .before .before .args .scratch .now) (c .before .before .before .before .before .before .before .before .before .before .before .before .before .before .pre .1 .5) (c .before .before .before .before .before .before .before .before .before .before .before .loop .i) (c .before .before .before .before .before .before .before .before .before .before .before .loop .next) (c .before .before .before .before .before .before .before .before .before .before .before .loop .branch) (c .before .before .before .before .before .before .before .before .before .before .before .loop .scratch) (c .before .before .before .before .before .before .before .before .before .before .before .loop .inv .2) (c .before .before .before .before .before .before .before .before .before .before .before .loop .inv .1) (c .before .before .before .before .before .before .before .before .before .before .loop-test .taken) (c .before .before .before .before .before .child .given .1) (c .before .before .before .before .before .before .before .before .list .ensures) (c .before .before .move-list .ensures) (c .behind .ensures))
+  list-any-loop-again c =
+      let at-move-list = c .before .before in
+      let move-list = at-move-list .move-list in
+      let at-child = at-move-list .before .before .before in
+      let at-list = at-child .before .before .before in
+      let list = at-list .list in
+      let at-loop-test = at-list .before .before in
+      let loop-test = at-loop-test .loop-test in
+      let at-loop = at-loop-test .before in
+      let loop = at-loop .loop in
+      let start = at-loop .before .before .before in
+      let a = start .args in (
+        omega (arith, loop-test .taken),
+        move-list .kept .0 ∙ list .kept .1 .1 .1 .1 .1 .0 ∙ loop .inv .1,
+        any-next
+            (a .table .now) (a .words .now) (a .log .now) (a .above) (a .scope) (a .n) (a .at) (a .room) (a .scratch .now)
+            (start .pre .1 .5) (loop .i) (loop .next) (loop .branch) (loop .scratch) (loop .inv .2) (loop .inv .1)
+            (loop-test .taken) (at-child .child .given .1) (list .ensures) (move-list .ensures) (c .behind .ensures),
+      )
 
   list-any-sub-made : list-any-lts.Need-sub-made list-any-calls list-any-at list-any.Post list-any-Inv-loop list-any-μ-loop
-  list-any-sub-made c = omega (arith, any-numbers (c .before .before .before .before .before .before .args .table .now) (c .before .before .before .before .before .before .args .words .now) (c .before .before .before .before .before .before .args .log .now) (c .before .before .before .before .before .before .args .above) (c .before .before .before .before .before .before .args .scope) (c .before .before .before .before .before .before .args .n) (c .before .before .before .before .before .before .args .at) (c .before .before .before .before .before .before .args .room) (c .before .before .before .before .before .before .args .scratch .now) (c .before .before .before .before .before .before .pre .1 .5) (c .before .before .before .loop .i) (c .before .before .before .loop .next) (c .before .before .before .loop .branch) (c .before .before .before .loop .scratch) (c .before .before .before .loop .inv .2) (c .before .before .before .loop .inv .1) (c .before .before .before .before .before .before .pre .1 .4) (c .before .before .before .before .before .before .pre .1 .6) .1)
+  list-any-sub-made c =
+      let at-loop = c .before .before .before in
+      let loop = at-loop .loop in
+      let start = at-loop .before .before .before in
+      let a = start .args in
+      omega (
+        arith,
+        any-numbers (a .table .now) (a .words .now) (a .log .now) (a .above) (a .scope) (a .n) (a .at) (a .room)
+            (a .scratch .now) (start .pre .1 .5) (loop .i) (loop .next) (loop .branch) (loop .scratch) (loop .inv .2)
+            (loop .inv .1) (start .pre .1 .4) (start .pre .1 .6) .1,
+      )
 
   list-any-sub-if1 : list-any-lts.Need-sub-if1 list-any-calls list-any-at list-any.Post list-any-Inv-loop list-any-μ-loop
-  list-any-sub-if1 c = omega (arith, any-numbers (c .before .before .before .before .before .before .before .args .table .now) (c .before .before .before .before .before .before .before .args .words .now) (c .before .before .before .before .before .before .before .args .log .now) (c .before .before .before .before .before .before .before .args .above) (c .before .before .before .before .before .before .before .args .scope) (c .before .before .before .before .before .before .before .args .n) (c .before .before .before .before .before .before .before .args .at) (c .before .before .before .before .before .before .before .args .room) (c .before .before .before .before .before .before .before .args .scratch .now) (c .before .before .before .before .before .before .before .pre .1 .5) (c .before .before .before .before .loop .i) (c .before .before .before .before .loop .next) (c .before .before .before .before .loop .branch) (c .before .before .before .before .loop .scratch) (c .before .before .before .before .loop .inv .2) (c .before .before .before .before .loop .inv .1) (c .before .before .before .before .before .before .before .pre .1 .4) (c .before .before .before .before .before .before .before .pre .1 .6) .0)
+  list-any-sub-if1 c =
+      let at-loop = c .before .before .before .before in
+      let loop = at-loop .loop in
+      let start = at-loop .before .before .before in
+      let a = start .args in
+      omega (
+        arith,
+        any-numbers (a .table .now) (a .words .now) (a .log .now) (a .above) (a .scope) (a .n) (a .at) (a .room)
+            (a .scratch .now) (start .pre .1 .5) (loop .i) (loop .next) (loop .branch) (loop .scratch) (loop .inv .2)
+            (loop .inv .1) (start .pre .1 .4) (start .pre .1 .6) .0,
+      )
 
   list-any-same-length-2 : list-any-lts.Need-same-length-2 list-any-calls list-any-at list-any.Post list-any-Inv-loop list-any-μ-loop
   list-any-same-length-2 c = c .before .before .before .before .before .loop .inv .1
 
   list-any-returns-2 : list-any-lts.Need-returns-2 list-any-calls list-any-at list-any.Post list-any-Inv-loop list-any-μ-loop
-  list-any-returns-2 c = any-more (c .before .before .before .before .before .before .before .before .args .table .now) (c .before .before .before .before .before .before .before .before .args .words .now) (c .before .before .before .before .before .before .before .before .args .log .now) (c .before .before .before .before .before .before .before .before .args .above) (c .before .before .before .before .before .before .before .before .args .scope) (c .before .before .before .before .before .before .before .before .args .n) (c .before .before .before .before .before .before .before .before .args .at) (c .before .before .before .before .before .before .before .before .args .room) (c .before .before .before .before .before .before .before .before .args .scratch .now) (c .before .before .before .before .before .before .before .before .pre .1 .5) (c .before .before .before .before .before .loop .i) (c .before .before .before .before .before .loop .next) (c .before .before .before .before .before .loop .branch) (c .before .before .before .before .before .loop .scratch) (c .before .before .before .before .before .loop .inv .2) (c .before .before .before .before .before .loop .inv .1) (c .before .before .before .before .loop-test .left) (c .if1 .taken)
+  list-any-returns-2 c =
+      let at-loop-test = c .before .before .before .before in
+      let at-loop = at-loop-test .before in
+      let loop = at-loop .loop in
+      let start = at-loop .before .before .before in
+      let a = start .args in
+      any-more (a .table .now) (a .words .now) (a .log .now) (a .above) (a .scope) (a .n) (a .at) (a .room)
+      (a .scratch .now) (start .pre .1 .5) (loop .i) (loop .next) (loop .branch) (loop .scratch) (loop .inv .2)
+      (loop .inv .1) (at-loop-test .loop-test .left) (c .if1 .taken)
 
   list-any-joined-requires : list-any-lts.Need-joined-requires list-any-calls list-any-at list-any.Post list-any-Inv-loop list-any-μ-loop
-  list-any-joined-requires c κs = omega (arith, any-numbers (c .before .before .before .before .before .before .before .before .args .table .now) (c .before .before .before .before .before .before .before .before .args .words .now) (c .before .before .before .before .before .before .before .before .args .log .now) (c .before .before .before .before .before .before .before .before .args .above) (c .before .before .before .before .before .before .before .before .args .scope) (c .before .before .before .before .before .before .before .before .args .n) (c .before .before .before .before .before .before .before .before .args .at) (c .before .before .before .before .before .before .before .before .args .room) (c .before .before .before .before .before .before .before .before .args .scratch .now) (c .before .before .before .before .before .before .before .before .pre .1 .5) (c .before .before .before .before .before .loop .i) (c .before .before .before .before .before .loop .next) (c .before .before .before .before .before .loop .branch) (c .before .before .before .before .before .loop .scratch) (c .before .before .before .before .before .loop .inv .2) (c .before .before .before .before .before .loop .inv .1) (c .before .before .before .before .before .before .before .before .pre .1 .4) (c .before .before .before .before .before .before .before .before .pre .1 .6) .0, c .if1 .left)
+  list-any-joined-requires c κs =
+      let at-loop = c .before .before .before .before .before in
+      let loop = at-loop .loop in
+      let start = at-loop .before .before .before in
+      let a = start .args in
+      omega (
+        arith,
+        any-numbers (a .table .now) (a .words .now) (a .log .now) (a .above) (a .scope) (a .n) (a .at) (a .room)
+            (a .scratch .now) (start .pre .1 .5) (loop .i) (loop .next) (loop .branch) (loop .scratch) (loop .inv .2)
+            (loop .inv .1) (start .pre .1 .4) (start .pre .1 .6) .0,
+        c .if1 .left,
+      )
 
   list-any-same-length-3 : list-any-lts.Need-same-length-3 list-any-calls list-any-at list-any.Post list-any-Inv-loop list-any-μ-loop
   list-any-same-length-3 c = c .before .before .before .before .before .before .loop .inv .1
 
   list-any-returns-3 : list-any-lts.Need-returns-3 list-any-calls list-any-at list-any.Post list-any-Inv-loop list-any-μ-loop
-  list-any-returns-3 c = any-last (c .before .before .before .before .before .before .before .before .before .args .table .now) (c .before .before .before .before .before .before .before .before .before .args .words .now) (c .before .before .before .before .before .before .before .before .before .args .log .now) (c .before .before .before .before .before .before .before .before .before .args .above) (c .before .before .before .before .before .before .before .before .before .args .scope) (c .before .before .before .before .before .before .before .before .before .args .n) (c .before .before .before .before .before .before .before .before .before .args .at) (c .before .before .before .before .before .before .before .before .before .args .room) (c .before .before .before .before .before .before .before .before .before .args .scratch .now) (c .before .before .before .before .before .before .before .before .before .pre .1 .5) (c .before .before .before .before .before .before .loop .i) (c .before .before .before .before .before .before .loop .next) (c .before .before .before .before .before .before .loop .branch) (c .before .before .before .before .before .before .loop .scratch) (c .before .before .before .before .before .before .loop .inv .2) (c .before .before .before .before .before .before .loop .inv .1) (c .before .before .before .before .before .loop-test .left) (c .before .if1 .left) (c .joined .ensures)
+  list-any-returns-3 c =
+      let at-loop-test = c .before .before .before .before .before in
+      let at-loop = at-loop-test .before in
+      let loop = at-loop .loop in
+      let start = at-loop .before .before .before in
+      let a = start .args in
+      any-last (a .table .now) (a .words .now) (a .log .now) (a .above) (a .scope) (a .n) (a .at) (a .room)
+      (a .scratch .now) (start .pre .1 .5) (loop .i) (loop .next) (loop .branch) (loop .scratch) (loop .inv .2)
+      (loop .inv .1) (at-loop-test .loop-test .left) (c .before .if1 .left) (c .joined .ensures)
 
   list-some-add-list : list-some-lts.Need-add-list list-some-calls list-some-at list-some.Post
   list-some-add-list c = omega (arith, c .before .before .before .pre .1 .1)
@@ -383,10 +742,23 @@ module _ (t : ℕ) where
   list-some-add-list-2 c = omega (arith, c .before .before .before .pre .1 .2)
 
   list-some-add-list-3 : list-some-lts.Need-add-list-3 list-some-calls list-some-at list-some.Post
-  list-some-add-list-3 c = omega (arith, inside (c .before .before .before .args .table .now) (c .before .before .before .args .words .now) restriction (c .before .before .before .args .above + 1) (c .before .before .before .args .scope + 1) (c .before .before .before .args .at + 1) (c .before .before .before .pre .1 .3), c .before .before .before .good .1 .0)
+  list-some-add-list-3 c =
+      let start = c .before .before .before in
+      let a = start .args in
+      omega (
+        arith,
+        inside (a .table .now) (a .words .now) restriction (a .above + 1) (a .scope + 1) (a .at + 1)
+            (start .pre .1 .3),
+        start .good .1 .0,
+      )
 
   list-some-list-requires : list-some-lts.Need-list-requires list-some-calls list-some-at list-some.Post
-  list-some-list-requires c κs = (omega (arith, c .before .before .before .pre .0, c .before .before .before .pre .1 .1), (c .before .before .before .pre .1 .0, omega (arith, c .before .before .before .pre .1 .1), omega (arith, c .before .before .before .pre .1 .2), c .before .before .before .pre .1 .3, c .before .before .before .pre .1 .4, c .before .before .before .pre .1 .5))
+  list-some-list-requires c κs =
+      let at-pre = c .before .before .before in
+      let pre = at-pre .pre in (
+        omega (arith, pre .0, pre .1 .1),
+        (pre .1 .0, omega (arith, pre .1 .1), omega (arith, pre .1 .2), pre .1 .3, pre .1 .4, pre .1 .5),
+      )
 
   list-some-enum-known-child : list-some-lts.Need-enum-known-child list-some-calls list-some-at list-some.Post
   list-some-enum-known-child c = search needs
@@ -398,40 +770,110 @@ module _ (t : ℕ) where
   list-some-same-length c = c .before .before .before .list .kept .1 .1 .1 .1 .1 .0
 
   list-some-returns : list-some-lts.Need-returns list-some-calls list-some-at list-some.Post
-  list-some-returns c = λ es h d next node. some-short (c .before .before .before .before .before .before .before .args .table .now) (c .before .before .before .before .before .before .before .args .log .now) (c .before .before .before .before .before .before .before .args .scope) d es (c .before .before .before .before .before .before .before .args .room) (c .before .before .before .before .before .before .before .args .scratch .now) _ next (subst (MakesTree (c .before .before .before .before .before .before .before .args .table .now) (c .before .before .before .before .before .before .before .args .log .now) d (c .before .before .before .before .before .before .before .args .scope + 1) next es (c .before .before .before .before .before .before .before .args .room) (c .before .before .before .before .before .before .before .args .scratch .now) _) (c .enum-told .given .1) (c .before .before .before .list .ensures es h d next node))
+  list-some-returns c =
+      let at-list = c .before .before .before in
+      let a = at-list .before .before .before .before .args in
+      λ es h d next node. some-short (a .table .now) (a .log .now) (a .scope) d es (a .room) (a .scratch .now) _ next
+      (subst (MakesTree (a .table .now) (a .log .now) d (a .scope + 1) next es (a .room) (a .scratch .now) _)
+      (c .enum-told .given .1) (at-list .list .ensures es h d next node))
 
   list-some-release-all-requires : list-some-lts.Need-release-all-requires list-some-calls list-some-at list-some.Post
   list-some-release-all-requires c κs =
-      let (es, h) = c .before .before .before .before .before .before .before .before .before .pre .1 .5 in
-      let (d, next, node) = c .before .before .before .before .before .before .before .before .before .pre .1 .3 in
-      let (inside-room, same, few) = some-inside (c .before .before .before .before .before .before .before .before .before .args .table .now) (c .before .before .before .before .before .before .before .before .before .args .log .now) (c .before .before .before .before .before .before .before .before .before .args .scope) d es (c .before .before .before .before .before .before .before .before .before .args .room) (c .before .before .before .before .before .before .before .before .before .args .scratch .now) _ next _ _ (subst (MakesTree (c .before .before .before .before .before .before .before .before .before .args .table .now) (c .before .before .before .before .before .before .before .before .before .args .log .now) d (c .before .before .before .before .before .before .before .before .before .args .scope + 1) next es (c .before .before .before .before .before .before .before .before .before .args .room) (c .before .before .before .before .before .before .before .before .before .args .scratch .now) _) (c .before .before .child .given .1) (c .before .before .before .before .before .list .ensures es h d next node)) (c .before .before .before .before .before .before .before .before .before .pre .1 .4) in
-      let there = c .before .before .before .before .before .before .before .before .before .pre .1 .4 .there in
-      let long = c .before .before .before .before .before .list .kept .1 .1 .1 .1 .1 .0 in
-      (omega (arith, c .before .before .before .before .before .before .before .before .before .pre .1 .2), omega arith)
+      let at-child = c .before .before in
+      let at-list = at-child .before .before .before in
+      let list = at-list .list in
+      let start = at-list .before .before .before .before in
+      let a = start .args in
+      let (es, h) = start .pre .1 .5 in
+      let (d, next, node) = start .pre .1 .3 in
+      let (inside-room, same, few) =
+      some-inside (a .table .now) (a .log .now) (a .scope) d es (a .room) (a .scratch .now) _ next _ _
+      (subst (MakesTree (a .table .now) (a .log .now) d (a .scope + 1) next es (a .room) (a .scratch .now) _)
+      (at-child .child .given .1) (list .ensures es h d next node)) (start .pre .1 .4) in
+      let there = start .pre .1 .4 .there in
+      let long = list .kept .1 .1 .1 .1 .1 .0 in
+      (omega (arith, start .pre .1 .2), omega arith)
 
   list-some-sub-if1 : list-some-lts.Need-sub-if1 list-some-calls list-some-at list-some.Post
   list-some-sub-if1 c =
-      let (es, h) = c .before .before .before .before .before .before .before .before .before .before .before .before .pre .1 .5 in
-      let (d, next, node) = c .before .before .before .before .before .before .before .before .before .before .before .before .pre .1 .3 in
-      omega (arith, some-inside (c .before .before .before .before .before .before .before .before .before .before .before .before .args .table .now) (c .before .before .before .before .before .before .before .before .before .before .before .before .args .log .now) (c .before .before .before .before .before .before .before .before .before .before .before .before .args .scope) d es (c .before .before .before .before .before .before .before .before .before .before .before .before .args .room) (c .before .before .before .before .before .before .before .before .before .before .before .before .args .scratch .now) _ next _ _ (subst (MakesTree (c .before .before .before .before .before .before .before .before .before .before .before .before .args .table .now) (c .before .before .before .before .before .before .before .before .before .before .before .before .args .log .now) d (c .before .before .before .before .before .before .before .before .before .before .before .before .args .scope + 1) next es (c .before .before .before .before .before .before .before .before .before .before .before .before .args .room) (c .before .before .before .before .before .before .before .before .before .before .before .before .args .scratch .now) _) (c .before .before .before .before .before .child .given .1) (c .before .before .before .before .before .before .before .before .list .ensures es h d next node)) (c .before .before .before .before .before .before .before .before .before .before .before .before .pre .1 .4) .2)
+      let at-child = c .before .before .before .before .before in
+      let at-list = at-child .before .before .before in
+      let start = at-list .before .before .before .before in
+      let a = start .args in
+      let (es, h) = start .pre .1 .5 in
+      let (d, next, node) = start .pre .1 .3 in
+      omega (
+        arith,
+        some-inside (a .table .now) (a .log .now) (a .scope) d es (a .room) (a .scratch .now) _ next _ _
+            (subst (MakesTree (a .table .now) (a .log .now) d (a .scope + 1) next es (a .room) (a .scratch .now) _)
+            (at-child .child .given .1) (at-list .list .ensures es h d next node)) (start .pre .1 .4) .2,
+      )
 
   list-some-same-length-2 : list-some-lts.Need-same-length-2 list-some-calls list-some-at list-some.Post
-  list-some-same-length-2 c = c .before .before .before .before .release-all .kept .0 ∙ c .before .before .before .before .before .before .before .before .before .before .list .kept .1 .1 .1 .1 .1 .0
+  list-some-same-length-2 c =
+      let at-release-all = c .before .before .before .before in
+      let at-list = at-release-all .before .before .before .before .before .before in
+      at-release-all .release-all .kept .0 ∙ at-list .list .kept .1 .1 .1 .1 .1 .0
 
   list-some-returns-2 : list-some-lts.Need-returns-2 list-some-calls list-some-at list-some.Post
-  list-some-returns-2 c = λ es h d next node. some-full (c .before .before .before .before .before .before .before .before .before .before .before .before .before .before .args .table .now) (c .before .before .before .before .before .before .before .before .before .before .before .before .before .before .args .log .now) (c .before .before .before .before .before .before .before .before .before .before .before .before .before .before .args .scope) d es (c .before .before .before .before .before .before .before .before .before .before .before .before .before .before .args .room) (c .before .before .before .before .before .before .before .before .before .before .before .before .before .before .args .scratch .now) _ next _ _ (subst (MakesTree (c .before .before .before .before .before .before .before .before .before .before .before .before .before .before .args .table .now) (c .before .before .before .before .before .before .before .before .before .before .before .before .before .before .args .log .now) d (c .before .before .before .before .before .before .before .before .before .before .before .before .before .before .args .scope + 1) next es (c .before .before .before .before .before .before .before .before .before .before .before .before .before .before .args .room) (c .before .before .before .before .before .before .before .before .before .before .before .before .before .before .args .scratch .now) _) (c .before .before .before .before .before .before .before .child .given .1) (c .before .before .before .before .before .before .before .before .before .before .list .ensures es h d next node)) _ (c .before .before .before .before .release-all .ensures _ (some-holds (c .before .before .before .before .before .before .before .before .before .before .before .before .before .before .args .table .now) (c .before .before .before .before .before .before .before .before .before .before .before .before .before .before .args .log .now) (c .before .before .before .before .before .before .before .before .before .before .before .before .before .before .args .scope) d es (c .before .before .before .before .before .before .before .before .before .before .before .before .before .before .args .room) (c .before .before .before .before .before .before .before .before .before .before .before .before .before .before .args .scratch .now) _ next _ _ (subst (MakesTree (c .before .before .before .before .before .before .before .before .before .before .before .before .before .before .args .table .now) (c .before .before .before .before .before .before .before .before .before .before .before .before .before .before .args .log .now) d (c .before .before .before .before .before .before .before .before .before .before .before .before .before .before .args .scope + 1) next es (c .before .before .before .before .before .before .before .before .before .before .before .before .before .before .args .room) (c .before .before .before .before .before .before .before .before .before .before .before .before .before .before .args .scratch .now) _) (c .before .before .before .before .before .before .before .child .given .1) (c .before .before .before .before .before .before .before .before .before .before .list .ensures es h d next node)) .listed) (some-holds (c .before .before .before .before .before .before .before .before .before .before .before .before .before .before .args .table .now) (c .before .before .before .before .before .before .before .before .before .before .before .before .before .before .args .log .now) (c .before .before .before .before .before .before .before .before .before .before .before .before .before .before .args .scope) d es (c .before .before .before .before .before .before .before .before .before .before .before .before .before .before .args .room) (c .before .before .before .before .before .before .before .before .before .before .before .before .before .before .args .scratch .now) _ next _ _ (subst (MakesTree (c .before .before .before .before .before .before .before .before .before .before .before .before .before .before .args .table .now) (c .before .before .before .before .before .before .before .before .before .before .before .before .before .before .args .log .now) d (c .before .before .before .before .before .before .before .before .before .before .before .before .before .before .args .scope + 1) next es (c .before .before .before .before .before .before .before .before .before .before .before .before .before .before .args .room) (c .before .before .before .before .before .before .before .before .before .before .before .before .before .before .args .scratch .now) _) (c .before .before .before .before .before .before .before .child .given .1) (c .before .before .before .before .before .before .before .before .before .before .list .ensures es h d next node)) .long)) (c .if1 .taken)
+  list-some-returns-2 c =
+      let at-release-all = c .before .before .before .before in
+      let at-child = at-release-all .before .before .before in
+      let child = at-child .child in
+      let at-list = at-child .before .before .before in
+      let list = at-list .list in
+      let a = at-list .before .before .before .before .args in
+      λ es h d next node. some-full (a .table .now) (a .log .now) (a .scope) d es (a .room) (a .scratch .now) _ next _ _
+      (subst (MakesTree (a .table .now) (a .log .now) d (a .scope + 1) next es (a .room) (a .scratch .now) _)
+      (child .given .1) (list .ensures es h d next node)) _
+      (at-release-all .release-all .ensures _
+      (some-holds (a .table .now) (a .log .now) (a .scope) d es (a .room) (a .scratch .now) _ next _ _
+      (subst (MakesTree (a .table .now) (a .log .now) d (a .scope + 1) next es (a .room) (a .scratch .now) _)
+      (child .given .1) (list .ensures es h d next node)) .listed)
+      (some-holds (a .table .now) (a .log .now) (a .scope) d es (a .room) (a .scratch .now) _ next _ _
+      (subst (MakesTree (a .table .now) (a .log .now) d (a .scope + 1) next es (a .room) (a .scratch .now) _)
+      (child .given .1) (list .ensures es h d next node)) .long)) (c .if1 .taken)
 
   list-some-counted-requires : list-some-lts.Need-counted-requires list-some-calls list-some-at list-some.Post
   list-some-counted-requires c κs =
-      let (es, h) = c .before .before .before .before .before .before .before .before .before .before .before .before .before .before .pre .1 .5 in
-      let (d, next, node) = c .before .before .before .before .before .before .before .before .before .before .before .before .before .before .pre .1 .3 in
-      omega (arith, some-inside (c .before .before .before .before .before .before .before .before .before .before .before .before .before .before .args .table .now) (c .before .before .before .before .before .before .before .before .before .before .before .before .before .before .args .log .now) (c .before .before .before .before .before .before .before .before .before .before .before .before .before .before .args .scope) d es (c .before .before .before .before .before .before .before .before .before .before .before .before .before .before .args .room) (c .before .before .before .before .before .before .before .before .before .before .before .before .before .before .args .scratch .now) _ next _ _ (subst (MakesTree (c .before .before .before .before .before .before .before .before .before .before .before .before .before .before .args .table .now) (c .before .before .before .before .before .before .before .before .before .before .before .before .before .before .args .log .now) d (c .before .before .before .before .before .before .before .before .before .before .before .before .before .before .args .scope + 1) next es (c .before .before .before .before .before .before .before .before .before .before .before .before .before .before .args .room) (c .before .before .before .before .before .before .before .before .before .before .before .before .before .before .args .scratch .now) _) (c .before .before .before .before .before .before .before .child .given .1) (c .before .before .before .before .before .before .before .before .before .before .list .ensures es h d next node)) (c .before .before .before .before .before .before .before .before .before .before .before .before .before .before .pre .1 .4) .2, c .if1 .left)
+      let at-child = c .before .before .before .before .before .before .before in
+      let at-list = at-child .before .before .before in
+      let start = at-list .before .before .before .before in
+      let a = start .args in
+      let (es, h) = start .pre .1 .5 in
+      let (d, next, node) = start .pre .1 .3 in
+      omega (
+        arith,
+        some-inside (a .table .now) (a .log .now) (a .scope) d es (a .room) (a .scratch .now) _ next _ _
+            (subst (MakesTree (a .table .now) (a .log .now) d (a .scope + 1) next es (a .room) (a .scratch .now) _)
+            (at-child .child .given .1) (at-list .list .ensures es h d next node)) (start .pre .1 .4) .2,
+        c .if1 .left,
+      )
 
   list-some-same-length-3 : list-some-lts.Need-same-length-3 list-some-calls list-some-at list-some.Post
-  list-some-same-length-3 c = c .before .before .before .before .before .release-all .kept .0 ∙ c .before .before .before .before .before .before .before .before .before .before .before .list .kept .1 .1 .1 .1 .1 .0
+  list-some-same-length-3 c =
+      let at-release-all = c .before .before .before .before .before in
+      let at-list = at-release-all .before .before .before .before .before .before in
+      at-release-all .release-all .kept .0 ∙ at-list .list .kept .1 .1 .1 .1 .1 .0
 
   list-some-returns-3 : list-some-lts.Need-returns-3 list-some-calls list-some-at list-some.Post
-  list-some-returns-3 c = λ es h d next node. some-end (c .before .before .before .before .before .before .before .before .before .before .before .before .before .before .before .args .table .now) (c .before .before .before .before .before .before .before .before .before .before .before .before .before .before .before .args .log .now) (c .before .before .before .before .before .before .before .before .before .before .before .before .before .before .before .args .scope) d es (c .before .before .before .before .before .before .before .before .before .before .before .before .before .before .before .args .room) (c .before .before .before .before .before .before .before .before .before .before .before .before .before .before .before .args .scratch .now) _ next _ _ (subst (MakesTree (c .before .before .before .before .before .before .before .before .before .before .before .before .before .before .before .args .table .now) (c .before .before .before .before .before .before .before .before .before .before .before .before .before .before .before .args .log .now) d (c .before .before .before .before .before .before .before .before .before .before .before .before .before .before .before .args .scope + 1) next es (c .before .before .before .before .before .before .before .before .before .before .before .before .before .before .before .args .room) (c .before .before .before .before .before .before .before .before .before .before .before .before .before .before .before .args .scratch .now) _) (c .before .before .before .before .before .before .before .before .child .given .1) (c .before .before .before .before .before .before .before .before .before .before .before .list .ensures es h d next node)) _ (c .before .before .before .before .before .release-all .ensures _ (some-holds (c .before .before .before .before .before .before .before .before .before .before .before .before .before .before .before .args .table .now) (c .before .before .before .before .before .before .before .before .before .before .before .before .before .before .before .args .log .now) (c .before .before .before .before .before .before .before .before .before .before .before .before .before .before .before .args .scope) d es (c .before .before .before .before .before .before .before .before .before .before .before .before .before .before .before .args .room) (c .before .before .before .before .before .before .before .before .before .before .before .before .before .before .before .args .scratch .now) _ next _ _ (subst (MakesTree (c .before .before .before .before .before .before .before .before .before .before .before .before .before .before .before .args .table .now) (c .before .before .before .before .before .before .before .before .before .before .before .before .before .before .before .args .log .now) d (c .before .before .before .before .before .before .before .before .before .before .before .before .before .before .before .args .scope + 1) next es (c .before .before .before .before .before .before .before .before .before .before .before .before .before .before .before .args .room) (c .before .before .before .before .before .before .before .before .before .before .before .before .before .before .before .args .scratch .now) _) (c .before .before .before .before .before .before .before .before .child .given .1) (c .before .before .before .before .before .before .before .before .before .before .before .list .ensures es h d next node)) .listed) (some-holds (c .before .before .before .before .before .before .before .before .before .before .before .before .before .before .before .args .table .now) (c .before .before .before .before .before .before .before .before .before .before .before .before .before .before .before .args .log .now) (c .before .before .before .before .before .before .before .before .before .before .before .before .before .before .before .args .scope) d es (c .before .before .before .before .before .before .before .before .before .before .before .before .before .before .before .args .room) (c .before .before .before .before .before .before .before .before .before .before .before .before .before .before .before .args .scratch .now) _ next _ _ (subst (MakesTree (c .before .before .before .before .before .before .before .before .before .before .before .before .before .before .before .args .table .now) (c .before .before .before .before .before .before .before .before .before .before .before .before .before .before .before .args .log .now) d (c .before .before .before .before .before .before .before .before .before .before .before .before .before .before .before .args .scope + 1) next es (c .before .before .before .before .before .before .before .before .before .before .before .before .before .before .before .args .room) (c .before .before .before .before .before .before .before .before .before .before .before .before .before .before .before .args .scratch .now) _) (c .before .before .before .before .before .before .before .before .child .given .1) (c .before .before .before .before .before .before .before .before .before .before .before .list .ensures es h d next node)) .long)) (c .before .if1 .left) (c .counted .ensures)
+  list-some-returns-3 c =
+      let at-release-all = c .before .before .before .before .before in
+      let at-child = at-release-all .before .before .before in
+      let child = at-child .child in
+      let at-list = at-child .before .before .before in
+      let list = at-list .list in
+      let a = at-list .before .before .before .before .args in
+      λ es h d next node. some-end (a .table .now) (a .log .now) (a .scope) d es (a .room) (a .scratch .now) _ next _ _
+      (subst (MakesTree (a .table .now) (a .log .now) d (a .scope + 1) next es (a .room) (a .scratch .now) _)
+      (child .given .1) (list .ensures es h d next node)) _
+      (at-release-all .release-all .ensures _
+      (some-holds (a .table .now) (a .log .now) (a .scope) d es (a .room) (a .scratch .now) _ next _ _
+      (subst (MakesTree (a .table .now) (a .log .now) d (a .scope + 1) next es (a .room) (a .scratch .now) _)
+      (child .given .1) (list .ensures es h d next node)) .listed)
+      (some-holds (a .table .now) (a .log .now) (a .scope) d es (a .room) (a .scratch .now) _ next _ _
+      (subst (MakesTree (a .table .now) (a .log .now) d (a .scope + 1) next es (a .room) (a .scratch .now) _)
+      (child .given .1) (list .ensures es h d next node)) .long)) (c .before .if1 .left) (c .counted .ensures)
 
 pub +list+list-all+list-any+list-some-spec : {M : Type 1} → statement M
 +list+list-all+list-any+list-some-spec =

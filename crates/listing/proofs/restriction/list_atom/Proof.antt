@@ -13,19 +13,13 @@ use Rattle.model.specs.Reading.{places, inScope}
 use Rattle.model.specs.Log.{rows}
 use Rattle.model.specs.Listing.{Environment, matches}
 use Rattle.policies.specs.Mode.{termsAt}
-use Rattle.listing.specs.Environment.{Holds}
-use Rattle.listing.specs.Listed.{environmentOf}
+use Rattle.environments.specs.Environment.{Holds}
+use Rattle.environments.specs.Listed.{environmentOf}
 use Rattle.listing.specs.Restrictions as R
 use Rattle.listing.proofs.MapLaws.{Mapping, map-start, map-read, map-step}
 use Rattle.listing.proofs.MapRoom.{adds-places, map-ran-out, map-stood, at-list}
 use Rattle.listing.proofs.restriction.list_atom.Statement.{statement}
 use Rattle.listing.proofs.restriction.list_atom.Tie as tie
-use Rattle.listing.proofs.restriction.list_atom.Reads as reads
-use Rattle.listing.proofs.restriction.list_atom.Lts as lts
-use Rattle.listing.proofs.environment.Environment.read.Reads as read-reads
-use Rattle.listing.proofs.restriction.Room.filled.Reads as filled-reads
-use Rattle.listing.proofs.restriction.match_rows.Reads as match-rows-reads
-use Rattle.tables.proofs.words.value.Reads as value-reads
 
 abbrev Inv-loop : tie.InvT-loop
 Inv-loop words log trues scratch₀ room at predicate n base left made₀ i₀ scratch made i =
@@ -55,7 +49,16 @@ sub-left : tie.Need-sub-left Inv-loop μ-loop
 sub-left c = omega (arith, c .before .before .before .before .pre .2 .within)
 
 loop-holds : tie.Need-loop-holds Inv-loop μ-loop
-loop-holds c = (omega arith, omega arith, refl, λ es table h. map-start (λ e. matches (rows (c .before .before .before .before .args .log .now)) (c .before .before .value .result) (termsAt table (c .before .before .before .before .args .words .now) (c .before .before .before .before .args .at + 3) (c .before .value2 .result)) e) es (c .before .before .before .before .args .room .base) (c .before .before .before .before .args .scratch .now))
+loop-holds c =
+    let at-value = c .before .before in
+    let a = at-value .before .before .args in (
+      omega arith,
+      omega arith,
+      refl,
+      λ es table h. map-start
+          (λ e. matches (rows (a .log .now)) (at-value .value .result)
+          (termsAt table (a .words .now) (a .at + 3) (c .before .value2 .result)) e) es (a .room .base) (a .scratch .now),
+    )
 
 add-read : tie.Need-add-read Inv-loop μ-loop
 add-read c =
@@ -106,36 +109,57 @@ sub-match-rows c =
 
 held-here :
     (c : tie.After-read Inv-loop μ-loop) →
-    (es : List Environment) (table : Words) → R.Holding (c .before .before .before .before .before .before .before .before .before .before .args .room) (c .before .before .before .before .before .before .before .before .before .before .args .scratch .now) es → Holds (c .read .result) (environmentOf es (c .before .before .before .before .before .loop .i))
-held-here c = λ es table h.
-    let roomy = c .before .before .before .before .before .before .before .before .before .before .pre .2 in
-    let b1 = roomy .before in
-    let n = h .long in
-    c .read .ensures (environmentOf es (c .before .before .before .before .before .loop .i)) (map-read (λ e. matches (rows (c .before .before .before .before .before .before .before .before .before .before .args .log .now)) (c .before .before .before .before .before .before .before .before .value .result) (termsAt table (c .before .before .before .before .before .before .before .before .before .before .args .words .now) (c .before .before .before .before .before .before .before .before .before .before .args .at + 3) (c .before .before .before .before .before .before .before .value2 .result)) e) es (c .before .before .before .before .before .loop .i) (c .before .before .before .before .before .before .before .before .before .before .args .room .base) (c .before .before .before .before .before .loop .made) (c .before .before .before .before .before .before .before .before .before .before .args .scratch .now) (c .before .before .before .before .before .loop .scratch) (c .before .before .before .before .before .loop .inv .3 es table h) (c .before .before .before .before .before .before .before .before .before .before .args .room .from) (omega arith) (h .listed) (omega arith))
+    let at-loop = c .before .before .before .before .before in
+    let a = at-loop .before .before .before .before .before .args in
+    (es : List Environment) (table : Words) →
+    R.Holding (a .room) (a .scratch .now) es →
+    Holds (c .read .result) (environmentOf es (at-loop .loop .i))
+held-here c =
+    let at-loop = c .before .before .before .before .before in
+    let loop = at-loop .loop in
+    let at-value2 = at-loop .before .before in
+    let at-value = at-value2 .before in
+    let start = at-value .before .before in
+    let a = start .args in
+    λ es table h. let roomy = start .pre .2 in let b1 = roomy .before in let n = h .long in c .read .ensures
+    (environmentOf es (loop .i))
+    (map-read
+    (λ e. matches (rows (a .log .now)) (at-value .value .result)
+    (termsAt table (a .words .now) (a .at + 3) (at-value2 .value2 .result)) e) es (loop .i) (a .room .base) (loop .made)
+    (a .scratch .now) (loop .scratch) (loop .inv .3 es table h) (a .room .from) (omega arith) (h .listed)
+    (omega (arith, c .before .before .before .if1 .taken)))
 
 match-rows-requires : tie.Need-match-rows-requires Inv-loop μ-loop
 match-rows-requires c κs =
-    let roomy = c .before .before .before .before .before .before .before .before .before .before .before .pre .2 in
+    let at-loop = c .before .before .before .before .before .before in
+    let loop = at-loop .loop in
+    let at-value2 = at-loop .before .before in
+    let at-value = at-value2 .before in
+    let start = at-value .before .before in
+    let a = start .args in
+    let roomy = start .pre .2 in
     let b1 = roomy .before in
     let b2 = roomy .counted in
     let b3 = roomy .within in
     let b4 = roomy .there in
-    let m = c .before .before .before .before .before .before .loop .inv .1 in
-    let l = c .before .before .before .before .before .before .loop .inv .2 in
-    let few = c .before .before .before .before .before .before .before .before .before .before .before .pre .1 .1 in
-    let (es, h) = c .before .before .before .before .before .before .before .before .before .before .before .pre .3 in
-    let n = c .before .before .before .before .before .before .before .before .value2 .ensures in
-    let p = c .before .before .before .before .before .before .before .before .before .value .ensures in
-    let long = c .before .before .before .before .before .before .before .before .before .before .before .pre .1 .2 in (
+    let m = loop .inv .1 in
+    let l = loop .inv .2 in
+    let few = start .pre .1 .1 in
+    let (es, h) = start .pre .3 in
+    let n = at-value2 .value2 .ensures in
+    let p = at-value .value .ensures in
+    let long = start .pre .1 .2 in (
       omega (arith, few),
       omega (arith, long),
-      (λ t. subst (λ (k : ℕ). all (inScope t (c .before .before .before .before .before .before .before .before .before .before .before .args .words .now) 16) (places (c .before .before .before .before .before .before .before .before .before .before .before .args .at + 3) k) ≡ true) (sym n) (c .before .before .before .before .before .before .before .before .before .before .before .pre .1 .3 t)),
-      c .before .before .before .before .before .before .before .before .before .before .before .pre .0,
-      omega (arith, c .before .before .before .before .before .before .before .before .before .before .before .pre .1 .0),
+      (λ t. subst (λ (k : ℕ). all (inScope t (a .words .now) 16) (places (a .at + 3) k) ≡ true) (sym n)
+          (start .pre .1 .3 t)),
+      start .pre .0,
+      omega (arith, start .pre .1 .0),
       omega arith,
-      (environmentOf es (c .before .before .before .before .before .before .loop .i), held-here (c .before) es [] h),
-      omega (arith, n, c .before .before .before .before .before .before .before .before .before .before .before .pre .4 .0),
-      omega (arith, n, c .before .before .before .before .before .before .before .before .before .before .before .pre .4 .1),
+      (environmentOf es (loop .i), held-here (c .before) es [] h),
+      omega (arith, n, start .pre .4 .0),
+      omega
+          (arith, n, start .pre .4 .1),
     )
 
 enum-known-added : tie.Need-enum-known-added Inv-loop μ-loop
@@ -145,32 +169,55 @@ enum-told : tie.Need-enum-told Inv-loop μ-loop
 enum-told c = search needs
 
 same-length : tie.Need-same-length Inv-loop μ-loop
-same-length c = c .before .before .before .match-rows .kept .1 .1 .1 .1 .1 .1 .1 .0 ∙ c .before .before .before .before .before .before .before .before .before .before .loop .inv .2
+same-length c =
+    let at-match-rows = c .before .before .before in
+    let at-loop = at-match-rows .before .before .before .before .before .before .before in
+    at-match-rows .match-rows .kept .1 .1 .1 .1 .1 .1 .1 .0 ∙ at-loop .loop .inv .2
 
 returns : tie.Need-returns Inv-loop μ-loop
-returns c = λ es table h.
-    let roomy = c .before .before .before .before .before .before .before .before .before .before .before .before .before .before .before .pre .2 in
-    let b1 = roomy .before in
-    let b2 = roomy .counted in
-    let b3 = roomy .within in
-    let b4 = roomy .there in
-    let m = c .before .before .before .before .before .before .before .before .before .before .loop .inv .1 in
-    let l = c .before .before .before .before .before .before .before .before .before .before .loop .inv .2 in
-    at-list (ap₂ (λ (p n : ℕ). gather (matches (rows (c .before .before .before .before .before .before .before .before .before .before .before .before .before .before .before .args .log .now)) p (termsAt table (c .before .before .before .before .before .before .before .before .before .before .before .before .before .before .before .args .words .now) (c .before .before .before .before .before .before .before .before .before .before .before .before .before .before .before .args .at + 3) n)) es) (c .before .before .before .before .before .before .before .before .before .before .before .before .before .value .ensures) (c .before .before .before .before .before .before .before .before .before .before .before .before .value2 .ensures))
-    (map-ran-out (λ e. matches (rows (c .before .before .before .before .before .before .before .before .before .before .before .before .before .before .before .args .log .now)) (c .before .before .before .before .before .before .before .before .before .before .before .before .before .value .result) (termsAt table (c .before .before .before .before .before .before .before .before .before .before .before .before .before .before .before .args .words .now) (c .before .before .before .before .before .before .before .before .before .before .before .before .before .before .before .args .at + 3) (c .before .before .before .before .before .before .before .before .before .before .before .before .value2 .result)) e) es (c .before .before .before .before .before .before .before .before .before .before .loop .i) (c .before .before .before .before .before .before .before .before .before .before .before .before .before .before .before .args .room) (c .before .before .before .before .before .before .before .before .before .before .loop .made) (c .before .before .before .before .before .before .before .before .before .before .before .before .before .before .before .args .scratch .now) (c .before .before .before .before .before .before .before .before .before .before .loop .scratch) (c .before .before .before .before .before .before .before .before .before .before .loop .inv .3 es table h) m h (omega arith) (c .enum-told .given .1) (c .before .before .before .match-rows .kept .1 .1 .1 .1 .1 .1 .1 .0 ∙ c .before .before .before .before .before .before .before .before .before .before .loop .inv .2) (c .before .before .before .match-rows .ensures (environmentOf es (c .before .before .before .before .before .before .before .before .before .before .loop .i)) table (held-here (c .before .before .before .before .before) es table h)) _)
+returns c =
+    let at-match-rows = c .before .before .before in
+    let match-rows = at-match-rows .match-rows in
+    let then = at-match-rows .before .before in
+    let at-loop = then .before .before .before .before .before in
+    let loop = at-loop .loop in
+    let at-value2 = at-loop .before .before in
+    let value2 = at-value2 .value2 in
+    let at-value = at-value2 .before in
+    let value = at-value .value in
+    let start = at-value .before .before in
+    let a = start .args in
+    λ es table h. let roomy = start .pre .2 in let b1 = roomy .before in let b2 = roomy .counted in let b3
+    = roomy .within in let b4 = roomy .there in let m = loop .inv .1 in let l = loop .inv .2 in at-list
+    (ap₂ (λ (p n : ℕ). gather (matches (rows (a .log .now)) p (termsAt table (a .words .now) (a .at + 3) n)) es)
+    (value .ensures) (value2 .ensures))
+    (map-ran-out
+    (λ e. matches (rows (a .log .now)) (value .result) (termsAt table (a .words .now) (a .at + 3) (value2 .result)) e)
+    es (loop .i) (a .room) (loop .made) (a .scratch .now) (loop .scratch) (loop .inv .3 es table h) m h
+    (omega (arith, then .before .before .before .if1 .taken))
+    (c .enum-told .given .1) (match-rows .kept .1 .1 .1 .1 .1 .1 .1 .0 ∙ loop .inv .2)
+    (match-rows .ensures (environmentOf es (loop .i)) table (held-here then es table h)) _)
 
 add-made : tie.Need-add-made Inv-loop μ-loop
 add-made c =
-    let roomy = c .before .before .before .before .before .before .before .before .before .before .before .before .before .before .before .before .pre .2 in
+    let at-match-rows = c .before .before .before .before in
+    let then = at-match-rows .before .before in
+    let at-loop = then .before .before .before .before .before in
+    let loop = at-loop .loop in
+    let at-pre = at-loop .before .before .before .before .before in
+    let pre = at-pre .pre in
+    let roomy = pre .2 in
     let b1 = roomy .before in
     let b2 = roomy .counted in
     let b3 = roomy .within in
     let b4 = roomy .there in
-    let m = c .before .before .before .before .before .before .before .before .before .before .before .loop .inv .1 in
-    let l = c .before .before .before .before .before .before .before .before .before .before .before .loop .inv .2 in
-    let (es, h) = c .before .before .before .before .before .before .before .before .before .before .before .before .before .before .before .before .pre .3 in
+    let m = loop .inv .1 in
+    let l = loop .inv .2 in
+    let (es, h) = pre .3 in
     let table : Words = [] in
-    let few = adds-places (c .before .added .given .1) (c .before .before .before .before .match-rows .ensures (environmentOf es (c .before .before .before .before .before .before .before .before .before .before .before .loop .i)) table (held-here (c .before .before .before .before .before .before) es table h)) .few in
+    let few =
+    adds-places (c .before .added .given .1)
+    (at-match-rows .match-rows .ensures (environmentOf es (loop .i)) table (held-here then es table h)) .few in
     omega arith
 
 add-i : tie.Need-add-i Inv-loop μ-loop
@@ -181,22 +228,39 @@ loop-less c = omega arith
 
 loop-again : tie.Need-loop-again Inv-loop μ-loop
 loop-again c =
-    let roomy = c .before .before .before .before .before .before .before .before .before .before .before .before .before .before .before .before .pre .2 in
+    let at-added = c .before in
+    let added = at-added .added in
+    let at-match-rows = at-added .before .before .before in
+    let match-rows = at-match-rows .match-rows in
+    let then = at-match-rows .before .before in
+    let at-loop = then .before .before .before .before .before in
+    let loop = at-loop .loop in
+    let at-value2 = at-loop .before .before in
+    let at-value = at-value2 .before in
+    let start = at-value .before .before in
+    let a = start .args in
+    let roomy = start .pre .2 in
     let b1 = roomy .before in
     let b2 = roomy .counted in
     let b3 = roomy .within in
     let b4 = roomy .there in
-    let m = c .before .before .before .before .before .before .before .before .before .before .before .loop .inv .1 in
-    let l = c .before .before .before .before .before .before .before .before .before .before .before .loop .inv .2 in
-    let (es₀, h₀) = c .before .before .before .before .before .before .before .before .before .before .before .before .before .before .before .before .pre .3 in
-    let few = adds-places (c .before .added .given .1) (c .before .before .before .before .match-rows .ensures (environmentOf es₀ (c .before .before .before .before .before .before .before .before .before .before .before .loop .i)) [] (held-here (c .before .before .before .before .before .before) es₀ [] h₀)) .few in (
+    let m = loop .inv .1 in
+    let l = loop .inv .2 in
+    let (es₀, h₀) = start .pre .3 in
+    let few =
+    adds-places (added .given .1)
+    (match-rows .ensures (environmentOf es₀ (loop .i)) [] (held-here then es₀ [] h₀)) .few in
+    let more = then .before .before .before .if1 .taken in (
+      omega (arith, more),
       omega arith,
-      omega arith,
-      c .before .before .before .before .match-rows .kept .1 .1 .1 .1 .1 .1 .1 .0 ∙ c .before .before .before .before .before .before .before .before .before .before .before .loop .inv .2,
-      λ es table h.
-          let adds = (c .before .before .before .before .match-rows .ensures (environmentOf es (c .before .before .before .before .before .before .before .before .before .before .before .loop .i)) table (held-here (c .before .before .before .before .before .before) es table h)) in
-          let filled = adds-places (c .before .added .given .1) adds in
-          map-step (λ e. matches (rows (c .before .before .before .before .before .before .before .before .before .before .before .before .before .before .before .before .args .log .now)) (c .before .before .before .before .before .before .before .before .before .before .before .before .before .before .value .result) (termsAt table (c .before .before .before .before .before .before .before .before .before .before .before .before .before .before .before .before .args .words .now) (c .before .before .before .before .before .before .before .before .before .before .before .before .before .before .before .before .args .at + 3) (c .before .before .before .before .before .before .before .before .before .before .before .before .before .value2 .result)) e) es (c .before .before .before .before .before .before .before .before .before .before .before .loop .i) (c .before .before .before .before .before .before .before .before .before .before .before .before .before .before .before .before .args .room .base) (c .before .before .before .before .before .before .before .before .before .before .before .loop .made) (c .before .before .before .before .before .before .before .before .before .before .before .before .before .before .before .before .args .scratch .now) (c .before .before .before .before .before .before .before .before .before .before .before .loop .scratch) (c .before .before .before .before .before .before .before .before .before .before .before .loop .inv .3 es table h) _ _ (omega (arith, h .long)) (filled .count) (filled .listed) (adds .front),
+      match-rows .kept .1 .1 .1 .1 .1 .1 .1 .0 ∙ loop .inv .2,
+      λ es table h. let adds
+          = (match-rows .ensures (environmentOf es (loop .i)) table (held-here then es table h)) in let filled = adds-places
+          (added .given .1) adds in map-step
+          (λ e. matches (rows (a .log .now)) (at-value .value .result)
+          (termsAt table (a .words .now) (a .at + 3) (at-value2 .value2 .result)) e) es (loop .i) (a .room .base) (loop .made)
+          (a .scratch .now) (loop .scratch) (loop .inv .3 es table h) _ _ (omega (arith, more, h .long)) (filled .count)
+          (filled .listed) (adds .front),
     )
 
 filled-requires : tie.Need-filled-requires Inv-loop μ-loop
@@ -211,28 +275,44 @@ filled-requires c κs =
     (b2, omega arith)
 
 add-t16 : tie.Need-add-t16 Inv-loop μ-loop
-add-t16 c = omega (arith, c .before .before .before .before .before .before .before .before .pre .1 .2, c .before .before .before .before .before .value2 .ensures)
+add-t16 c =
+    let at-value2 = c .before .before .before .before .before in
+    let at-pre = at-value2 .before .before .before in
+    omega (arith, at-pre .pre .1 .2, at-value2 .value2 .ensures)
 
 mul-t26 : tie.Need-mul-t26 Inv-loop μ-loop
-mul-t26 c = omega (arith, c .before .before .before .before .before .before .before .before .pre .1 .2, c .before .before .before .before .before .value2 .ensures)
+mul-t26 c =
+    let at-value2 = c .before .before .before .before .before in
+    let at-pre = at-value2 .before .before .before in
+    omega (arith, at-pre .pre .1 .2, at-value2 .value2 .ensures)
 
 add-t27 : tie.Need-add-t27 Inv-loop μ-loop
-add-t27 c = omega (arith, c .before .before .before .before .before .before .before .before .pre .1 .2, c .before .before .before .before .before .value2 .ensures)
+add-t27 c =
+    let at-value2 = c .before .before .before .before .before in
+    let at-pre = at-value2 .before .before .before in
+    omega (arith, at-pre .pre .1 .2, at-value2 .value2 .ensures)
 
 same-length-2 : tie.Need-same-length-2 Inv-loop μ-loop
 same-length-2 c = c .before .before .before .loop .inv .2
 
 returns-2 : tie.Need-returns-2 Inv-loop μ-loop
-returns-2 c = λ es table h.
-    let roomy = c .before .before .before .before .before .before .before .before .pre .2 in
-    let b1 = roomy .before in
-    let b2 = roomy .counted in
-    let b3 = roomy .within in
-    let b4 = roomy .there in
-    let m = c .before .before .before .loop .inv .1 in
-    let l = c .before .before .before .loop .inv .2 in
-    at-list (ap₂ (λ (p n : ℕ). gather (matches (rows (c .before .before .before .before .before .before .before .before .args .log .now)) p (termsAt table (c .before .before .before .before .before .before .before .before .args .words .now) (c .before .before .before .before .before .before .before .before .args .at + 3) n)) es) (c .before .before .before .before .before .before .value .ensures) (c .before .before .before .before .before .value2 .ensures))
-    (map-stood (λ e. matches (rows (c .before .before .before .before .before .before .before .before .args .log .now)) (c .before .before .before .before .before .before .value .result) (termsAt table (c .before .before .before .before .before .before .before .before .args .words .now) (c .before .before .before .before .before .before .before .before .args .at + 3) (c .before .before .before .before .before .value2 .result)) e) es (c .before .before .before .loop .i) (c .before .before .before .before .before .before .before .before .args .room) (c .before .before .before .loop .made) (c .before .before .before .before .before .before .before .before .args .scratch .now) (c .before .before .before .loop .scratch) (c .before .before .before .loop .inv .3 es table h) m h roomy (omega arith) l (c .filled .ensures) (ap (λ (k : ℕ). c .before .before .before .before .before .before .before .before .args .at + 3 + 2 * k) (c .before .before .before .before .before .value2 .ensures)))
+returns-2 c =
+    let at-loop = c .before .before .before in
+    let loop = at-loop .loop in
+    let at-value2 = at-loop .before .before in
+    let value2 = at-value2 .value2 in
+    let at-value = at-value2 .before in
+    let value = at-value .value in
+    let start = at-value .before .before in
+    let a = start .args in
+    λ es table h. let roomy = start .pre .2 in let b1 = roomy .before in let b2 = roomy .counted in let b3
+    = roomy .within in let b4 = roomy .there in let m = loop .inv .1 in let l = loop .inv .2 in at-list
+    (ap₂ (λ (p n : ℕ). gather (matches (rows (a .log .now)) p (termsAt table (a .words .now) (a .at + 3) n)) es)
+    (value .ensures) (value2 .ensures))
+    (map-stood
+    (λ e. matches (rows (a .log .now)) (value .result) (termsAt table (a .words .now) (a .at + 3) (value2 .result)) e)
+    es (loop .i) (a .room) (loop .made) (a .scratch .now) (loop .scratch) (loop .inv .3 es table h) m h roomy
+    (omega arith) l (c .filled .ensures) (ap (λ (k : ℕ). a .at + 3 + 2 * k) (value2 .ensures)))
 
 pub list-atom-spec : {M : Type 1} → statement M
 list-atom-spec =

@@ -17,7 +17,12 @@ abbrev μ-loop : tie.MeasureT-loop
 μ-loop keys links₀ heads rows link₀ links link = length keys + 1 - link
 
 loop-holds : tie.Need-loop-holds Inv-loop μ-loop
-loop-holds c = (omega arith, omega arith, filling-from ((length (c .args .keys .now)) + 1 - 1) (omega arith) (fill-start (c .args .keys .now) (c .args .heads) (c .args .links .now) (c .pre)))
+loop-holds c = (
+  omega arith,
+  omega arith,
+  filling-from ((length (c .args .keys .now)) + 1 - 1) (omega arith)
+      (fill-start (c .args .keys .now) (c .args .heads) (c .args .links .now) (c .pre)),
+)
 
 mul-key : tie.Need-mul-key Inv-loop μ-loop
 mul-key c = omega arith
@@ -26,15 +31,26 @@ shared-slice-read-key : tie.Need-shared-slice-read-key Inv-loop μ-loop
 shared-slice-read-key c = omega arith
 
 cast-key : tie.Need-cast-key Inv-loop μ-loop
-cast-key c = omega (arith, c .shared-slice-known .given ((length (c .before .before .before .args .keys .now)) - c .before .before .loop .link))
+cast-key c =
+    let at-loop = c .before .before in
+    let a = at-loop .before .args in
+    omega (arith, c .shared-slice-known .given ((length (a .keys .now)) - at-loop .loop .link))
 
 key-in :
     (c : tie.After-shared-slice-known Inv-loop μ-loop) →
-    getD (c .before .before .before .args .keys .now) ((length (c .before .before .before .args .keys .now)) - c .before .before .loop .link) 0 < (c .before .before .before .args .heads)
+    let at-loop = c .before .before in
+    let a = at-loop .before .args in
+    getD (a .keys .now) ((length (a .keys .now)) - at-loop .loop .link) 0 < (a .heads)
 key-in c =
-    let t : c .before .before .loop .link ≤ (length (c .before .before .before .args .keys .now)) = omega arith in
-    let first : 1 ≤ c .before .before .loop .link = c .before .before .loop .inv .0 in
-    key-small (c .before .before .before .args .keys .now) (c .before .before .before .args .heads) (c .before .before .before .args .links .now) (c .before .before .before .pre) ((length (c .before .before .before .args .keys .now)) - c .before .before .loop .link) ((length (c .before .before .before .args .keys .now)) + 1 - c .before .before .loop .link) ((length (c .before .before .before .args .keys .now)) - ((length (c .before .before .before .args .keys .now)) - c .before .before .loop .link)) (c .before .before .loop .links) (omega arith) (omega arith) (c .before .before .loop .inv .2) refl
+    let at-loop = c .before .before in
+    let loop = at-loop .loop in
+    let start = at-loop .before in
+    let a = start .args in
+    let t : loop .link ≤ (length (a .keys .now)) = omega arith in
+    let first : 1 ≤ loop .link = loop .inv .0 in
+    key-small (a .keys .now) (a .heads) (a .links .now) (start .pre) ((length (a .keys .now)) - loop .link)
+    ((length (a .keys .now)) + 1 - loop .link) ((length (a .keys .now)) - ((length (a .keys .now)) - loop .link))
+    (loop .links) (omega arith) (omega arith) (loop .inv .2) refl
 
 mul-links : tie.Need-mul-links Inv-loop μ-loop
 mul-links c =
@@ -84,20 +100,32 @@ loop-less c = omega arith
 
 loop-again : tie.Need-loop-again Inv-loop μ-loop
 loop-again c =
-    let t : c .before .before .before .loop .link ≤ (length (c .before .before .before .before .args .keys .now)) = omega arith in
-    let first : 1 ≤ c .before .before .before .loop .link = c .before .before .before .loop .inv .0 in
-    let from : (length (c .before .before .before .before .args .keys .now)) - c .before .before .before .loop .link ≡ (length (c .before .before .before .before .args .keys .now)) + 1 - (c .before .before .before .loop .link + 1) = omega arith in (
+    let at-loop = c .before .before .before in
+    let loop = at-loop .loop in
+    let start = at-loop .before in
+    let a = start .args in
+    let t : loop .link ≤ (length (a .keys .now)) = omega arith in
+    let first : 1 ≤ loop .link = loop .inv .0 in
+    let from : (length (a .keys .now)) - loop .link ≡ (length (a .keys .now)) + 1 - (loop .link + 1) = omega arith in (
       omega arith,
       omega arith,
-      filling-from ((length (c .before .before .before .before .args .keys .now)) + 1 - (c .before .before .before .loop .link + 1)) from
-          (fill-step (c .before .before .before .before .args .keys .now) (c .before .before .before .before .args .heads) (c .before .before .before .before .args .links .now) (c .before .before .before .before .pre) ((length (c .before .before .before .before .args .keys .now)) - c .before .before .before .loop .link) ((length (c .before .before .before .before .args .keys .now)) + 1 - c .before .before .before .loop .link) (c .before .before .before .loop .link) (c .before .before .before .loop .links) (omega arith) (omega arith) (c .before .before .before .loop .inv .2) (omega arith)),
+      filling-from ((length (a .keys .now)) + 1 - (loop .link + 1)) from
+          (fill-step (a .keys .now) (a .heads) (a .links .now) (start .pre) ((length (a .keys .now)) - loop .link)
+          ((length (a .keys .now)) + 1 - loop .link) (loop .link) (loop .links) (omega arith) (omega arith) (loop .inv .2)
+          (omega arith)),
     )
 
 same-length : tie.Need-same-length Inv-loop μ-loop
 same-length c = omega arith
 
 returns : tie.Need-returns Inv-loop μ-loop
-returns c = fill-end (c .before .before .args .keys .now) (c .before .before .args .heads) (c .before .before .args .links .now) (c .before .before .pre) (c .before .loop .links) ((length (c .before .before .args .keys .now)) + 1 - c .before .loop .link) (omega (arith, c .loop-test .left)) (c .before .loop .inv .2)
+returns c =
+    let at-loop = c .before in
+    let loop = at-loop .loop in
+    let start = at-loop .before in
+    let a = start .args in
+    fill-end (a .keys .now) (a .heads) (a .links .now) (start .pre) (loop .links)
+    ((length (a .keys .now)) + 1 - loop .link) (omega (arith, c .loop-test .left)) (loop .inv .2)
 
 pub fill-spec : {M : Type 1} → statement M
 fill-spec =

@@ -20,13 +20,19 @@ abbrev μ-loop : tie.MeasureT-loop
 
 loop-holds : tie.Need-loop-holds Inv-loop μ-loop
 unfolding rowCount
-loop-holds c = (omega arith, keying-start (trueKey (c .before .before .args .log .now)) (rowCount (c .before .before .args .log .now)) (c .before .before .args .keys .now) (c .before .before .pre .1))
+loop-holds c =
+    let start = c .before .before in
+    let a = start .args in
+    (omega arith, keying-start (trueKey (a .log .now)) (rowCount (a .log .now)) (a .keys .now) (start .pre .1))
 
 of-true-requires : tie.Need-of-true-requires Inv-loop μ-loop
 of-true-requires c κs = omega arith
 
 cast-keys : tie.Need-cast-keys Inv-loop μ-loop
-cast-keys c = omega (arith, true-small (c .before .before .before .before .before .args .log .now) (c .before .before .loop .row), c .of-true .ensures)
+cast-keys c =
+    let at-loop = c .before .before in
+    let a = at-loop .before .before .before .args in
+    omega (arith, true-small (a .log .now) (at-loop .loop .row), c .of-true .ensures)
 
 mul-keys : tie.Need-mul-keys Inv-loop μ-loop
 unfolding rowCount
@@ -49,28 +55,52 @@ loop-less c = omega arith
 loop-again : tie.Need-loop-again Inv-loop μ-loop
 unfolding rowCount
 loop-again c =
-    (omega (arith, c .before .loop-test .taken), keying-step (trueKey (c .before .before .before .before .before .args .log .now)) (rowCount (c .before .before .before .before .before .args .log .now)) (c .before .before .loop .row) (c .before .before .loop .keys) _ (c .before .loop-test .taken) (c .of-true .ensures) (c .before .before .loop .inv .1))
+    let at-loop-test = c .before in
+    let loop-test = at-loop-test .loop-test in
+    let at-loop = at-loop-test .before in
+    let loop = at-loop .loop in
+    let a = at-loop .before .before .before .args in (
+      omega (arith, loop-test .taken),
+      keying-step (trueKey (a .log .now)) (rowCount (a .log .now)) (loop .row)
+          (loop .keys) _ (loop-test .taken) (c .of-true .ensures) (loop .inv .1),
+    )
 
 keys-there :
     (c : tie.After-loop Inv-loop μ-loop) →
     Keys trueKey (c .before .before .before .before .args .log .now) (c .before .loop .keys)
 unfolding rowCount
-keys-there c = keying-keys trueKey (c .before .before .before .before .args .log .now) (c .before .loop .keys) (c .before .loop .row) (c .loop-test .left) (c .before .loop .inv .1)
+keys-there c =
+    let at-loop = c .before in
+    let loop = at-loop .loop in
+    let a = at-loop .before .before .before .args in
+    keying-keys trueKey (a .log .now) (loop .keys) (loop .row) (c .loop-test .left) (loop .inv .1)
 
 fill-requires : tie.Need-fill-requires Inv-loop μ-loop
 fill-requires c κs =
-    keys-ready trueKey (c .before .before .before .before .before .before .args .log .now) (c .before .before .before .loop .keys) 257 4353 (c .before .before .before .before .before .before .args .links .now) (keys-there (c .before .before))
-    (omega (arith, c .before .before .before .before .before .before .pre .0)) (c .before .before .before .before .before .before .pre .0) (c .before .before .before .before .before .before .pre .2) (true-small (c .before .before .before .before .before .before .args .log .now))
+    let then = c .before .before in
+    let at-loop = then .before in
+    let start = at-loop .before .before .before in
+    let a = start .args in
+    keys-ready trueKey (a .log .now) (at-loop .loop .keys) 257 4353 (a .links .now) (keys-there then)
+    (omega (arith, start .pre .0)) (start .pre .0) (start .pre .2) (true-small (a .log .now))
 
 same-length : tie.Need-same-length Inv-loop μ-loop
 same-length c =
-    c .before .before .before .before .before .before .loop .inv .1 .long ∙ sym (c .before .before .before .before .before .before .before .before .before .pre .1)
+    let at-loop = c .before .before .before .before .before .before in
+    let at-pre = at-loop .before .before .before in
+    at-loop .loop .inv .1 .long ∙ sym (at-pre .pre .1)
 
 same-length-2 : tie.Need-same-length-2 Inv-loop μ-loop
 same-length-2 c = c .before .before .fill .kept .1 .0
 
 returns : tie.Need-returns Inv-loop μ-loop
-returns c = keys-chained trueKey (c .before .before .before .before .before .before .before .before .before .args .log .now) (c .before .before .before .before .before .before .loop .keys) 257 4353 (c .before .before .before .before .before .before .before .before .before .args .links .now) (keys-there (c .before .before .before .before .before)) _ (c .before .before .fill .ensures)
+returns c =
+    let at-fill = c .before .before in
+    let then = at-fill .before .before .before in
+    let at-loop = then .before in
+    let a = at-loop .before .before .before .args in
+    keys-chained trueKey (a .log .now) (at-loop .loop .keys) 257 4353 (a .links .now) (keys-there then) _
+    (at-fill .fill .ensures)
 
 pub by-predicate-spec : {M : Type 1} → statement M
 by-predicate-spec =

@@ -88,11 +88,17 @@ add-result-6 c = search needs
 returns : tie.Need-returns
 unfolding atomKey
 returns c =
-    let ws = c .before .before .before .before .before .before .args .words .now in
-    let at = c .before .before .before .before .before .before .args .at in
-    spread-of (c .before .before .before .before .before .before .args .predicate) _ _ _ _ _ _ (λ i. fromLeast (word ws (at + i)))
-    (c .before .before .before .before .before .offset .ensures ∙ ap (λ (i : ℕ). fromLeast (word ws i)) (sym (add-zero at)))
-    (c .before .before .before .before .offset2 .ensures) (c .before .before .before .offset3 .ensures) (c .before .before .offset4 .ensures) (c .before .offset5 .ensures) (c .offset6 .ensures)
+    let at-offset4 = c .before .before in
+    let at-offset3 = at-offset4 .before in
+    let at-offset2 = at-offset3 .before in
+    let at-offset = at-offset2 .before in
+    let a = at-offset .before .args in
+    let ws = a .words .now in
+    let at = a .at in
+    spread-of (a .predicate) _ _ _ _ _ _ (λ i. fromLeast (word ws (at + i)))
+    (at-offset .offset .ensures ∙ ap (λ (i : ℕ). fromLeast (word ws i)) (sym (add-zero at)))
+    (at-offset2 .offset2 .ensures) (at-offset3 .offset3 .ensures) (at-offset4 .offset4 .ensures)
+    (c .before .offset5 .ensures) (c .offset6 .ensures)
 
 pub of-atom-spec : {M : Type 1} → statement M
 of-atom-spec =

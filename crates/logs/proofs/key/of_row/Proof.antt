@@ -19,7 +19,9 @@ is-requires : tie.Need-is-requires
 is-requires c κs = search needs
 
 returns : tie.Need-returns
-returns c = first-not (c .before .before .args .log .now) (c .before .before .args .row) (sym (c .before .is .ensures) ∙ not-true _ (c .if1 .taken))
+returns c =
+    let a = c .before .before .args in
+    first-not (a .log .now) (a .row) (sym (c .before .is .ensures) ∙ not-true _ (c .if1 .taken))
 
 mul-value : tie.Need-mul-value
 mul-value c = search needs
@@ -38,9 +40,15 @@ of-first-requires c κs = search needs
 
 returns-2 : tie.Need-returns-2
 returns-2 c =
-    c .of-first .ensures
-    ∙ ap (λ (p : ℕ). firstSpread p (word (c .before .before .before .before .args .log .now) (8 * c .before .before .before .before .args .row + 2))) (c .before .value .ensures)
-    ∙ first-here (c .before .before .before .before .args .log .now) (c .before .before .before .before .args .row) (sym (c .before .before .before .is .ensures) ∙ not-false _ (c .before .before .if1 .left))
+    let at-if1 = c .before .before in
+    let at-is = at-if1 .before in
+    let a = at-is .before .args in
+    c .of-first .ensures ∙ ap (λ (p : ℕ). firstSpread p (word (a .log .now) (8 * a .row + 2)))
+    (c .before .value .ensures) ∙ first-here (a .log .now) (a .row)
+    (sym (at-is .is .ensures) ∙ not-false _ (at-if1 .if1 .left))
 
 pub of-row-spec : {M : Type 1} → statement M
-of-row-spec = tie.close (tie.spec mul-is add-is is-requires returns mul-value value-requires mul-of-first add-of-first of-first-requires returns-2)
+of-row-spec =
+    tie.close
+    (tie.spec mul-is add-is is-requires returns mul-value value-requires mul-of-first add-of-first of-first-requires
+    returns-2)

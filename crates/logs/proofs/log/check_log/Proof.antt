@@ -38,10 +38,17 @@ never : {X : Type 0} {p : ℕ} → Refused LogLength p ≡ Passed → X
 never e = let z : _≡_ {A = ℕ} 0 1 = cc in absurd (omega arith)
 
 returns : tie.Need-returns
-returns c = record { asked = ask-whole (c .before .before .args .table .now) (c .before .before .args .log .now) (ne-eqb _ 0 (c .if1 .taken)); chained = λ e. never e }
+returns c =
+    let a = c .before .before .args in
+    record { asked = ask-whole (a .table .now) (a .log .now) (ne-eqb _ 0 (c .if1 .taken)); chained = λ e. never e }
 
 returns-2 : tie.Need-returns-2
-returns-2 c = record { asked = ask-long (c .before .before .before .args .table .now) (c .before .before .before .args .log .now) (eq-eqb _ 0 (c .before .if1 .left)) (lt-leb _ 4096 (c .if2 .taken)); chained = λ e. never e }
+returns-2 c =
+    let a = c .before .before .before .args in
+    record {
+      asked = ask-long (a .table .now) (a .log .now) (eq-eqb _ 0 (c .before .if1 .left)) (lt-leb _ 4096 (c .if2 .taken));
+      chained = λ e. never e;
+    }
 
 array-borrow-prefix-keys : tie.Need-array-borrow-prefix-keys
 array-borrow-prefix-keys c = search needs
@@ -51,16 +58,28 @@ slice-aggregate-chain-and-check c = sym (first-keys (length (c .before .before .
 
 chain-and-check-requires : tie.Need-chain-and-check-requires
 unfolding rowCount
-chain-and-check-requires c κs = (c .before .before .before .before .before .pre .0, c .before .before .if2 .left, first-keys (length (c .before .before .before .before .before .args .log .now) / 8) (c .before .before .if2 .left), c .before .before .before .before .before .pre .1)
+chain-and-check-requires c κs =
+    let at-if2 = c .before .before in
+    let if2 = at-if2 .if2 in
+    let start = at-if2 .before .before .before in
+    let a = start .args in
+    (start .pre .0, if2 .left, first-keys (length (a .log .now) / 8) (if2 .left), start .pre .1)
 
 same-length : tie.Need-same-length
 same-length c = search needs
 
 returns-3 : tie.Need-returns-3
-returns-3 c = record {
-  asked = c .before .before .before .chain-and-check .ensures .0 ∙ sym (ask-rows (c .before .before .before .before .before .before .before .before .before .args .table .now) (c .before .before .before .before .before .before .before .before .before .args .log .now) (eq-eqb _ 0 (c .before .before .before .before .before .before .before .if1 .left)) (le-leb _ 4096 (c .before .before .before .before .before .before .if2 .left)));
-  chained = λ e. c .before .before .before .chain-and-check .ensures .1;
-}
+returns-3 c =
+    let at-chain-and-check = c .before .before .before in
+    let chain-and-check = at-chain-and-check .chain-and-check in
+    let at-if2 = at-chain-and-check .before .before .before in
+    let at-if1 = at-if2 .before in
+    let a = at-if1 .before .before .args in
+    record {
+      asked = chain-and-check .ensures .0 ∙ sym
+          (ask-rows (a .table .now) (a .log .now) (eq-eqb _ 0 (at-if1 .if1 .left)) (le-leb _ 4096 (at-if2 .if2 .left)));
+      chained = λ e. chain-and-check .ensures .1;
+    }
 
 pub check-log-spec : {M : Type 1} → statement M
 check-log-spec =

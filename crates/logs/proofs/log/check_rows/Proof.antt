@@ -52,10 +52,12 @@ abbrev μ-loop : tie.MeasureT-loop
 μ-loop table log keys links n row₀ row = n - row
 
 loop-holds : tie.Need-loop-holds Inv-loop μ-loop
-loop-holds c = (
-  omega arith,
-  rows-start (c .before .before .args .table .now) (c .before .before .args .log .now) ∙ ap (λ (m : ℕ). inTurn (row-questions (c .before .before .args .table .now) (c .before .before .args .log .now)) (span 0 m)) (sym (sub-zero _)),
-)
+loop-holds c =
+    let a = c .before .before .args in (
+      omega arith,
+      rows-start (a .table .now) (a .log .now) ∙ ap
+          (λ (m : ℕ). inTurn (row-questions (a .table .now) (a .log .now)) (span 0 m)) (sym (sub-zero _)),
+    )
 
 mul-at : tie.Need-mul-at Inv-loop μ-loop
 mul-at c = omega arith
@@ -80,34 +82,62 @@ good-row-requires c κs = (c .before .before .before .before .before .pre .0, si
 
 asked :
     (c : tie.After-good-row Inv-loop μ-loop) →
-    goodRow (c .before .before .before .before .before .before .args .table .now) (rowAt (c .before .before .before .before .before .before .args .log .now) (c .before .before .before .loop .row)) ≡ c .good-row .result
+    let at-loop = c .before .before .before in
+    let a = at-loop .before .before .before .args in
+    goodRow (a .table .now) (rowAt (a .log .now) (at-loop .loop .row)) ≡ c .good-row .result
 unfolding rowAt
 asked c =
-    let eight : (8 * c .before .before .before .loop .row + 8) - 8 * c .before .before .before .loop .row ≡ 8 = omega arith in
-    sym (c .good-row .ensures ∙ ap (λ (n : ℕ). goodRow (c .before .before .before .before .before .before .args .table .now) (take n (drop (8 * c .before .before .before .loop .row) (c .before .before .before .before .before .before .args .log .now)))) eight)
+    let at-loop = c .before .before .before in
+    let loop = at-loop .loop in
+    let a = at-loop .before .before .before .args in
+    let eight : (8 * loop .row + 8) - 8 * loop .row ≡ 8 = omega arith in
+    sym
+    (c .good-row .ensures ∙ ap (λ (n : ℕ). goodRow (a .table .now) (take n (drop (8 * loop .row) (a .log .now)))) eight)
 
 returns : tie.Need-returns Inv-loop μ-loop
 returns c =
+    let at-loop-test = c .before .before .before in
+    let at-loop = at-loop-test .before in
+    let loop = at-loop .loop in
+    let a = at-loop .before .before .before .args in
     sym
-    (c .before .before .before .before .loop .inv .1
-    ∙ turn-stop (row-questions (c .before .before .before .before .before .before .before .args .table .now) (c .before .before .before .before .before .before .before .args .log .now)) (c .before .before .before .before .loop .row) (length (c .before .before .before .before .before .before .before .args .log .now) / 8) (c .before .before .before .loop-test .taken)
-    (row-bad (c .before .before .before .before .before .before .before .args .table .now) (c .before .before .before .before .before .before .before .args .log .now) (c .before .before .before .before .loop .row) (asked (c .before) ∙ not-true _ (c .if1 .taken))))
+    (loop .inv .1 ∙ turn-stop (row-questions (a .table .now) (a .log .now)) (loop .row) (length (a .log .now) / 8)
+    (at-loop-test .loop-test .taken)
+    (row-bad (a .table .now) (a .log .now) (loop .row) (asked (c .before) ∙ not-true _ (c .if1 .taken))))
 
 is-good :
     (c : tie.Else1 Inv-loop μ-loop) →
-    goodRow (c .before .before .before .before .before .before .before .args .table .now) (rowAt (c .before .before .before .before .before .before .before .args .log .now) (c .before .before .before .before .loop .row)) ≡ true
+    let at-loop = c .before .before .before .before in
+    let a = at-loop .before .before .before .args in
+    goodRow (a .table .now) (rowAt (a .log .now) (at-loop .loop .row)) ≡ true
 is-good c = asked (c .before) ∙ not-false _ (c .if1 .left)
 
 repeats-requires : tie.Need-repeats-requires Inv-loop μ-loop
 unfolding rowCount
-repeats-requires c κs = (c .before .before .before .before .before .before .before .pre .1, c .before .before .before .before .before .before .before .pre .2, c .before .before .before .loop-test .taken, good-number (c .before .before .before .before .before .before .before .args .table .now) (c .before .before .before .before .before .before .before .args .log .now) (c .before .before .before .before .loop .row) (is-good c))
+repeats-requires c κs =
+    let at-loop-test = c .before .before .before in
+    let at-loop = at-loop-test .before in
+    let start = at-loop .before .before .before in
+    let a = start .args in (
+      start .pre .1,
+      start .pre .2,
+      at-loop-test .loop-test .taken,
+      good-number (a .table .now) (a .log .now)
+          (at-loop .loop .row) (is-good c),
+    )
 
 returns-2 : tie.Need-returns-2 Inv-loop μ-loop
 returns-2 c =
+    let then = c .before .before in
+    let at-loop-test = then .before .before .before in
+    let at-loop = at-loop-test .before in
+    let loop = at-loop .loop in
+    let a = at-loop .before .before .before .args in
     sym
-    (c .before .before .before .before .before .before .loop .inv .1
-    ∙ turn-stop (row-questions (c .before .before .before .before .before .before .before .before .before .args .table .now) (c .before .before .before .before .before .before .before .before .before .args .log .now)) (c .before .before .before .before .before .before .loop .row) (length (c .before .before .before .before .before .before .before .before .before .args .log .now) / 8) (c .before .before .before .before .before .loop-test .taken)
-    (row-repeats (c .before .before .before .before .before .before .before .before .before .args .table .now) (c .before .before .before .before .before .before .before .before .before .args .log .now) (c .before .before .before .before .before .before .loop .row) (is-good (c .before .before)) (sym (c .before .repeats .ensures) ∙ c .if2 .taken)))
+    (loop .inv .1 ∙ turn-stop (row-questions (a .table .now) (a .log .now)) (loop .row) (length (a .log .now) / 8)
+    (at-loop-test .loop-test .taken)
+    (row-repeats (a .table .now) (a .log .now) (loop .row) (is-good then)
+    (sym (c .before .repeats .ensures) ∙ c .if2 .taken)))
 
 add-row : tie.Need-add-row Inv-loop μ-loop
 add-row c = omega arith
@@ -116,16 +146,27 @@ loop-less : tie.Need-loop-less Inv-loop μ-loop
 loop-less c = omega arith
 
 loop-again : tie.Need-loop-again Inv-loop μ-loop
-loop-again c = (
-  omega arith,
-  c .before .before .before .before .before .before .loop .inv .1
-      ∙ turn-step (row-questions (c .before .before .before .before .before .before .before .before .before .args .table .now) (c .before .before .before .before .before .before .before .before .before .args .log .now)) (c .before .before .before .before .before .before .loop .row) (length (c .before .before .before .before .before .before .before .before .before .args .log .now) / 8) (c .before .before .before .before .before .loop-test .taken)
-      (row-passed (c .before .before .before .before .before .before .before .before .before .args .table .now) (c .before .before .before .before .before .before .before .before .before .args .log .now) (c .before .before .before .before .before .before .loop .row) (is-good (c .before .before)) (sym (c .before .repeats .ensures) ∙ c .if2 .left)),
-)
+loop-again c =
+    let then = c .before .before in
+    let at-loop-test = then .before .before .before in
+    let at-loop = at-loop-test .before in
+    let loop = at-loop .loop in
+    let a = at-loop .before .before .before .args in (
+      omega arith,
+      loop .inv .1 ∙ turn-step (row-questions (a .table .now) (a .log .now)) (loop .row)
+          (length (a .log .now) / 8) (at-loop-test .loop-test .taken)
+          (row-passed (a .table .now) (a .log .now) (loop .row) (is-good then)
+          (sym (c .before .repeats .ensures) ∙ c .if2 .left)),
+    )
 
 returns-3 : tie.Need-returns-3 Inv-loop μ-loop
 returns-3 c =
-    sym (c .before .loop .inv .1 ∙ turn-end (row-questions (c .before .before .before .before .args .table .now) (c .before .before .before .before .args .log .now)) (c .before .loop .row) (length (c .before .before .before .before .args .log .now) / 8) (c .loop-test .left))
+    let at-loop = c .before in
+    let loop = at-loop .loop in
+    let a = at-loop .before .before .before .args in
+    sym
+    (loop .inv .1 ∙ turn-end (row-questions (a .table .now) (a .log .now)) (loop .row) (length (a .log .now) / 8)
+    (c .loop-test .left))
 
 pub check-rows-spec : {M : Type 1} → statement M
 check-rows-spec =

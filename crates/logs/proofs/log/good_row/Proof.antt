@@ -39,8 +39,12 @@ value-requires c κs = search needs
 arity-requires : tie.Need-arity-requires
 unfolding value
 arity-requires c κs =
-    let s = c .before .before .before .before .before in
-    let known = below-value (length (s .args .table .now) / 3) _ (sym (c .before .before .before .before .below .ensures) ∙ not-false _ (c .before .before .before .if1 .left)) in
+    let at-if1 = c .before .before .before in
+    let at-below = at-if1 .before in
+    let s = at-below .before in
+    let known =
+    below-value (length (s .args .table .now) / 3) _
+    (sym (at-below .below .ensures) ∙ not-false _ (at-if1 .if1 .left)) in
     let short = s .pre .0 in
     omega (arith, c .value .ensures, known .1)
 

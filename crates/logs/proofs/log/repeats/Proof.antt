@@ -41,22 +41,45 @@ cast-start c = omega (arith, c .shared-slice-known3 .given (c .before .before .b
 
 mul-head : tie.Need-mul-head
 unfolding rowCount
-mul-head c = let small = row-small (c .before .before .before .args .log .now) (c .before .before .before .args .row) in let own = c .before .before .before .pre .0 .keyed (c .before .before .before .args .row) (c .before .before .before .pre .2) in omega arith
+mul-head c =
+    let start = c .before .before .before in
+    let a = start .args in
+    let small = row-small (a .log .now) (a .row) in
+    let own = start .pre .0 .keyed (a .row) (start .pre .2) in
+    omega arith
 
 shared-slice-read-head : tie.Need-shared-slice-read-head
 unfolding rowCount
-shared-slice-read-head c = let small = row-small (c .before .before .before .before .args .log .now) (c .before .before .before .before .args .row) in let own = c .before .before .before .before .pre .0 .keyed (c .before .before .before .before .args .row) (c .before .before .before .before .pre .2) in let room = c .before .before .before .before .pre .1 .within in omega arith
+shared-slice-read-head c =
+    let start = c .before .before .before .before in
+    let a = start .args in
+    let small = row-small (a .log .now) (a .row) in
+    let own = start .pre .0 .keyed (a .row) (start .pre .2) in
+    let room = start .pre .1 .within in
+    omega arith
 
 cast-head : tie.Need-cast-head
-cast-head c = omega (arith, c .shared-slice-known4 .given (getD (c .before .before .before .before .args .keys .now) (c .before .before .before .before .args .row) 0))
+cast-head c =
+    let a = c .before .before .before .before .args in
+    omega (arith, c .shared-slice-known4 .given (getD (a .keys .now) (a .row) 0))
 
 sub-head : tie.Need-sub-head
 unfolding rowCount
-sub-head c = let few = own-link (c .before .before .before .before .args .log .now) (c .before .before .before .before .args .links .now) (c .before .before .before .before .pre .1) (c .before .before .before .before .args .row) _ (c .before .before .before .before .pre .0 .keyed (c .before .before .before .before .args .row) (c .before .before .before .before .pre .2)) in omega arith
+sub-head c =
+    let start = c .before .before .before .before in
+    let a = start .args in
+    let few =
+    own-link (a .log .now) (a .links .now) (start .pre .1) (a .row) _ (start .pre .0 .keyed (a .row) (start .pre .2)) in
+    omega arith
 
 returns : tie.Need-returns
 unfolding rowCount
-returns c = sym (own-first (c .before .before .before .before .before .args .log .now) (c .before .before .before .before .before .args .links .now) (c .before .before .before .before .before .pre .1) (c .before .before .before .before .before .args .row) _ (c .before .before .before .before .before .pre .0 .keyed (c .before .before .before .before .before .args .row) (c .before .before .before .before .before .pre .2)) (c .before .before .before .before .before .pre .2) (c .before .before .before .before .before .pre .3) (c .if1 .taken))
+returns c =
+    let start = c .before .before .before .before .before in
+    let a = start .args in
+    sym
+    (own-first (a .log .now) (a .links .now) (start .pre .1) (a .row) _ (start .pre .0 .keyed (a .row) (start .pre .2))
+    (start .pre .2) (start .pre .3) (c .if1 .taken))
 
 value-requires : tie.Need-value-requires
 value-requires c κs = search needs
@@ -86,14 +109,16 @@ part-search-end c = omega arith
 search-requires : tie.Need-search-requires
 unfolding rowCount
 search-requires c κs =
-    let log = c .before .before .before .before .before .before .before .args .log .now in
-    let row = c .before .before .before .before .before .before .before .args .row in
+    let start = c .before .before .before .before .before .before .before in
+    let a = start .args in
+    let log = a .log .now in
+    let row = a .row in
     let six : (8 * row + 8) - (8 * row + 2) ≡ 6 = omega arith in (
-      c .before .before .before .before .before .before .before .pre .1,
-      simp (length-take, length-drop) (omega (arith, c .before .before .before .before .before .before .before .pre .2)),
-      c .before .before .before .before .before .before .before .pre .0 .keyed row (c .before .before .before .before .before .before .before .pre .2)
-          ∙ own-key log row (c .before .before .before .before .before .before .before .pre .2) (c .before .before .before .before .before .before .before .pre .3)
-          ∙ sym (ap₂ (λ (p n : ℕ). atomKey p (take n (drop (8 * row + 2) log)) 0) (c .before .value .ensures) six),
+      start .pre .1,
+      simp (length-take, length-drop) (omega (arith, start .pre .2)),
+      start .pre .0 .keyed row
+          (start .pre .2) ∙ own-key log row (start .pre .2) (start .pre .3) ∙ sym
+          (ap₂ (λ (p n : ℕ). atomKey p (take n (drop (8 * row + 2) log)) 0) (c .before .value .ensures) six),
     )
 
 enum-known-found : tie.Need-enum-known-found
@@ -104,20 +129,30 @@ enum-told c = search needs
 
 found :
     (c : tie.After-search) →
-    repeatsAt (c .before .before .before .before .before .before .before .before .args .log .now) (c .before .before .before .before .before .before .before .before .args .row) ≡ earlier (c .before .before .before .before .before .before .before .before .args .row) (c .search .result)
+    let a = c .before .before .before .before .before .before .before .before .args in
+    repeatsAt (a .log .now) (a .row) ≡ earlier (a .row) (c .search .result)
 found c =
-    let log = c .before .before .before .before .before .before .before .before .args .log .now in
-    let row = c .before .before .before .before .before .before .before .before .args .row in
+    let at-value = c .before .before in
+    let start = at-value .before .before .before .before .before .before in
+    let a = start .args in
+    let log = a .log .now in
+    let row = a .row in
     let six : (8 * row + 8) - (8 * row + 2) ≡ 6 = omega arith in
-    repeats-first log row (c .before .before .before .before .before .before .before .before .pre .2) (c .before .before .before .before .before .before .before .before .pre .3)
-    (c .search .ensures
-    ∙ ap₂ (λ (p n : ℕ). firstRow log p (take n (drop (8 * row + 2) log)) (span 0 (rowCount log))) (c .before .before .value .ensures) six)
+    repeats-first log row (start .pre .2) (start .pre .3)
+    (c .search .ensures ∙ ap₂ (λ (p n : ℕ). firstRow log p (take n (drop (8 * row + 2) log)) (span 0 (rowCount log)))
+    (at-value .value .ensures) six)
 
 returns-2 : tie.Need-returns-2
-returns-2 c = sym (found (c .before .before .before) ∙ ap (earlier (c .before .before .before .before .before .before .before .before .before .before .before .args .row)) (c .before .found .given .1))
+returns-2 c =
+    let then = c .before .before .before in
+    let a = then .before .before .before .before .before .before .before .before .args in
+    sym (found then ∙ ap (earlier (a .row)) (c .before .found .given .1))
 
 returns-3 : tie.Need-returns-3
-returns-3 c = sym (found (c .before .before) ∙ ap (earlier (c .before .before .before .before .before .before .before .before .before .before .args .row)) (c .enum-told .given .1))
+returns-3 c =
+    let then = c .before .before in
+    let a = then .before .before .before .before .before .before .before .before .args in
+    sym (found then ∙ ap (earlier (a .row)) (c .enum-told .given .1))
 
 pub repeats-spec : {M : Type 1} → statement M
 repeats-spec =

@@ -41,23 +41,37 @@ loop-less c = omega arith
 
 loop-again : tie.Need-loop-again Inv-loop μ-loop
 loop-again c =
+    let at-zero = c .before in
+    let zero = at-zero .zero in
+    let at-loop-test = at-zero .before in
+    let loop-test = at-loop-test .loop-test in
+    let at-loop = at-loop-test .before in
+    let loop = at-loop .loop in
+    let start = at-loop .before in
+    let a = start .args in
     ⊎-elim
     (λ w. let now = w .1 in (
       omega arith,
       omega arith,
-      c .before .before .before .loop .inv .2 ∙ unused-word (c .before .before .before .before .args .row .now) (c .before .before .before .before .pre) (c .before .before .before .before .args .n) (c .before .before .before .loop .i) (c .before .before .before .loop .used) (c .before .before .loop-test .taken) (c .before .before .before .loop .inv .1) (sym (c .before .zero .ensures) ∙ not-true _ (w .0 .taken))
-          ∙ ap (λ (u : ℕ). leb u (c .before .before .before .before .args .n) && unusedFrom (c .before .before .before .before .args .row .now) (max (c .before .before .before .before .args .n) (c .before .before .before .loop .i + 1))) (sym now),
+      loop .inv .2 ∙ unused-word (a .row .now) (start .pre) (a .n) (loop .i) (loop .used)
+          (loop-test .taken) (loop .inv .1) (sym (zero .ensures) ∙ not-true _ (w .0 .taken)) ∙ ap
+          (λ (u : ℕ). leb u (a .n) && unusedFrom (a .row .now) (max (a .n) (loop .i + 1))) (sym now),
     ))
     (λ w. let now = w .1 in (
       omega arith,
-      omega (arith, c .before .before .before .loop .inv .1),
-      c .before .before .before .loop .inv .2 ∙ unused-zero (c .before .before .before .before .args .row .now) (c .before .before .before .before .pre) (c .before .before .before .before .args .n) (c .before .before .before .loop .i) (c .before .before .before .loop .used) (c .before .before .loop-test .taken) (sym (c .before .zero .ensures) ∙ not-false _ (w .0 .left))
-          ∙ ap (λ (u : ℕ). leb u (c .before .before .before .before .args .n) && unusedFrom (c .before .before .before .before .args .row .now) (max (c .before .before .before .before .args .n) (c .before .before .before .loop .i + 1))) (sym now),
-    ))
-    (c .if1 .came)
+      omega (arith, loop .inv .1),
+      loop .inv .2 ∙ unused-zero (a .row .now) (start .pre) (a .n) (loop .i)
+          (loop .used) (loop-test .taken) (sym (zero .ensures) ∙ not-false _ (w .0 .left)) ∙ ap
+          (λ (u : ℕ). leb u (a .n) && unusedFrom (a .row .now) (max (a .n) (loop .i + 1))) (sym now),
+    )) (c .if1 .came)
 
 returns : tie.Need-returns Inv-loop μ-loop
-returns c = sym (c .before .loop .inv .2 ∙ unused-last (c .before .before .args .row .now) (c .before .before .pre) (c .before .before .args .n) (c .before .loop .i) (c .before .loop .used) (c .loop-test .left))
+returns c =
+    let at-loop = c .before in
+    let loop = at-loop .loop in
+    let start = at-loop .before in
+    let a = start .args in
+    sym (loop .inv .2 ∙ unused-last (a .row .now) (start .pre) (a .n) (loop .i) (loop .used) (c .loop-test .left))
 
 pub unused-spec : {M : Type 1} → statement M
 unused-spec =

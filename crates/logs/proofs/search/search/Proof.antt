@@ -37,7 +37,10 @@ mul-link c = omega (arith, key-small (c .before .args .predicate) (c .before .ar
 
 shared-slice-read-link : tie.Need-shared-slice-read-link Inv-loop μ-loop Inv-rows μ-rows
 unfolding rowCount
-shared-slice-read-link c = omega (arith, key-small (c .before .before .args .predicate) (c .before .before .args .arguments .now) 0, c .before .before .pre .2, c .before .before .pre .0 .within)
+shared-slice-read-link c =
+    let start = c .before .before in
+    let a = start .args in
+    omega (arith, key-small (a .predicate) (a .arguments .now) 0, start .pre .2, start .pre .0 .within)
 
 cast-link : tie.Need-cast-link Inv-loop μ-loop Inv-rows μ-rows
 cast-link c = omega (arith, c .shared-slice-known2 .given (c .before .before .args .start))
@@ -45,62 +48,99 @@ cast-link c = omega (arith, c .shared-slice-known2 .given (c .before .before .ar
 rows-holds : tie.Need-rows-holds Inv-loop μ-loop Inv-rows μ-rows
 unfolding rowCount
 rows-holds c =
-    let small = key-small (c .before .before .args .predicate) (c .before .before .args .arguments .now) 0 in
-    let start = c .before .before .pre .2 in (
+    let start-2 = c .before .before in
+    let a = start-2 .args in
+    let small = key-small (a .predicate) (a .arguments .now) 0 in
+    let start = start-2 .pre .2 in (
       0,
       record {
-        linked = c .before .before .pre .0 .heads (c .before .before .args .start) (omega arith);
-        left = first-chain (c .before .before .args .log .now) (c .before .before .args .predicate) (c .before .before .args .arguments .now) (c .before .before .pre .1) (length (c .before .before .args .log .now) / 8) (omega arith)
-            ∙ ap (λ (k : ℕ). firstRow (c .before .before .args .log .now) (c .before .before .args .predicate) (c .before .before .args .arguments .now) (chain (rowKey (c .before .before .args .log .now)) k 0 (length (c .before .before .args .log .now) / 8))) (sym start);
+        linked = start-2 .pre .0 .heads (a .start) (omega arith);
+        left = first-chain (a .log .now) (a .predicate)
+            (a .arguments .now) (start-2 .pre .1) (length (a .log .now) / 8) (omega arith) ∙ ap
+            (λ (k : ℕ). firstRow (a .log .now) (a .predicate) (a .arguments .now)
+            (chain (rowKey (a .log .now)) k 0 (length (a .log .now) / 8))) (sym start);
       },
     )
 
 sub-row : tie.Need-sub-row Inv-loop μ-loop Inv-rows μ-rows
 unfolding rowCount
 sub-row c =
-    let found = search-row (c .before .before .before .before .args .log .now) (c .before .before .before .before .args .predicate) (c .before .before .before .before .args .arguments .now) (c .before .before .before .before .args .start) (length (c .before .before .before .before .args .log .now) / 8) (c .before .rows .inv .0) (c .before .rows .link) (c .before .rows .inv .1) (c .if1 .left) in
-    let inside : ((length (c .before .before .before .before .args .log .now) / 8) - c .before .rows .link) < (length (c .before .before .before .before .args .log .now) / 8) = found .0 .inside in
-    let few : c .before .rows .link ≤ (length (c .before .before .before .before .args .log .now) / 8) = found .1 in
-    let room = c .before .before .before .before .pre .0 .within in
+    let at-rows = c .before in
+    let rows = at-rows .rows in
+    let start = at-rows .before .before .before in
+    let a = start .args in
+    let found =
+    search-row (a .log .now) (a .predicate) (a .arguments .now) (a .start) (length (a .log .now) / 8) (rows .inv .0)
+    (rows .link) (rows .inv .1) (c .if1 .left) in
+    let inside : ((length (a .log .now) / 8) - rows .link) < (length (a .log .now) / 8) = found .0 .inside in
+    let few : rows .link ≤ (length (a .log .now) / 8) = found .1 in
+    let room = start .pre .0 .within in
     omega arith
 
 add-link : tie.Need-add-link Inv-loop μ-loop Inv-rows μ-rows
 unfolding rowCount
 add-link c =
-    let found = search-row (c .before .before .before .before .args .log .now) (c .before .before .before .before .args .predicate) (c .before .before .before .before .args .arguments .now) (c .before .before .before .before .args .start) (length (c .before .before .before .before .args .log .now) / 8) (c .before .rows .inv .0) (c .before .rows .link) (c .before .rows .inv .1) (c .if1 .left) in
-    let inside : ((length (c .before .before .before .before .args .log .now) / 8) - c .before .rows .link) < (length (c .before .before .before .before .args .log .now) / 8) = found .0 .inside in
-    let few : c .before .rows .link ≤ (length (c .before .before .before .before .args .log .now) / 8) = found .1 in
-    let room = c .before .before .before .before .pre .0 .within in
+    let at-rows = c .before in
+    let rows = at-rows .rows in
+    let start = at-rows .before .before .before in
+    let a = start .args in
+    let found =
+    search-row (a .log .now) (a .predicate) (a .arguments .now) (a .start) (length (a .log .now) / 8) (rows .inv .0)
+    (rows .link) (rows .inv .1) (c .if1 .left) in
+    let inside : ((length (a .log .now) / 8) - rows .link) < (length (a .log .now) / 8) = found .0 .inside in
+    let few : rows .link ≤ (length (a .log .now) / 8) = found .1 in
+    let room = start .pre .0 .within in
     omega arith
 
 mul-link-2 : tie.Need-mul-link-2 Inv-loop μ-loop Inv-rows μ-rows
 unfolding rowCount
 mul-link-2 c =
-    let found = search-row (c .before .before .before .before .args .log .now) (c .before .before .before .before .args .predicate) (c .before .before .before .before .args .arguments .now) (c .before .before .before .before .args .start) (length (c .before .before .before .before .args .log .now) / 8) (c .before .rows .inv .0) (c .before .rows .link) (c .before .rows .inv .1) (c .if1 .left) in
-    let inside : ((length (c .before .before .before .before .args .log .now) / 8) - c .before .rows .link) < (length (c .before .before .before .before .args .log .now) / 8) = found .0 .inside in
-    let few : c .before .rows .link ≤ (length (c .before .before .before .before .args .log .now) / 8) = found .1 in
-    let room = c .before .before .before .before .pre .0 .within in
+    let at-rows = c .before in
+    let rows = at-rows .rows in
+    let start = at-rows .before .before .before in
+    let a = start .args in
+    let found =
+    search-row (a .log .now) (a .predicate) (a .arguments .now) (a .start) (length (a .log .now) / 8) (rows .inv .0)
+    (rows .link) (rows .inv .1) (c .if1 .left) in
+    let inside : ((length (a .log .now) / 8) - rows .link) < (length (a .log .now) / 8) = found .0 .inside in
+    let few : rows .link ≤ (length (a .log .now) / 8) = found .1 in
+    let room = start .pre .0 .within in
     omega arith
 
 shared-slice-read-link-2 : tie.Need-shared-slice-read-link-2 Inv-loop μ-loop Inv-rows μ-rows
 unfolding rowCount
 shared-slice-read-link-2 c =
-    let found = search-row (c .before .before .before .before .before .args .log .now) (c .before .before .before .before .before .args .predicate) (c .before .before .before .before .before .args .arguments .now) (c .before .before .before .before .before .args .start) (length (c .before .before .before .before .before .args .log .now) / 8) (c .before .before .rows .inv .0) (c .before .before .rows .link) (c .before .before .rows .inv .1) (c .before .if1 .left) in
-    let inside : ((length (c .before .before .before .before .before .args .log .now) / 8) - c .before .before .rows .link) < (length (c .before .before .before .before .before .args .log .now) / 8) = found .0 .inside in
-    let few : c .before .before .rows .link ≤ (length (c .before .before .before .before .before .args .log .now) / 8) = found .1 in
-    let room = c .before .before .before .before .before .pre .0 .within in
+    let at-rows = c .before .before in
+    let rows = at-rows .rows in
+    let start = at-rows .before .before .before in
+    let a = start .args in
+    let found =
+    search-row (a .log .now) (a .predicate) (a .arguments .now) (a .start) (length (a .log .now) / 8) (rows .inv .0)
+    (rows .link) (rows .inv .1) (c .before .if1 .left) in
+    let inside : ((length (a .log .now) / 8) - rows .link) < (length (a .log .now) / 8) = found .0 .inside in
+    let few : rows .link ≤ (length (a .log .now) / 8) = found .1 in
+    let room = start .pre .0 .within in
     omega arith
 
 cast-link-2 : tie.Need-cast-link-2 Inv-loop μ-loop Inv-rows μ-rows
-cast-link-2 c = omega (arith, c .shared-slice-known3 .given (16384 + ((length (c .before .before .before .before .before .args .log .now) / 8) - c .before .before .rows .link)))
+cast-link-2 c =
+    let at-rows = c .before .before in
+    let a = at-rows .before .before .before .args in
+    omega (arith, c .shared-slice-known3 .given (16384 + ((length (a .log .now) / 8) - at-rows .rows .link)))
 
 mul-is : tie.Need-mul-is Inv-loop μ-loop Inv-rows μ-rows
 unfolding rowCount
 mul-is c =
-    let found = search-row (c .before .before .before .before .before .args .log .now) (c .before .before .before .before .before .args .predicate) (c .before .before .before .before .before .args .arguments .now) (c .before .before .before .before .before .args .start) (length (c .before .before .before .before .before .args .log .now) / 8) (c .before .before .rows .inv .0) (c .before .before .rows .link) (c .before .before .rows .inv .1) (c .before .if1 .left) in
-    let inside : ((length (c .before .before .before .before .before .args .log .now) / 8) - c .before .before .rows .link) < (length (c .before .before .before .before .before .args .log .now) / 8) = found .0 .inside in
-    let few : c .before .before .rows .link ≤ (length (c .before .before .before .before .before .args .log .now) / 8) = found .1 in
-    let room = c .before .before .before .before .before .pre .0 .within in
+    let at-rows = c .before .before in
+    let rows = at-rows .rows in
+    let start = at-rows .before .before .before in
+    let a = start .args in
+    let found =
+    search-row (a .log .now) (a .predicate) (a .arguments .now) (a .start) (length (a .log .now) / 8) (rows .inv .0)
+    (rows .link) (rows .inv .1) (c .before .if1 .left) in
+    let inside : ((length (a .log .now) / 8) - rows .link) < (length (a .log .now) / 8) = found .0 .inside in
+    let few : rows .link ≤ (length (a .log .now) / 8) = found .1 in
+    let room = start .pre .0 .within in
     omega arith
 
 is-requires : tie.Need-is-requires Inv-loop μ-loop Inv-rows μ-rows
@@ -108,72 +148,146 @@ is-requires c κs = tt
 
 rows-less : tie.Need-rows-less Inv-loop μ-loop Inv-rows μ-rows
 unfolding rowCount
-rows-less c = search-less (c .before .before .before .before .before .before .before .args .log .now) (c .before .before .before .before .before .before .before .args .predicate) (c .before .before .before .before .before .before .before .args .arguments .now) (c .before .before .before .before .before .before .before .args .start) (length (c .before .before .before .before .before .before .before .args .log .now) / 8) (c .before .before .before .before .rows .inv .0) (c .before .before .before .before .rows .link) (c .before .before .before .before .rows .inv .1) (c .before .before .before .if1 .left) (c .before .before .before .before .before .before .before .args .links .now) 16384 _ (c .before .before .before .before .before .before .before .pre .0) refl
+rows-less c =
+    let at-if1 = c .before .before .before in
+    let at-rows = at-if1 .before in
+    let rows = at-rows .rows in
+    let start = at-rows .before .before .before in
+    let a = start .args in
+    search-less (a .log .now) (a .predicate) (a .arguments .now) (a .start) (length (a .log .now) / 8) (rows .inv .0)
+    (rows .link) (rows .inv .1) (at-if1 .if1 .left) (a .links .now) 16384 _ (start .pre .0) refl
 
 rows-again : tie.Need-rows-again Inv-loop μ-loop Inv-rows μ-rows
 unfolding rowCount
-rows-again c = (((length (c .before .before .before .before .before .before .before .args .log .now) / 8) - c .before .before .before .before .rows .link) + 1, search-next (c .before .before .before .before .before .before .before .args .log .now) (c .before .before .before .before .before .before .before .args .predicate) (c .before .before .before .before .before .before .before .args .arguments .now) (c .before .before .before .before .before .before .before .args .start) (length (c .before .before .before .before .before .before .before .args .log .now) / 8) (c .before .before .before .before .rows .inv .0) (c .before .before .before .before .rows .link) (c .before .before .before .before .rows .inv .1) (c .before .before .before .if1 .left) (c .before .before .before .before .before .before .before .args .links .now) 16384 _ (c .before .before .before .before .before .before .before .pre .0) refl (holds-not (c .before .before .before .before .before .before .before .args .log .now) (c .before .before .before .before .before .before .before .args .predicate) (c .before .before .before .before .before .before .before .args .arguments .now) ((length (c .before .before .before .before .before .before .before .args .log .now) / 8) - c .before .before .before .before .rows .link) (sym (c .before .is .ensures) ∙ not-true _ (c .if2 .taken))))
+rows-again c =
+    let at-if1 = c .before .before .before in
+    let at-rows = at-if1 .before in
+    let rows = at-rows .rows in
+    let start = at-rows .before .before .before in
+    let a = start .args in (
+      ((length (a .log .now) / 8) - rows .link) + 1,
+      search-next (a .log .now) (a .predicate) (a .arguments .now)
+          (a .start) (length (a .log .now) / 8) (rows .inv .0) (rows .link) (rows .inv .1) (at-if1 .if1 .left) (a .links .now)
+          16384 _ (start .pre .0) refl
+          (holds-not (a .log .now) (a .predicate) (a .arguments .now) ((length (a .log .now) / 8) - rows .link)
+          (sym (c .before .is .ensures) ∙ not-true _ (c .if2 .taken))),
+    )
 
 loop-holds : tie.Need-loop-holds Inv-loop μ-loop Inv-rows μ-rows
-loop-holds c = (
-  omega arith,
-  holds-here (c .before .before .before .before .before .before .before .args .log .now) (c .before .before .before .before .before .before .before .args .predicate) (c .before .before .before .before .before .before .before .args .arguments .now) ((length (c .before .before .before .before .before .before .before .args .log .now) / 8) - c .before .before .before .before .rows .link) (omega (arith, c .before .before .before .before .before .before .before .pre .1)) (sym (c .before .is .ensures) ∙ not-false _ (c .if2 .left))
-      ∙ sym (rest-start (c .before .before .before .before .before .before .before .args .log .now) (8 * ((length (c .before .before .before .before .before .before .before .args .log .now) / 8) - c .before .before .before .before .rows .link) + 2) (c .before .before .before .before .before .before .before .args .arguments .now) 0),
-)
+loop-holds c =
+    let at-rows = c .before .before .before .before in
+    let rows = at-rows .rows in
+    let start = at-rows .before .before .before in
+    let a = start .args in (
+      omega arith,
+      holds-here (a .log .now) (a .predicate) (a .arguments .now) ((length (a .log .now) / 8) - rows .link)
+          (omega (arith, start .pre .1)) (sym (c .before .is .ensures) ∙ not-false _ (c .if2 .left)) ∙ sym
+          (rest-start (a .log .now) (8 * ((length (a .log .now) / 8) - rows .link) + 2) (a .arguments .now) 0),
+    )
 
 mul-same : tie.Need-mul-same Inv-loop μ-loop Inv-rows μ-rows
 unfolding rowCount
 mul-same c =
-    let found = search-row (c .before .before .before .before .before .before .before .before .before .args .log .now) (c .before .before .before .before .before .before .before .before .before .args .predicate) (c .before .before .before .before .before .before .before .before .before .args .arguments .now) (c .before .before .before .before .before .before .before .before .before .args .start) (length (c .before .before .before .before .before .before .before .before .before .args .log .now) / 8) (c .before .before .before .before .before .before .rows .inv .0) (c .before .before .before .before .before .before .rows .link) (c .before .before .before .before .before .before .rows .inv .1) (c .before .before .before .before .before .if1 .left) in
-    let inside : ((length (c .before .before .before .before .before .before .before .before .before .args .log .now) / 8) - c .before .before .before .before .before .before .rows .link) < (length (c .before .before .before .before .before .before .before .before .before .args .log .now) / 8) = found .0 .inside in
-    let few : c .before .before .before .before .before .before .rows .link ≤ (length (c .before .before .before .before .before .before .before .before .before .args .log .now) / 8) = found .1 in
-    let room = c .before .before .before .before .before .before .before .before .before .pre .0 .within in
+    let at-if1 = c .before .before .before .before .before in
+    let at-rows = at-if1 .before in
+    let rows = at-rows .rows in
+    let start = at-rows .before .before .before in
+    let a = start .args in
+    let found =
+    search-row (a .log .now) (a .predicate) (a .arguments .now) (a .start) (length (a .log .now) / 8) (rows .inv .0)
+    (rows .link) (rows .inv .1) (at-if1 .if1 .left) in
+    let inside : ((length (a .log .now) / 8) - rows .link) < (length (a .log .now) / 8) = found .0 .inside in
+    let few : rows .link ≤ (length (a .log .now) / 8) = found .1 in
+    let room = start .pre .0 .within in
     omega arith
 
 add-same : tie.Need-add-same Inv-loop μ-loop Inv-rows μ-rows
 unfolding rowCount
 add-same c =
-    let found = search-row (c .before .before .before .before .before .before .before .before .before .args .log .now) (c .before .before .before .before .before .before .before .before .before .args .predicate) (c .before .before .before .before .before .before .before .before .before .args .arguments .now) (c .before .before .before .before .before .before .before .before .before .args .start) (length (c .before .before .before .before .before .before .before .before .before .args .log .now) / 8) (c .before .before .before .before .before .before .rows .inv .0) (c .before .before .before .before .before .before .rows .link) (c .before .before .before .before .before .before .rows .inv .1) (c .before .before .before .before .before .if1 .left) in
-    let inside : ((length (c .before .before .before .before .before .before .before .before .before .args .log .now) / 8) - c .before .before .before .before .before .before .rows .link) < (length (c .before .before .before .before .before .before .before .before .before .args .log .now) / 8) = found .0 .inside in
-    let few : c .before .before .before .before .before .before .rows .link ≤ (length (c .before .before .before .before .before .before .before .before .before .args .log .now) / 8) = found .1 in
-    let room = c .before .before .before .before .before .before .before .before .before .pre .0 .within in
+    let at-if1 = c .before .before .before .before .before in
+    let at-rows = at-if1 .before in
+    let rows = at-rows .rows in
+    let start = at-rows .before .before .before in
+    let a = start .args in
+    let found =
+    search-row (a .log .now) (a .predicate) (a .arguments .now) (a .start) (length (a .log .now) / 8) (rows .inv .0)
+    (rows .link) (rows .inv .1) (at-if1 .if1 .left) in
+    let inside : ((length (a .log .now) / 8) - rows .link) < (length (a .log .now) / 8) = found .0 .inside in
+    let few : rows .link ≤ (length (a .log .now) / 8) = found .1 in
+    let room = start .pre .0 .within in
     omega arith
 
 add-same-2 : tie.Need-add-same-2 Inv-loop μ-loop Inv-rows μ-rows
 unfolding rowCount
 add-same-2 c =
-    let found = search-row (c .before .before .before .before .before .before .before .before .before .args .log .now) (c .before .before .before .before .before .before .before .before .before .args .predicate) (c .before .before .before .before .before .before .before .before .before .args .arguments .now) (c .before .before .before .before .before .before .before .before .before .args .start) (length (c .before .before .before .before .before .before .before .before .before .args .log .now) / 8) (c .before .before .before .before .before .before .rows .inv .0) (c .before .before .before .before .before .before .rows .link) (c .before .before .before .before .before .before .rows .inv .1) (c .before .before .before .before .before .if1 .left) in
-    let inside : ((length (c .before .before .before .before .before .before .before .before .before .args .log .now) / 8) - c .before .before .before .before .before .before .rows .link) < (length (c .before .before .before .before .before .before .before .before .before .args .log .now) / 8) = found .0 .inside in
-    let few : c .before .before .before .before .before .before .rows .link ≤ (length (c .before .before .before .before .before .before .before .before .before .args .log .now) / 8) = found .1 in
-    let room = c .before .before .before .before .before .before .before .before .before .pre .0 .within in
+    let at-if1 = c .before .before .before .before .before in
+    let at-rows = at-if1 .before in
+    let rows = at-rows .rows in
+    let start = at-rows .before .before .before in
+    let a = start .args in
+    let found =
+    search-row (a .log .now) (a .predicate) (a .arguments .now) (a .start) (length (a .log .now) / 8) (rows .inv .0)
+    (rows .link) (rows .inv .1) (at-if1 .if1 .left) in
+    let inside : ((length (a .log .now) / 8) - rows .link) < (length (a .log .now) / 8) = found .0 .inside in
+    let few : rows .link ≤ (length (a .log .now) / 8) = found .1 in
+    let room = start .pre .0 .within in
     omega arith
 
 same-requires : tie.Need-same-requires Inv-loop μ-loop Inv-rows μ-rows
 unfolding rowCount
 same-requires c κs =
-    let found = search-row (c .before .before .before .before .before .before .before .before .before .args .log .now) (c .before .before .before .before .before .before .before .before .before .args .predicate) (c .before .before .before .before .before .before .before .before .before .args .arguments .now) (c .before .before .before .before .before .before .before .before .before .args .start) (length (c .before .before .before .before .before .before .before .before .before .args .log .now) / 8) (c .before .before .before .before .before .before .rows .inv .0) (c .before .before .before .before .before .before .rows .link) (c .before .before .before .before .before .before .rows .inv .1) (c .before .before .before .before .before .if1 .left) in
-    let inside : ((length (c .before .before .before .before .before .before .before .before .before .args .log .now) / 8) - c .before .before .before .before .before .before .rows .link) < (length (c .before .before .before .before .before .before .before .before .before .args .log .now) / 8) = found .0 .inside in
-    let few : c .before .before .before .before .before .before .rows .link ≤ (length (c .before .before .before .before .before .before .before .before .before .args .log .now) / 8) = found .1 in
-    let room = c .before .before .before .before .before .before .before .before .before .pre .0 .within in
-    let six = c .before .before .before .before .before .before .before .before .before .pre .1 in
+    let at-if1 = c .before .before .before .before .before in
+    let at-rows = at-if1 .before in
+    let rows = at-rows .rows in
+    let start = at-rows .before .before .before in
+    let a = start .args in
+    let found =
+    search-row (a .log .now) (a .predicate) (a .arguments .now) (a .start) (length (a .log .now) / 8) (rows .inv .0)
+    (rows .link) (rows .inv .1) (at-if1 .if1 .left) in
+    let inside : ((length (a .log .now) / 8) - rows .link) < (length (a .log .now) / 8) = found .0 .inside in
+    let few : rows .link ≤ (length (a .log .now) / 8) = found .1 in
+    let room = start .pre .0 .within in
+    let six = start .pre .1 in
     omega arith
 
 rows-less-2 : tie.Need-rows-less-2 Inv-loop μ-loop Inv-rows μ-rows
 unfolding rowCount
-rows-less-2 c = search-less (c .before .before .before .before .before .before .before .before .before .before .before .args .log .now) (c .before .before .before .before .before .before .before .before .before .before .before .args .predicate) (c .before .before .before .before .before .before .before .before .before .before .before .args .arguments .now) (c .before .before .before .before .before .before .before .before .before .before .before .args .start) (length (c .before .before .before .before .before .before .before .before .before .before .before .args .log .now) / 8) (c .before .before .before .before .before .before .before .before .rows .inv .0) (c .before .before .before .before .before .before .before .before .rows .link) (c .before .before .before .before .before .before .before .before .rows .inv .1) (c .before .before .before .before .before .before .before .if1 .left) (c .before .before .before .before .before .before .before .before .before .before .before .args .links .now) 16384 _ (c .before .before .before .before .before .before .before .before .before .before .before .pre .0) refl
+rows-less-2 c =
+    let at-if1 = c .before .before .before .before .before .before .before in
+    let at-rows = at-if1 .before in
+    let rows = at-rows .rows in
+    let start = at-rows .before .before .before in
+    let a = start .args in
+    search-less (a .log .now) (a .predicate) (a .arguments .now) (a .start) (length (a .log .now) / 8) (rows .inv .0)
+    (rows .link) (rows .inv .1) (at-if1 .if1 .left) (a .links .now) 16384 _ (start .pre .0) refl
 
 rows-again-2 : tie.Need-rows-again-2 Inv-loop μ-loop Inv-rows μ-rows
 unfolding rowCount
 rows-again-2 c =
-    let found = search-row (c .before .before .before .before .before .before .before .before .before .before .before .args .log .now) (c .before .before .before .before .before .before .before .before .before .before .before .args .predicate) (c .before .before .before .before .before .before .before .before .before .before .before .args .arguments .now) (c .before .before .before .before .before .before .before .before .before .before .before .args .start) (length (c .before .before .before .before .before .before .before .before .before .before .before .args .log .now) / 8) (c .before .before .before .before .before .before .before .before .rows .inv .0) (c .before .before .before .before .before .before .before .before .rows .link) (c .before .before .before .before .before .before .before .before .rows .inv .1) (c .before .before .before .before .before .before .before .if1 .left) in
-    let inside : ((length (c .before .before .before .before .before .before .before .before .before .before .before .args .log .now) / 8) - c .before .before .before .before .before .before .before .before .rows .link) < (length (c .before .before .before .before .before .before .before .before .before .before .before .args .log .now) / 8) = found .0 .inside in
-    let few : c .before .before .before .before .before .before .before .before .rows .link ≤ (length (c .before .before .before .before .before .before .before .before .before .before .before .args .log .now) / 8) = found .1 in
-    let room = c .before .before .before .before .before .before .before .before .before .before .before .pre .0 .within in
-    let six = c .before .before .before .before .before .before .before .before .before .before .before .pre .1 in (
-      ((length (c .before .before .before .before .before .before .before .before .before .before .before .args .log .now) / 8) - c .before .before .before .before .before .before .before .before .rows .link) + 1,
-      search-next (c .before .before .before .before .before .before .before .before .before .before .before .args .log .now) (c .before .before .before .before .before .before .before .before .before .before .before .args .predicate) (c .before .before .before .before .before .before .before .before .before .before .before .args .arguments .now) (c .before .before .before .before .before .before .before .before .before .before .before .args .start) (length (c .before .before .before .before .before .before .before .before .before .before .before .args .log .now) / 8) (c .before .before .before .before .before .before .before .before .rows .inv .0) (c .before .before .before .before .before .before .before .before .rows .link) (c .before .before .before .before .before .before .before .before .rows .inv .1) (c .before .before .before .before .before .before .before .if1 .left) (c .before .before .before .before .before .before .before .before .before .before .before .args .links .now) 16384 _ (c .before .before .before .before .before .before .before .before .before .before .before .pre .0) refl
-          (c .before .before .before .loop .inv .1
-          ∙ rest-stop (c .before .before .before .before .before .before .before .before .before .before .before .args .log .now) (8 * ((length (c .before .before .before .before .before .before .before .before .before .before .before .args .log .now) / 8) - c .before .before .before .before .before .before .before .before .rows .link) + 2) (c .before .before .before .before .before .before .before .before .before .before .before .args .arguments .now) (c .before .before .before .loop .i) (omega (arith, c .before .before .loop-test .taken)) (omega (arith, c .before .before .loop-test .taken)) (sym (c .before .same .ensures) ∙ not-true _ (c .if3 .taken))),
+    let at-loop-test = c .before .before in
+    let loop-test = at-loop-test .loop-test in
+    let at-loop = at-loop-test .before in
+    let loop = at-loop .loop in
+    let at-if1 = at-loop .before .before .before .before in
+    let if1 = at-if1 .if1 in
+    let at-rows = at-if1 .before in
+    let rows = at-rows .rows in
+    let start = at-rows .before .before .before in
+    let a = start .args in
+    let found =
+    search-row (a .log .now) (a .predicate) (a .arguments .now) (a .start) (length (a .log .now) / 8) (rows .inv .0)
+    (rows .link) (rows .inv .1) (if1 .left) in
+    let inside : ((length (a .log .now) / 8) - rows .link) < (length (a .log .now) / 8) = found .0 .inside in
+    let few : rows .link ≤ (length (a .log .now) / 8) = found .1 in
+    let room = start .pre .0 .within in
+    let six = start .pre .1 in (
+      ((length (a .log .now) / 8) - rows .link) + 1,
+      search-next (a .log .now) (a .predicate) (a .arguments .now)
+          (a .start) (length (a .log .now) / 8) (rows .inv .0) (rows .link) (rows .inv .1) (if1 .left) (a .links .now) 16384 _
+          (start .pre .0) refl
+          (loop .inv .1 ∙ rest-stop (a .log .now) (8 * ((length (a .log .now) / 8) - rows .link) + 2) (a .arguments .now)
+          (loop .i) (omega (arith, loop-test .taken)) (omega (arith, loop-test .taken))
+          (sym (c .before .same .ensures) ∙ not-true _ (c .if3 .taken))),
     )
 
 add-i : tie.Need-add-i Inv-loop μ-loop Inv-rows μ-rows
@@ -185,24 +299,51 @@ loop-less c = omega arith
 loop-again : tie.Need-loop-again Inv-loop μ-loop Inv-rows μ-rows
 unfolding rowCount
 loop-again c =
-    let found = search-row (c .before .before .before .before .before .before .before .before .before .before .before .args .log .now) (c .before .before .before .before .before .before .before .before .before .before .before .args .predicate) (c .before .before .before .before .before .before .before .before .before .before .before .args .arguments .now) (c .before .before .before .before .before .before .before .before .before .before .before .args .start) (length (c .before .before .before .before .before .before .before .before .before .before .before .args .log .now) / 8) (c .before .before .before .before .before .before .before .before .rows .inv .0) (c .before .before .before .before .before .before .before .before .rows .link) (c .before .before .before .before .before .before .before .before .rows .inv .1) (c .before .before .before .before .before .before .before .if1 .left) in
-    let inside : ((length (c .before .before .before .before .before .before .before .before .before .before .before .args .log .now) / 8) - c .before .before .before .before .before .before .before .before .rows .link) < (length (c .before .before .before .before .before .before .before .before .before .before .before .args .log .now) / 8) = found .0 .inside in
-    let few : c .before .before .before .before .before .before .before .before .rows .link ≤ (length (c .before .before .before .before .before .before .before .before .before .before .before .args .log .now) / 8) = found .1 in
-    let room = c .before .before .before .before .before .before .before .before .before .before .before .pre .0 .within in
-    let six = c .before .before .before .before .before .before .before .before .before .before .before .pre .1 in (
+    let at-loop-test = c .before .before in
+    let loop-test = at-loop-test .loop-test in
+    let at-loop = at-loop-test .before in
+    let loop = at-loop .loop in
+    let at-if1 = at-loop .before .before .before .before in
+    let at-rows = at-if1 .before in
+    let rows = at-rows .rows in
+    let start = at-rows .before .before .before in
+    let a = start .args in
+    let found =
+    search-row (a .log .now) (a .predicate) (a .arguments .now) (a .start) (length (a .log .now) / 8) (rows .inv .0)
+    (rows .link) (rows .inv .1) (at-if1 .if1 .left) in
+    let inside : ((length (a .log .now) / 8) - rows .link) < (length (a .log .now) / 8) = found .0 .inside in
+    let few : rows .link ≤ (length (a .log .now) / 8) = found .1 in
+    let room = start .pre .0 .within in
+    let six = start .pre .1 in (
       omega arith,
-      c .before .before .before .loop .inv .1
-          ∙ rest-step (c .before .before .before .before .before .before .before .before .before .before .before .args .log .now) (8 * ((length (c .before .before .before .before .before .before .before .before .before .before .before .args .log .now) / 8) - c .before .before .before .before .before .before .before .before .rows .link) + 2) (c .before .before .before .before .before .before .before .before .before .before .before .args .arguments .now) (c .before .before .before .loop .i) (omega (arith, c .before .before .loop-test .taken)) (omega (arith, c .before .before .loop-test .taken)) (sym (c .before .same .ensures) ∙ not-false _ (c .if3 .left)),
+      loop .inv .1 ∙ rest-step (a .log .now) (8 * ((length (a .log .now) / 8) - rows .link) + 2)
+          (a .arguments .now) (loop .i) (omega (arith, loop-test .taken)) (omega (arith, loop-test .taken))
+          (sym (c .before .same .ensures) ∙ not-false _ (c .if3 .left)),
     )
 
 returns : tie.Need-returns Inv-loop μ-loop Inv-rows μ-rows
 unfolding rowCount
-returns c = search-none (c .before .before .before .before .args .log .now) (c .before .before .before .before .args .predicate) (c .before .before .before .before .args .arguments .now) (c .before .before .before .before .args .start) (length (c .before .before .before .before .args .log .now) / 8) (c .before .rows .inv .0) (c .before .rows .link) (c .before .rows .inv .1) (c .if1 .taken)
+returns c =
+    let at-rows = c .before in
+    let rows = at-rows .rows in
+    let a = at-rows .before .before .before .args in
+    search-none (a .log .now) (a .predicate) (a .arguments .now) (a .start) (length (a .log .now) / 8) (rows .inv .0)
+    (rows .link) (rows .inv .1) (c .if1 .taken)
 
 returns-2 : tie.Need-returns-2 Inv-loop μ-loop Inv-rows μ-rows
 unfolding rowCount
-returns-2 c = search-found (c .before .before .before .before .before .before .before .before .before .args .log .now) (c .before .before .before .before .before .before .before .before .before .args .predicate) (c .before .before .before .before .before .before .before .before .before .args .arguments .now) (c .before .before .before .before .before .before .before .before .before .args .start) (length (c .before .before .before .before .before .before .before .before .before .args .log .now) / 8) (c .before .before .before .before .before .before .rows .inv .0) (c .before .before .before .before .before .before .rows .link) (c .before .before .before .before .before .before .rows .inv .1) (c .before .before .before .before .before .if1 .left)
-    (c .before .loop .inv .1 ∙ rest-end (c .before .before .before .before .before .before .before .before .before .args .log .now) (8 * ((length (c .before .before .before .before .before .before .before .before .before .args .log .now) / 8) - c .before .before .before .before .before .before .rows .link) + 2) (c .before .before .before .before .before .before .before .before .before .args .arguments .now) (c .before .loop .i) (omega (arith, c .before .before .before .before .before .before .before .before .before .pre .1, c .loop-test .left)))
+returns-2 c =
+    let at-loop = c .before in
+    let loop = at-loop .loop in
+    let at-if1 = at-loop .before .before .before .before in
+    let at-rows = at-if1 .before in
+    let rows = at-rows .rows in
+    let start = at-rows .before .before .before in
+    let a = start .args in
+    search-found (a .log .now) (a .predicate) (a .arguments .now) (a .start) (length (a .log .now) / 8) (rows .inv .0)
+    (rows .link) (rows .inv .1) (at-if1 .if1 .left)
+    (loop .inv .1 ∙ rest-end (a .log .now) (8 * ((length (a .log .now) / 8) - rows .link) + 2) (a .arguments .now)
+    (loop .i) (omega (arith, start .pre .1, c .loop-test .left)))
 
 pub search-spec : {M : Type 1} → statement M
 search-spec =

@@ -26,13 +26,21 @@ enum-known-found c = search needs
 mul-is : tie.Need-mul-is
 unfolding rowCount
 mul-is c =
-    let b = first-inside (c .before .before .before .before .before .before .args .log .now) (c .before .before .before .before .before .before .args .predicate) (c .before .before .before .before .before .before .args .arguments .now) _ (rowCount (c .before .before .before .before .before .before .args .log .now)) 0 (sym (c .before .before .before .search .ensures) ∙ c .before .found .given .1) in
+    let at-search = c .before .before .before in
+    let a = at-search .before .before .before .args in
+    let b =
+    first-inside (a .log .now) (a .predicate) (a .arguments .now) _ (rowCount (a .log .now)) 0
+    (sym (at-search .search .ensures) ∙ c .before .found .given .1) in
     omega arith
 
 add-is : tie.Need-add-is
 unfolding rowCount
 add-is c =
-    let b = first-inside (c .before .before .before .before .before .before .args .log .now) (c .before .before .before .before .before .before .args .predicate) (c .before .before .before .before .before .before .args .arguments .now) _ (rowCount (c .before .before .before .before .before .before .args .log .now)) 0 (sym (c .before .before .before .search .ensures) ∙ c .before .found .given .1) in
+    let at-search = c .before .before .before in
+    let a = at-search .before .before .before .args in
+    let b =
+    first-inside (a .log .now) (a .predicate) (a .arguments .now) _ (rowCount (a .log .now)) 0
+    (sym (at-search .search .ensures) ∙ c .before .found .given .1) in
     omega arith
 
 is-requires : tie.Need-is-requires
@@ -51,20 +59,48 @@ is-requires-2 : tie.Need-is-requires-2
 is-requires-2 c κs = search needs
 
 returns : tie.Need-returns
-returns c = λ ns long filled.
-    sym (value-found (c .before .before .before .before .before .before .before .before .args .table .now) (c .before .before .before .before .before .before .before .before .args .log .now) (c .before .before .before .before .before .before .before .before .args .predicate) (c .before .before .before .before .before .before .before .before .pre .3) (c .before .before .before .before .before .before .before .before .args .arguments .now) ns (c .before .before .before .before .before .before .before .before .pre .1) (c .before .before .before .before .before .search .ensures) long filled ∙ by-row (c .before .before .before .before .before .before .before .before .args .table .now) (c .before .before .before .before .before .before .before .before .args .log .now) (c .before .before .before .before .before .before .before .before .args .predicate) _ true (c .before .before .before .found .given .1) (sym (c .before .is .ensures) ∙ c .if1 .taken))
+returns c =
+    let at-found = c .before .before .before in
+    let at-search = at-found .before .before in
+    let start = at-search .before .before .before in
+    let a = start .args in
+    λ ns long filled. sym
+    (value-found (a .table .now) (a .log .now) (a .predicate) (start .pre .3) (a .arguments .now) ns (start .pre .1)
+    (at-search .search .ensures) long filled ∙ by-row (a .table .now) (a .log .now) (a .predicate) _ true
+    (at-found .found .given .1) (sym (c .before .is .ensures) ∙ c .if1 .taken))
 
 returns-2 : tie.Need-returns-2
-returns-2 c = λ ns long filled.
-    sym (value-found (c .before .before .before .before .before .before .before .before .args .table .now) (c .before .before .before .before .before .before .before .before .args .log .now) (c .before .before .before .before .before .before .before .before .args .predicate) (c .before .before .before .before .before .before .before .before .pre .3) (c .before .before .before .before .before .before .before .before .args .arguments .now) ns (c .before .before .before .before .before .before .before .before .pre .1) (c .before .before .before .before .before .search .ensures) long filled ∙ by-row (c .before .before .before .before .before .before .before .before .args .table .now) (c .before .before .before .before .before .before .before .before .args .log .now) (c .before .before .before .before .before .before .before .before .args .predicate) _ false (c .before .before .before .found .given .1) (sym (c .before .is .ensures) ∙ c .if1 .left))
+returns-2 c =
+    let at-found = c .before .before .before in
+    let at-search = at-found .before .before in
+    let start = at-search .before .before .before in
+    let a = start .args in
+    λ ns long filled. sym
+    (value-found (a .table .now) (a .log .now) (a .predicate) (start .pre .3) (a .arguments .now) ns (start .pre .1)
+    (at-search .search .ensures) long filled ∙ by-row (a .table .now) (a .log .now) (a .predicate) _ false
+    (at-found .found .given .1) (sym (c .before .is .ensures) ∙ c .if1 .left))
 
 returns-3 : tie.Need-returns-3
-returns-3 c = λ ns long filled.
-    sym (value-found (c .before .before .before .before .before .before .before .args .table .now) (c .before .before .before .before .before .before .before .args .log .now) (c .before .before .before .before .before .before .before .args .predicate) (c .before .before .before .before .before .before .before .pre .3) (c .before .before .before .before .before .before .before .args .arguments .now) ns (c .before .before .before .before .before .before .before .pre .1) (c .before .before .before .before .search .ensures) long filled ∙ by-complete (c .before .before .before .before .before .before .before .args .table .now) (c .before .before .before .before .before .before .before .args .log .now) (c .before .before .before .before .before .before .before .args .predicate) (c .before .before .enum-told .given .1) (sym (c .before .is2 .ensures) ∙ c .if2 .taken))
+returns-3 c =
+    let at-enum-told = c .before .before in
+    let at-search = at-enum-told .before .before in
+    let start = at-search .before .before .before in
+    let a = start .args in
+    λ ns long filled. sym
+    (value-found (a .table .now) (a .log .now) (a .predicate) (start .pre .3) (a .arguments .now) ns (start .pre .1)
+    (at-search .search .ensures) long filled ∙ by-complete (a .table .now) (a .log .now) (a .predicate)
+    (at-enum-told .enum-told .given .1) (sym (c .before .is2 .ensures) ∙ c .if2 .taken))
 
 returns-4 : tie.Need-returns-4
-returns-4 c = λ ns long filled.
-    sym (value-found (c .before .before .before .before .before .before .before .args .table .now) (c .before .before .before .before .before .before .before .args .log .now) (c .before .before .before .before .before .before .before .args .predicate) (c .before .before .before .before .before .before .before .pre .3) (c .before .before .before .before .before .before .before .args .arguments .now) ns (c .before .before .before .before .before .before .before .pre .1) (c .before .before .before .before .search .ensures) long filled ∙ by-nothing (c .before .before .before .before .before .before .before .args .table .now) (c .before .before .before .before .before .before .before .args .log .now) (c .before .before .before .before .before .before .before .args .predicate) (c .before .before .enum-told .given .1) (sym (c .before .is2 .ensures) ∙ c .if2 .left))
+returns-4 c =
+    let at-enum-told = c .before .before in
+    let at-search = at-enum-told .before .before in
+    let start = at-search .before .before .before in
+    let a = start .args in
+    λ ns long filled. sym
+    (value-found (a .table .now) (a .log .now) (a .predicate) (start .pre .3) (a .arguments .now) ns (start .pre .1)
+    (at-search .search .ensures) long filled ∙ by-nothing (a .table .now) (a .log .now) (a .predicate)
+    (at-enum-told .enum-told .given .1) (sym (c .before .is2 .ensures) ∙ c .if2 .left))
 
 pub value-of-spec : {M : Type 1} → statement M
 value-of-spec =

@@ -19,7 +19,8 @@ use Rattle.policies.specs.Node.{asTag}
 use Rattle.policies.specs.declared.node.Tag.{Tag}
 use Rattle.policies.specs.declared.node.Tag.the-variants.{Plain, Atom, Compare, Join, Quantifier, Some, Unused}
 use Rattle.policies.proofs.node.Tag.{the-type as tag-type}
-use Rattle.policies.proofs.ModeWalk.{Other, here-atom, here-compare, here-join, here-some, from-atom, from-compare, from-all, from-any, from-some, from-plain, low, inside, inside-all}
+use Rattle.policies.proofs.ModeWalk.{Other, here-atom, here-compare, here-join, here-some, from-atom, from-compare, from-all}
+use Rattle.policies.proofs.ModeWalk.{from-any, from-some, from-plain, low, inside, inside-all}
 use Rattle.policies.proofs.ModeLoops.{came-marks, AllSoFar, all-start, all-here, all-step, all-stop, all-end}
 use Rattle.policies.proofs.ModeLoops.{AnySoFar, any-here, any-start, any-first-stop, any-next-here, any-step, any-stop, any-end}
 use Rattle.policies.proofs.ModeSome.{some-stop, some-unbound, some-bound}
@@ -143,7 +144,9 @@ module _ (t : ℕ) where
   bind-bind-atom-requires c κs =
       let a = c .before .before .before in
       let s = a .before in
-      here-atom (s .args .table .now) (s .args .words .now) (s .args .above) (s .args .scope) (s .args .at) (s .pre .1 .0) (s .pre .1 .2) _ (ap asTag (sym (c .before .tag .given .1)) ∙ a .tag-at .ensures) (s .pre .1 .3) (omega (arith, s .good .1 .0))
+      here-atom (s .args .table .now) (s .args .words .now) (s .args .above) (s .args .scope) (s .args .at)
+      (s .pre .1 .0) (s .pre .1 .2) _ (ap asTag (sym (c .before .tag .given .1)) ∙ a .tag-at .ensures) (s .pre .1 .3)
+      (omega (arith, s .good .1 .0))
 
   bind-enum-told : bind-lts.Need-enum-told bind-calls bind-at bind.Post
   bind-enum-told c = search needs
@@ -152,7 +155,9 @@ module _ (t : ℕ) where
   bind-bind-compare-requires c κs =
       let a = c .before .before in
       let s = a .before in
-      here-compare (s .args .table .now) (s .args .words .now) (s .args .above) (s .args .scope) (s .args .at) (s .pre .1 .0) (s .pre .1 .2) _ (ap asTag (sym (c .enum-told .given .1)) ∙ a .tag-at .ensures) (s .pre .1 .3) (omega (arith, s .good .1 .0))
+      here-compare (s .args .table .now) (s .args .words .now) (s .args .above) (s .args .scope) (s .args .at)
+      (s .pre .1 .0) (s .pre .1 .2) _ (ap asTag (sym (c .enum-told .given .1)) ∙ a .tag-at .ensures) (s .pre .1 .3)
+      (omega (arith, s .good .1 .0))
 
   bind-enum-known-tag-2 : bind-lts.Need-enum-known-tag-2 bind-calls bind-at bind.Post
   bind-enum-known-tag-2 c = search needs
@@ -161,7 +166,12 @@ module _ (t : ℕ) where
   bind-add-value c =
       let a = c .before .before .before in
       let s = a .before in
-      omega (arith, inside (s .args .table .now) (s .args .words .now) restriction (s .args .above) (s .args .scope) (s .args .at) (s .pre .1 .3), s .good .1 .0)
+      omega (
+        arith,
+        inside (s .args .table .now) (s .args .words .now) restriction (s .args .above) (s .args .scope)
+            (s .args .at) (s .pre .1 .3),
+        s .good .1 .0,
+      )
 
   bind-value-requires : bind-lts.Need-value-requires bind-calls bind-at bind.Post
   bind-value-requires c κs = search needs
@@ -174,18 +184,40 @@ module _ (t : ℕ) where
 
   bind-add-bind-all-2 : bind-lts.Need-add-bind-all-2 bind-calls bind-at bind.Post
   bind-add-bind-all-2 c =
-      let a = c .before .before .before .before .before in
+      let at-tag2 = c .before .before .before in
+      let a = at-tag2 .before .before in
       let s = a .before in
-      let j = here-join (s .args .table .now) (s .args .words .now) (s .args .above) (s .args .scope) (s .args .at) (s .pre .1 .0) (s .pre .1 .2) _ (ap asTag (sym (c .before .before .before .tag2 .given .1)) ∙ a .tag-at .ensures) (s .pre .1 .3) in
-      omega (arith, inside-all (s .args .table .now) (s .args .words .now) restriction (s .args .above + 1) (s .args .scope) (s .args .at + 2) _ (j .0), s .good .1 .0)
+      let j =
+      here-join (s .args .table .now) (s .args .words .now) (s .args .above) (s .args .scope) (s .args .at)
+      (s .pre .1 .0) (s .pre .1 .2) _ (ap asTag (sym (at-tag2 .tag2 .given .1)) ∙ a .tag-at .ensures) (s .pre .1 .3) in
+      omega (
+        arith,
+        inside-all (s .args .table .now) (s .args .words .now) restriction (s .args .above + 1) (s .args .scope)
+            (s .args .at + 2) _ (j .0),
+        s .good .1 .0,
+      )
 
   bind-bind-all-requires : bind-lts.Need-bind-all-requires bind-calls bind-at bind.Post
   bind-bind-all-requires c κs =
-      let a = c .before .before .before .before .before in
+      let at-tag2 = c .before .before .before in
+      let a = at-tag2 .before .before in
       let s = a .before in
-      let j = here-join (s .args .table .now) (s .args .words .now) (s .args .above) (s .args .scope) (s .args .at) (s .pre .1 .0) (s .pre .1 .2) _ (ap asTag (sym (c .before .before .before .tag2 .given .1)) ∙ a .tag-at .ensures) (s .pre .1 .3) in
-      let l = low (s .args .table .now) (s .args .words .now) restriction (s .args .above) (s .args .scope) (s .args .at) (s .pre .1 .3) in
-      (omega (arith, l, s .pre .0), (s .pre .1 .0, l, s .pre .1 .2, (subst (λ (n : ℕ). HereAll (s .args .table .now) (s .args .words .now) restriction (s .args .above + 1) (s .args .scope) n (s .args .at + 2)) (sym (c .before .value .ensures)) (j .0))))
+      let j =
+      here-join (s .args .table .now) (s .args .words .now) (s .args .above) (s .args .scope) (s .args .at)
+      (s .pre .1 .0) (s .pre .1 .2) _ (ap asTag (sym (at-tag2 .tag2 .given .1)) ∙ a .tag-at .ensures) (s .pre .1 .3) in
+      let l =
+      low (s .args .table .now) (s .args .words .now) restriction (s .args .above) (s .args .scope) (s .args .at)
+      (s .pre .1 .3) in (
+        omega (arith, l, s .pre .0),
+        (
+          s .pre .1 .0,
+          l,
+          s .pre .1 .2,
+          (subst
+              (λ (n : ℕ). HereAll (s .args .table .now) (s .args .words .now) restriction (s .args .above + 1) (s .args .scope) n
+              (s .args .at + 2)) (sym (c .before .value .ensures)) (j .0)),
+        ),
+      )
 
   bind-add-bind-any : bind-lts.Need-add-bind-any bind-calls bind-at bind.Post
   bind-add-bind-any c =
@@ -195,18 +227,43 @@ module _ (t : ℕ) where
 
   bind-add-bind-any-2 : bind-lts.Need-add-bind-any-2 bind-calls bind-at bind.Post
   bind-add-bind-any-2 c =
-      let a = c .before .before .before .before .before in
+      let at-tag2 = c .before .before .before in
+      let a = at-tag2 .before .before in
       let s = a .before in
-      let j = here-join (s .args .table .now) (s .args .words .now) (s .args .above) (s .args .scope) (s .args .at) (s .pre .1 .0) (s .pre .1 .2) _ (ap asTag (sym (c .before .before .before .tag2 .given .1)) ∙ a .tag-at .ensures) (s .pre .1 .3) in
-      omega (arith, inside-all (s .args .table .now) (s .args .words .now) restriction (s .args .above + 1) (s .args .scope) (s .args .at + 2) _ (j .0), s .good .1 .0)
+      let j =
+      here-join (s .args .table .now) (s .args .words .now) (s .args .above) (s .args .scope) (s .args .at)
+      (s .pre .1 .0) (s .pre .1 .2) _ (ap asTag (sym (at-tag2 .tag2 .given .1)) ∙ a .tag-at .ensures) (s .pre .1 .3) in
+      omega (
+        arith,
+        inside-all (s .args .table .now) (s .args .words .now) restriction (s .args .above + 1) (s .args .scope)
+            (s .args .at + 2) _ (j .0),
+        s .good .1 .0,
+      )
 
   bind-bind-any-requires : bind-lts.Need-bind-any-requires bind-calls bind-at bind.Post
   bind-bind-any-requires c κs =
-      let a = c .before .before .before .before .before in
+      let at-value = c .before in
+      let value = at-value .value in
+      let at-tag2 = at-value .before .before in
+      let a = at-tag2 .before .before in
       let s = a .before in
-      let j = here-join (s .args .table .now) (s .args .words .now) (s .args .above) (s .args .scope) (s .args .at) (s .pre .1 .0) (s .pre .1 .2) _ (ap asTag (sym (c .before .before .before .tag2 .given .1)) ∙ a .tag-at .ensures) (s .pre .1 .3) in
-      let l = low (s .args .table .now) (s .args .words .now) restriction (s .args .above) (s .args .scope) (s .args .at) (s .pre .1 .3) in
-      (omega (arith, l, s .pre .0), (s .pre .1 .0, l, s .pre .1 .2, omega (arith, j .1, c .before .value .ensures), (subst (λ (n : ℕ). HereAll (s .args .table .now) (s .args .words .now) restriction (s .args .above + 1) (s .args .scope) n (s .args .at + 2)) (sym (c .before .value .ensures)) (j .0))))
+      let j =
+      here-join (s .args .table .now) (s .args .words .now) (s .args .above) (s .args .scope) (s .args .at)
+      (s .pre .1 .0) (s .pre .1 .2) _ (ap asTag (sym (at-tag2 .tag2 .given .1)) ∙ a .tag-at .ensures) (s .pre .1 .3) in
+      let l =
+      low (s .args .table .now) (s .args .words .now) restriction (s .args .above) (s .args .scope) (s .args .at)
+      (s .pre .1 .3) in (
+        omega (arith, l, s .pre .0),
+        (
+          s .pre .1 .0,
+          l,
+          s .pre .1 .2,
+          omega (arith, j .1, value .ensures),
+          (subst
+              (λ (n : ℕ). HereAll (s .args .table .now) (s .args .words .now) restriction (s .args .above + 1) (s .args .scope) n
+              (s .args .at + 2)) (sym (value .ensures)) (j .0)),
+        ),
+      )
 
   bind-enum-told-2 : bind-lts.Need-enum-told-2 bind-calls bind-at bind.Post
   bind-enum-told-2 c = search needs
@@ -215,62 +272,103 @@ module _ (t : ℕ) where
   bind-bind-some-requires c κs =
       let a = c .before .before in
       let s = a .before in
-      let k = here-some (s .args .table .now) (s .args .words .now) (s .args .above) (s .args .scope) (s .args .at) (s .pre .1 .0) (s .pre .1 .2) (ap asTag (sym (c .enum-told2 .given .1)) ∙ a .tag-at .ensures) (s .pre .1 .3) in
-      let l = low (s .args .table .now) (s .args .words .now) restriction (s .args .above) (s .args .scope) (s .args .at) (s .pre .1 .3) in
+      let k =
+      here-some (s .args .table .now) (s .args .words .now) (s .args .above) (s .args .scope) (s .args .at)
+      (s .pre .1 .0) (s .pre .1 .2) (ap asTag (sym (c .enum-told2 .given .1)) ∙ a .tag-at .ensures) (s .pre .1 .3) in
+      let l =
+      low (s .args .table .now) (s .args .words .now) restriction (s .args .above) (s .args .scope) (s .args .at)
+      (s .pre .1 .3) in
       (omega (arith, l, s .pre .0), (s .pre .1 .0, omega (arith, l), omega (arith, k .0), k .1))
 
   bind-add-t20 : bind-lts.Need-add-t20 bind-calls bind-at bind.Post
   bind-add-t20 c =
       let a = c .before in
       let s = a .before in
-      omega (arith, inside (s .args .table .now) (s .args .words .now) restriction (s .args .above) (s .args .scope) (s .args .at) (s .pre .1 .3), s .good .1 .0)
+      omega (
+        arith,
+        inside (s .args .table .now) (s .args .words .now) restriction (s .args .above) (s .args .scope)
+            (s .args .at) (s .pre .1 .3),
+        s .good .1 .0,
+      )
 
   bind-returns : bind-lts.Need-returns bind-calls bind-at bind.Post
   bind-returns c =
-      let a = c .before .before .before .before in
+      let at-tag = c .before .before in
+      let a = at-tag .before .before in
       let s = a .before in
-      from-atom (s .args .table .now) (s .args .words .now) (s .args .above) (s .args .scope) (s .args .at) (s .pre .1 .0) (s .pre .1 .2) (setOf (s .args .bound)) _ _ (ap asTag (sym (c .before .before .tag .given .1)) ∙ a .tag-at .ensures) (c .bind-atom .ensures)
+      from-atom (s .args .table .now) (s .args .words .now) (s .args .above) (s .args .scope) (s .args .at)
+      (s .pre .1 .0) (s .pre .1 .2) (setOf (s .args .bound)) _ _
+      (ap asTag (sym (at-tag .tag .given .1)) ∙ a .tag-at .ensures) (c .bind-atom .ensures)
 
   bind-returns-2 : bind-lts.Need-returns-2 bind-calls bind-at bind.Post
   bind-returns-2 c =
       let a = c .before .before .before in
       let s = a .before in
-      from-compare (s .args .table .now) (s .args .words .now) (s .args .above) (s .args .scope) (s .args .at) (s .pre .1 .0) (s .pre .1 .2) (setOf (s .args .bound)) _ _ (ap asTag (sym (c .before .enum-told .given .1)) ∙ a .tag-at .ensures) (c .bind-compare .ensures)
+      from-compare (s .args .table .now) (s .args .words .now) (s .args .above) (s .args .scope) (s .args .at)
+      (s .pre .1 .0) (s .pre .1 .2) (setOf (s .args .bound)) _ _
+      (ap asTag (sym (c .before .enum-told .given .1)) ∙ a .tag-at .ensures) (c .bind-compare .ensures)
 
   bind-returns-3 : bind-lts.Need-returns-3 bind-calls bind-at bind.Post
   bind-returns-3 c =
-      let a = c .before .before .before .before .before .before in
+      let at-value = c .before .before in
+      let at-tag2 = at-value .before .before in
+      let a = at-tag2 .before .before in
       let s = a .before in
-      from-all (s .args .table .now) (s .args .words .now) (s .args .above) (s .args .scope) (s .args .at) (s .pre .1 .0) (s .pre .1 .2) (setOf (s .args .bound)) _ (ap T.Tag.join (sym (c .before .if1 .taken)) ∙ ap asTag (sym (c .before .before .before .before .tag2 .given .1)) ∙ a .tag-at .ensures) (λ ts next nodes n. c .bind-all .ensures ts next nodes (n ∙ sym (c .before .before .value .ensures)))
+      from-all (s .args .table .now) (s .args .words .now) (s .args .above) (s .args .scope) (s .args .at)
+      (s .pre .1 .0) (s .pre .1 .2) (setOf (s .args .bound)) _
+      (ap T.Tag.join (sym (c .before .if1 .taken)) ∙ ap asTag (sym (at-tag2 .tag2 .given .1)) ∙ a .tag-at .ensures)
+      (λ ts next nodes n. c .bind-all .ensures ts next nodes (n ∙ sym (at-value .value .ensures)))
 
   bind-returns-4 : bind-lts.Need-returns-4 bind-calls bind-at bind.Post
   bind-returns-4 c =
-      let a = c .before .before .before .before .before .before in
+      let at-value = c .before .before in
+      let at-tag2 = at-value .before .before in
+      let a = at-tag2 .before .before in
       let s = a .before in
-      from-any (s .args .table .now) (s .args .words .now) (s .args .above) (s .args .scope) (s .args .at) (s .pre .1 .0) (s .pre .1 .2) (setOf (s .args .bound)) _ (ap T.Tag.join (sym (c .before .if1 .left)) ∙ ap asTag (sym (c .before .before .before .before .tag2 .given .1)) ∙ a .tag-at .ensures) (λ ts next nodes n. c .bind-any .ensures ts next nodes (n ∙ sym (c .before .before .value .ensures)))
+      from-any (s .args .table .now) (s .args .words .now) (s .args .above) (s .args .scope) (s .args .at)
+      (s .pre .1 .0) (s .pre .1 .2) (setOf (s .args .bound)) _
+      (ap T.Tag.join (sym (c .before .if1 .left)) ∙ ap asTag (sym (at-tag2 .tag2 .given .1)) ∙ a .tag-at .ensures)
+      (λ ts next nodes n. c .bind-any .ensures ts next nodes (n ∙ sym (at-value .value .ensures)))
 
   bind-returns-5 : bind-lts.Need-returns-5 bind-calls bind-at bind.Post
   bind-returns-5 c =
       let a = c .before .before .before in
       let s = a .before in
-      from-some (s .args .table .now) (s .args .words .now) (s .args .above) (s .args .scope) (s .args .at) (s .pre .1 .0) (s .pre .1 .2) (setOf (s .args .bound)) _ (ap asTag (sym (c .before .enum-told2 .given .1)) ∙ a .tag-at .ensures) (c .bind-some .ensures)
+      from-some (s .args .table .now) (s .args .words .now) (s .args .above) (s .args .scope) (s .args .at)
+      (s .pre .1 .0) (s .pre .1 .2) (setOf (s .args .bound)) _
+      (ap asTag (sym (c .before .enum-told2 .given .1)) ∙ a .tag-at .ensures) (c .bind-some .ensures)
 
   bind-returns-6 : bind-lts.Need-returns-6 bind-calls bind-at bind.Post
   bind-returns-6 c =
       let a = c .before in
       let s = a .before in
-      from-plain (s .args .table .now) (s .args .words .now) (s .args .above) (s .args .scope) (s .args .at) (s .pre .1 .0) (s .pre .1 .2) (asTag (a .tag-at .result)) (a .tag-at .ensures) (other (a .tag-at .result) (c .match .keys5)) (s .args .bound) (search needs)
+      from-plain (s .args .table .now) (s .args .words .now) (s .args .above) (s .args .scope) (s .args .at)
+      (s .pre .1 .0) (s .pre .1 .2) (asTag (a .tag-at .result)) (a .tag-at .ensures)
+      (other (a .tag-at .result) (c .match .keys5)) (s .args .bound) (search needs)
 
   bind-all-loop-holds : bind-all-lts.Need-loop-holds bind-all-calls bind-all-at bind-all.Post bind-all-Inv-loop bind-all-μ-loop
   bind-all-loop-holds c =
-      let s = c in
-      (omega arith, search needs, all-start (s .args .table .now) (s .args .words .now) (s .args .above) (s .args .scope) (s .args .n) (s .args .at) (s .args .bound))
+      let s = c in (
+        omega arith,
+        search needs,
+        all-start (s .args .table .now) (s .args .words .now) (s .args .above) (s .args .scope)
+            (s .args .n) (s .args .at) (s .args .bound),
+      )
 
   bind-all-bind-requires : bind-all-lts.Need-bind-requires bind-all-calls bind-all-at bind-all.Post bind-all-Inv-loop bind-all-μ-loop
   bind-all-bind-requires c κs =
       let l = c .before in
-      let s = l .before in
-      (omega (arith, s .pre .0, s .pre .1 .1), (s .pre .1 .0, s .pre .1 .1, s .pre .1 .2, all-here (s .args .table .now) (s .args .words .now) (s .args .above) (s .args .scope) (s .args .n) (s .args .at) (l .loop .i) (l .loop .next) (s .args .bound) (l .loop .set) (l .loop .inv .2) (c .loop-test .taken) (s .pre .1 .3)))
+      let s = l .before in (
+        omega (arith, s .pre .0, s .pre .1 .1),
+        (
+          s .pre .1 .0,
+          s .pre .1 .1,
+          s .pre .1 .2,
+          all-here (s .args .table .now) (s .args .words .now) (s .args .above)
+              (s .args .scope) (s .args .n) (s .args .at) (l .loop .i) (l .loop .next) (s .args .bound) (l .loop .set)
+              (l .loop .inv .2) (c .loop-test .taken) (s .pre .1 .3),
+        ),
+      )
 
   bind-all-enum-told : bind-all-lts.Need-enum-told bind-all-calls bind-all-at bind-all.Post bind-all-Inv-loop bind-all-μ-loop
   bind-all-enum-told c = search needs
@@ -280,7 +378,9 @@ module _ (t : ℕ) where
       let w = c .before .before in
       let l = w .before .before in
       let s = l .before in
-      all-stop (s .args .table .now) (s .args .words .now) (s .args .above) (s .args .scope) (s .args .n) (s .args .at) (l .loop .i) (l .loop .next) (s .args .bound) (l .loop .set) (l .loop .inv .2) (w .before .loop-test .taken) (w .bind .result) (w .bind .ensures) (c .enum-told .given .1)
+      all-stop (s .args .table .now) (s .args .words .now) (s .args .above) (s .args .scope) (s .args .n) (s .args .at)
+      (l .loop .i) (l .loop .next) (s .args .bound) (l .loop .set) (l .loop .inv .2) (w .before .loop-test .taken)
+      (w .bind .result) (w .bind .ensures) (c .enum-told .given .1)
 
   bind-all-enum-told-2 : bind-all-lts.Need-enum-told-2 bind-all-calls bind-all-at bind-all.Post bind-all-Inv-loop bind-all-μ-loop
   bind-all-enum-told-2 c = search needs
@@ -303,19 +403,39 @@ module _ (t : ℕ) where
   bind-all-loop-again c =
       let w = c .before .before .before in
       let l = w .before .before in
-      let s = l .before in
-      (omega (arith, w .before .loop-test .taken), came-marks (s .args .table .now) (s .args .words .now) (s .args .above) (s .args .scope) (l .loop .next) _ _ (all-here (s .args .table .now) (s .args .words .now) (s .args .above) (s .args .scope) (s .args .n) (s .args .at) (l .loop .i) (l .loop .next) (s .args .bound) (l .loop .set) (l .loop .inv .2) (w .before .loop-test .taken) (s .pre .1 .3)) (w .bind .ensures), all-step (s .args .table .now) (s .args .words .now) (s .args .above) (s .args .scope) (s .args .n) (s .args .at) (l .loop .i) (l .loop .next) (s .args .bound) (l .loop .set) (l .loop .inv .2) (w .before .loop-test .taken) (w .bind .result) (w .bind .ensures) (c .before .enum-told2 .given .1))
+      let s = l .before in (
+        omega (arith, w .before .loop-test .taken),
+        came-marks (s .args .table .now) (s .args .words .now)
+            (s .args .above) (s .args .scope) (l .loop .next) _ _
+            (all-here (s .args .table .now) (s .args .words .now) (s .args .above) (s .args .scope) (s .args .n) (s .args .at)
+            (l .loop .i) (l .loop .next) (s .args .bound) (l .loop .set) (l .loop .inv .2) (w .before .loop-test .taken)
+            (s .pre .1 .3)) (w .bind .ensures),
+        all-step (s .args .table .now) (s .args .words .now) (s .args .above)
+            (s .args .scope) (s .args .n) (s .args .at) (l .loop .i) (l .loop .next) (s .args .bound) (l .loop .set)
+            (l .loop .inv .2) (w .before .loop-test .taken) (w .bind .result) (w .bind .ensures)
+            (c .before .enum-told2 .given .1),
+      )
 
   bind-all-returns-2 : bind-all-lts.Need-returns-2 bind-all-calls bind-all-at bind-all.Post bind-all-Inv-loop bind-all-μ-loop
   bind-all-returns-2 c =
       let l = c .before in
       let s = l .before in
-      all-end (s .args .table .now) (s .args .words .now) (s .args .above) (s .args .scope) (s .args .n) (s .args .at) (l .loop .i) (l .loop .next) (s .args .bound) (l .loop .set) (l .loop .inv .2) (c .loop-test .left) (l .loop .inv .1)
+      all-end (s .args .table .now) (s .args .words .now) (s .args .above) (s .args .scope) (s .args .n) (s .args .at)
+      (l .loop .i) (l .loop .next) (s .args .bound) (l .loop .set) (l .loop .inv .2) (c .loop-test .left)
+      (l .loop .inv .1)
 
   bind-any-bind-requires : bind-any-lts.Need-bind-requires bind-any-calls bind-any-at bind-any.Post bind-any-Inv-loop bind-any-μ-loop
   bind-any-bind-requires c κs =
-      let s = c in
-      (omega (arith, s .pre .0, s .pre .1 .1), (s .pre .1 .0, s .pre .1 .1, s .pre .1 .2, any-here (s .args .table .now) (s .args .words .now) (s .args .above) (s .args .scope) (s .args .n) (s .args .at) (s .args .bound) (s .pre .1 .3) (s .pre .1 .4)))
+      let s = c in (
+        omega (arith, s .pre .0, s .pre .1 .1),
+        (
+          s .pre .1 .0,
+          s .pre .1 .1,
+          s .pre .1 .2,
+          any-here (s .args .table .now) (s .args .words .now) (s .args .above)
+              (s .args .scope) (s .args .n) (s .args .at) (s .args .bound) (s .pre .1 .3) (s .pre .1 .4),
+        ),
+      )
 
   bind-any-enum-told : bind-any-lts.Need-enum-told bind-any-calls bind-any-at bind-any.Post bind-any-Inv-loop bind-any-μ-loop
   bind-any-enum-told c = search needs
@@ -324,7 +444,8 @@ module _ (t : ℕ) where
   bind-any-returns c =
       let w = c .before .before in
       let s = w .before in
-      any-first-stop (s .args .table .now) (s .args .words .now) (s .args .above) (s .args .scope) (s .args .n) (s .args .at) (s .args .bound) (s .pre .1 .3) (w .bind .result) (w .bind .ensures) (c .enum-told .given .1)
+      any-first-stop (s .args .table .now) (s .args .words .now) (s .args .above) (s .args .scope) (s .args .n)
+      (s .args .at) (s .args .bound) (s .pre .1 .3) (w .bind .result) (w .bind .ensures) (c .enum-told .given .1)
 
   bind-any-enum-told-2 : bind-any-lts.Need-enum-told-2 bind-any-calls bind-any-at bind-any.Post bind-any-Inv-loop bind-any-μ-loop
   bind-any-enum-told-2 c = search needs
@@ -332,14 +453,31 @@ module _ (t : ℕ) where
   bind-any-loop-holds : bind-any-lts.Need-loop-holds bind-any-calls bind-any-at bind-any.Post bind-any-Inv-loop bind-any-μ-loop
   bind-any-loop-holds c =
       let w = c .before .before .before in
-      let s = w .before in
-      (s .pre .1 .3, came-marks (s .args .table .now) (s .args .words .now) (s .args .above) (s .args .scope) (s .args .at) _ _ (any-here (s .args .table .now) (s .args .words .now) (s .args .above) (s .args .scope) (s .args .n) (s .args .at) (s .args .bound) (s .pre .1 .3) (s .pre .1 .4)) (w .bind .ensures), any-start (s .args .table .now) (s .args .words .now) (s .args .above) (s .args .scope) (s .args .n) (s .args .at) (s .args .bound) (s .pre .1 .3) (w .bind .result) (w .bind .ensures) (c .before .enum-told2 .given .1))
+      let s = w .before in (
+        s .pre .1 .3,
+        came-marks (s .args .table .now) (s .args .words .now) (s .args .above) (s .args .scope)
+            (s .args .at) _ _
+            (any-here (s .args .table .now) (s .args .words .now) (s .args .above) (s .args .scope) (s .args .n) (s .args .at)
+            (s .args .bound) (s .pre .1 .3) (s .pre .1 .4)) (w .bind .ensures),
+        any-start (s .args .table .now)
+            (s .args .words .now) (s .args .above) (s .args .scope) (s .args .n) (s .args .at) (s .args .bound) (s .pre .1 .3)
+            (w .bind .result) (w .bind .ensures) (c .before .enum-told2 .given .1),
+      )
 
   bind-any-bind-requires-2 : bind-any-lts.Need-bind-requires-2 bind-any-calls bind-any-at bind-any.Post bind-any-Inv-loop bind-any-μ-loop
   bind-any-bind-requires-2 c κs =
       let l = c .before in
-      let s = l .before .before .before .before .before in
-      (omega (arith, s .pre .0, s .pre .1 .1), (s .pre .1 .0, s .pre .1 .1, s .pre .1 .2, any-next-here (s .args .table .now) (s .args .words .now) (s .args .above) (s .args .scope) (s .args .n) (s .args .at) (s .args .bound) (s .pre .1 .3) (l .loop .i) (l .loop .next) (l .loop .set) (l .loop .inv .2) (c .loop-test .taken) (s .pre .1 .4)))
+      let s = l .before .before .before .before .before in (
+        omega (arith, s .pre .0, s .pre .1 .1),
+        (
+          s .pre .1 .0,
+          s .pre .1 .1,
+          s .pre .1 .2,
+          any-next-here (s .args .table .now) (s .args .words .now)
+              (s .args .above) (s .args .scope) (s .args .n) (s .args .at) (s .args .bound) (s .pre .1 .3) (l .loop .i)
+              (l .loop .next) (l .loop .set) (l .loop .inv .2) (c .loop-test .taken) (s .pre .1 .4),
+        ),
+      )
 
   bind-any-enum-told-3 : bind-any-lts.Need-enum-told-3 bind-any-calls bind-any-at bind-any.Post bind-any-Inv-loop bind-any-μ-loop
   bind-any-enum-told-3 c = search needs
@@ -349,7 +487,9 @@ module _ (t : ℕ) where
       let w = c .before .before in
       let l = w .before .before in
       let s = l .before .before .before .before .before in
-      any-stop (s .args .table .now) (s .args .words .now) (s .args .above) (s .args .scope) (s .args .n) (s .args .at) (s .args .bound) (s .pre .1 .3) (l .loop .i) (l .loop .next) (l .loop .set) (l .loop .inv .2) (w .before .loop-test .taken) (w .bind2 .result) (w .bind2 .ensures) (c .enum-told3 .given .1)
+      any-stop (s .args .table .now) (s .args .words .now) (s .args .above) (s .args .scope) (s .args .n) (s .args .at)
+      (s .args .bound) (s .pre .1 .3) (l .loop .i) (l .loop .next) (l .loop .set) (l .loop .inv .2)
+      (w .before .loop-test .taken) (w .bind2 .result) (w .bind2 .ensures) (c .enum-told3 .given .1)
 
   bind-any-enum-told-4 : bind-any-lts.Need-enum-told-4 bind-any-calls bind-any-at bind-any.Post bind-any-Inv-loop bind-any-μ-loop
   bind-any-enum-told-4 c = search needs
@@ -373,16 +513,25 @@ module _ (t : ℕ) where
 
   bind-any-loop-again : bind-any-lts.Need-loop-again bind-any-calls bind-any-at bind-any.Post bind-any-Inv-loop bind-any-μ-loop
   bind-any-loop-again c =
-      let w = c .before .before .before .before in
+      let at-enum-told4 = c .before .before in
+      let w = at-enum-told4 .before .before in
       let l = w .before .before in
-      let s = l .before .before .before .before .before in
-      (omega (arith, w .before .loop-test .taken), c .both .ensures .0, any-step (s .args .table .now) (s .args .words .now) (s .args .above) (s .args .scope) (s .args .n) (s .args .at) (s .args .bound) (s .pre .1 .3) (l .loop .i) (l .loop .next) (l .loop .set) (l .loop .inv .2) (w .before .loop-test .taken) (w .bind2 .result) (w .bind2 .ensures) (c .before .before .enum-told4 .given .1) (c .both .result) (c .both .ensures .1))
+      let s = l .before .before .before .before .before in (
+        omega (arith, w .before .loop-test .taken),
+        c .both .ensures .0,
+        any-step (s .args .table .now)
+            (s .args .words .now) (s .args .above) (s .args .scope) (s .args .n) (s .args .at) (s .args .bound) (s .pre .1 .3)
+            (l .loop .i) (l .loop .next) (l .loop .set) (l .loop .inv .2) (w .before .loop-test .taken) (w .bind2 .result)
+            (w .bind2 .ensures) (at-enum-told4 .enum-told4 .given .1) (c .both .result) (c .both .ensures .1),
+      )
 
   bind-any-returns-3 : bind-any-lts.Need-returns-3 bind-any-calls bind-any-at bind-any.Post bind-any-Inv-loop bind-any-μ-loop
   bind-any-returns-3 c =
       let l = c .before in
       let s = l .before .before .before .before .before in
-      any-end (s .args .table .now) (s .args .words .now) (s .args .above) (s .args .scope) (s .args .n) (s .args .at) (s .args .bound) (s .pre .1 .3) (l .loop .i) (l .loop .next) (l .loop .set) (l .loop .inv .2) (c .loop-test .left) (l .loop .inv .1)
+      any-end (s .args .table .now) (s .args .words .now) (s .args .above) (s .args .scope) (s .args .n) (s .args .at)
+      (s .args .bound) (s .pre .1 .3) (l .loop .i) (l .loop .next) (l .loop .set) (l .loop .inv .2) (c .loop-test .left)
+      (l .loop .inv .1)
 
   bind-some-add-bind : bind-some-lts.Need-add-bind bind-some-calls bind-some-at bind-some.Post
   bind-some-add-bind c = omega (arith, c .pre .1 .1)
@@ -393,10 +542,18 @@ module _ (t : ℕ) where
   bind-some-add-bind-3 : bind-some-lts.Need-add-bind-3 bind-some-calls bind-some-at bind-some.Post
   bind-some-add-bind-3 c =
       let s = c in
-      omega (arith, inside (s .args .table .now) (s .args .words .now) restriction (s .args .above + 1) (s .args .scope + 1) (s .args .at + 1) (s .pre .1 .3), s .good .1 .0)
+      omega (
+        arith,
+        inside (s .args .table .now) (s .args .words .now) restriction (s .args .above + 1) (s .args .scope + 1)
+            (s .args .at + 1) (s .pre .1 .3),
+        s .good .1 .0,
+      )
 
   bind-some-bind-requires : bind-some-lts.Need-bind-requires bind-some-calls bind-some-at bind-some.Post
-  bind-some-bind-requires c κs = (omega (arith, c .pre .0, c .pre .1 .1), (c .pre .1 .0, omega (arith, c .pre .1 .1), omega (arith, c .pre .1 .2), c .pre .1 .3))
+  bind-some-bind-requires c κs = (
+    omega (arith, c .pre .0, c .pre .1 .1),
+    (c .pre .1 .0, omega (arith, c .pre .1 .1), omega (arith, c .pre .1 .2), c .pre .1 .3),
+  )
 
   bind-some-enum-told : bind-some-lts.Need-enum-told bind-some-calls bind-some-at bind-some.Post
   bind-some-enum-told c = search needs
@@ -405,7 +562,8 @@ module _ (t : ℕ) where
   bind-some-returns c =
       let w = c .before .before in
       let s = w .before in
-      some-stop (s .args .table .now) (s .args .words .now) (s .args .above) (s .args .scope) (s .args .at) (setOf (s .args .bound)) (w .bind .result) (w .bind .ensures) (c .enum-told .given .1)
+      some-stop (s .args .table .now) (s .args .words .now) (s .args .above) (s .args .scope) (s .args .at)
+      (setOf (s .args .bound)) (w .bind .result) (w .bind .ensures) (c .enum-told .given .1)
 
   bind-some-enum-told-2 : bind-some-lts.Need-enum-told-2 bind-some-calls bind-some-at bind-some.Post
   bind-some-enum-told-2 c = search needs
@@ -415,18 +573,24 @@ module _ (t : ℕ) where
 
   bind-some-returns-2 : bind-some-lts.Need-returns-2 bind-some-calls bind-some-at bind-some.Post
   bind-some-returns-2 c =
-      let w = c .before .before .before .before in
+      let at-enum-told2 = c .before .before in
+      let w = at-enum-told2 .before .before in
       let s = w .before in
-      some-unbound (s .args .table .now) (s .args .words .now) (s .args .above) (s .args .scope) (s .args .at) (setOf (s .args .bound)) (w .bind .result) (w .bind .ensures) (c .before .before .enum-told2 .given .1) (not-true _ (c .if1 .taken))
+      some-unbound (s .args .table .now) (s .args .words .now) (s .args .above) (s .args .scope) (s .args .at)
+      (setOf (s .args .bound)) (w .bind .result) (w .bind .ensures) (at-enum-told2 .enum-told2 .given .1)
+      (not-true _ (c .if1 .taken))
 
   bind-some-array-write-set : bind-some-lts.Need-array-write-set bind-some-calls bind-some-at bind-some.Post
   bind-some-array-write-set c = omega (arith, c .before .before .before .before .before .pre .1 .2)
 
   bind-some-returns-3 : bind-some-lts.Need-returns-3 bind-some-calls bind-some-at bind-some.Post
   bind-some-returns-3 c =
-      let w = c .before .before .before .before in
+      let at-enum-told2 = c .before .before in
+      let w = at-enum-told2 .before .before in
       let s = w .before in
-      some-bound (s .args .table .now) (s .args .words .now) (s .args .above) (s .args .scope) (s .args .at) (setOf (s .args .bound)) (w .bind .result) (w .bind .ensures) (c .before .before .enum-told2 .given .1) (not-false _ (c .if1 .left)) (s .pre .1 .2)
+      some-bound (s .args .table .now) (s .args .words .now) (s .args .above) (s .args .scope) (s .args .at)
+      (setOf (s .args .bound)) (w .bind .result) (w .bind .ensures) (at-enum-told2 .enum-told2 .given .1)
+      (not-false _ (c .if1 .left)) (s .pre .1 .2)
 
 pub +bind+bind-all+bind-any+bind-some-spec : {M : Type 1} → statement M
 +bind+bind-all+bind-any+bind-some-spec =

@@ -40,15 +40,17 @@ term-bound-requires : tie.Need-term-bound-requires Inv-loop μ-loop
 term-bound-requires c κs =
     let s = c .before .before in (
       omega (arith, s .pre .0),
-      λ table. place-holds (inScope table (s .args .words .now) 16) (s .args .first) (s .args .n) (c .before .loop .i) (s .pre .1 table) (c .loop-test .taken),
+      λ table. place-holds (inScope table (s .args .words .now) 16) (s .args .first)
+          (s .args .n) (c .before .loop .i) (s .pre .1 table) (c .loop-test .taken),
     )
 
 returns : tie.Need-returns Inv-loop μ-loop
-returns c = λ table.
-    let l = c .before .before .before in
-    sym
-    (l .loop .inv .1 table
-    ∙ from-no _ _ _ (l .loop .i) (c .before .before .loop-test .taken) (sym (c .before .term-bound .ensures table) ∙ not-true _ (c .if1 .taken)))
+returns c =
+    let at-loop-test = c .before .before in
+    let then = at-loop-test .before in
+    λ table. let l = then in sym
+    (l .loop .inv .1 table ∙ from-no _ _ _ (l .loop .i) (at-loop-test .loop-test .taken)
+    (sym (c .before .term-bound .ensures table) ∙ not-true _ (c .if1 .taken)))
 
 add-i : tie.Need-add-i Inv-loop μ-loop
 add-i c = omega arith
@@ -58,11 +60,11 @@ loop-less c = omega arith
 
 loop-again : tie.Need-loop-again Inv-loop μ-loop
 loop-again c =
-    let l = c .before .before .before in (
+    let at-loop-test = c .before .before in
+    let l = at-loop-test .before in (
       omega arith,
-      λ table.
-          l .loop .inv .1 table
-          ∙ from-yes _ _ _ (l .loop .i) (c .before .before .loop-test .taken) (sym (c .before .term-bound .ensures table) ∙ not-false _ (c .if1 .left)),
+      λ table. l .loop .inv .1 table ∙ from-yes _ _ _ (l .loop .i) (at-loop-test .loop-test .taken)
+          (sym (c .before .term-bound .ensures table) ∙ not-false _ (c .if1 .left)),
     )
 
 returns-2 : tie.Need-returns-2 Inv-loop μ-loop

@@ -62,7 +62,9 @@ with-terms-requires c κs =
     let v = c .before .before .before in
     let s = v .before .before in (
       subst (λ (k : ℕ). s .args .at + 3 + 2 * k < 2 ^ 64) (sym (v .value2 .ensures)) (s .pre .2),
-      subst (λ (k : ℕ). (t : Words) → all (inScope t (s .args .words .now) 16) (places (s .args .at + 3) k) ≡ true) (sym (v .value2 .ensures)) (s .pre .3),
+      subst
+          (λ (k : ℕ). (t : Words) → all (inScope t (s .args .words .now) 16) (places (s .args .at + 3) k) ≡ true)
+          (sym (v .value2 .ensures)) (s .pre .3),
     )
 
 returns-2 : tie.Need-returns-2
@@ -85,7 +87,9 @@ all-bound-requires c κs =
     let v = c .before in
     let s = v .before .before in (
       subst (λ (k : ℕ). s .args .at + 3 + 2 * k < 2 ^ 64) (sym (v .value2 .ensures)) (s .pre .2),
-      subst (λ (k : ℕ). (t : Words) → all (inScope t (s .args .words .now) 16) (places (s .args .at + 3) k) ≡ true) (sym (v .value2 .ensures)) (s .pre .3),
+      subst
+          (λ (k : ℕ). (t : Words) → all (inScope t (s .args .words .now) 16) (places (s .args .at + 3) k) ≡ true)
+          (sym (v .value2 .ensures)) (s .pre .3),
     )
 
 returns-3 : tie.Need-returns-3

@@ -7,7 +7,8 @@ use mathlib.Core.Logic.{⊎-elim}
 use Rattle.model.specs.Reading.{inScope}
 use Rattle.model.specs.Mode.{inputsBound}
 use Rattle.policies.specs.Mode.{setOf, termsAt}
-use Rattle.policies.proofs.ModeTerms.{place-holds, termsFrom, terms-first, terms-next, terms-last, inputs-free, inputs-yes, inputs-no}
+use Rattle.policies.proofs.ModeTerms.{place-holds, termsFrom, terms-first, terms-next, terms-last, inputs-free, inputs-yes}
+use Rattle.policies.proofs.ModeTerms.{inputs-no}
 use Rattle.policies.proofs.mode.inputs_bound.Statement.{statement}
 use Rattle.policies.proofs.mode.inputs_bound.Tie as tie
 
@@ -40,11 +41,12 @@ add-term-bound c = omega (arith, c .before .before .before .before .pre .2)
 
 term-bound-requires : tie.Need-term-bound-requires Inv-loop μ-loop
 term-bound-requires c κs =
-    let l = c .before .before .before in
+    let at-loop-test = c .before .before in
+    let l = at-loop-test .before in
     let s = l .before in (
       omega (arith, s .pre .2),
-      λ table.
-          place-holds (inScope table (s .args .words .now) 16) (s .args .first) (s .args .n) (l .loop .i) (s .pre .3 table) (c .before .before .loop-test .taken),
+      λ table. place-holds (inScope table (s .args .words .now) 16) (s .args .first)
+          (s .args .n) (l .loop .i) (s .pre .3 table) (at-loop-test .loop-test .taken),
     )
 
 returns : tie.Need-returns Inv-loop μ-loop

@@ -12,7 +12,9 @@ is-requires : tie.Need-is-requires
 is-requires c κs = search needs
 
 returns : tie.Need-returns
-returns c = λ table. constant-bound table (c .before .before .args .words .now) (c .before .before .args .i) _ (sym (c .before .is .ensures) ∙ c .if1 .taken)
+returns c =
+    let a = c .before .before .args in
+    λ table. constant-bound table (a .words .now) (a .i) _ (sym (c .before .is .ensures) ∙ c .if1 .taken)
 
 add-value : tie.Need-add-value
 add-value c = search needs
@@ -22,15 +24,19 @@ value-requires c κs = search needs
 
 array-read-result : tie.Need-array-read-result
 array-read-result c =
-    let s = c .before .before .before in
-    let small = variable-small [] (s .args .words .now) (s .args .i) 16 (s .pre .1 []) (sym (c .before .before .is .ensures) ∙ c .before .if1 .left) in
+    let at-is = c .before .before in
+    let s = at-is .before in
+    let small =
+    variable-small [] (s .args .words .now) (s .args .i) 16 (s .pre .1 [])
+    (sym (at-is .is .ensures) ∙ c .before .if1 .left) in
     omega (arith, c .value .ensures, small)
 
 returns-2 : tie.Need-returns-2
-returns-2 c = λ table.
-    let s = c .before .before .before in
-    ap (setOf (s .args .t2)) (c .value .ensures)
-    ∙ variable-bound table (s .args .words .now) (s .args .i) (setOf (s .args .t2)) (sym (c .before .before .is .ensures) ∙ c .before .if1 .left)
+returns-2 c =
+    let at-is = c .before .before in
+    let then = at-is .before in
+    λ table. let s = then in ap (setOf (s .args .t2)) (c .value .ensures) ∙ variable-bound table (s .args .words .now)
+    (s .args .i) (setOf (s .args .t2)) (sym (at-is .is .ensures) ∙ c .before .if1 .left)
 
 pub term-bound-spec : {M : Type 1} → statement M
 term-bound-spec =

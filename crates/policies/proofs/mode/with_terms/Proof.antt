@@ -12,7 +12,8 @@ use Rattle.model.specs.Tree.{Term}
 use Rattle.model.specs.Words.{Words, value}
 use Rattle.model.specs.Reading.{termAt, inScope}
 use Rattle.policies.specs.Mode.{setOf, termsAt, withTerms}
-use Rattle.policies.proofs.ModeTerms.{place-holds, termsFrom, terms-first, terms-next, terms-last, term-constant, term-variable, variable-small, with-constant, with-variable, with-none}
+use Rattle.policies.proofs.ModeTerms.{place-holds, termsFrom, terms-first, terms-next, terms-last, term-constant, term-variable}
+use Rattle.policies.proofs.ModeTerms.{variable-small, with-constant, with-variable, with-none}
 use Rattle.policies.proofs.mode.with_terms.Statement.{statement}
 use Rattle.policies.proofs.mode.with_terms.Tie as tie
 use Rattle.policies.proofs.mode.with_terms.Reads as reads
@@ -81,40 +82,34 @@ loop-less c = omega arith
 
 loop-again : tie.Need-loop-again Inv-loop μ-loop
 loop-again c =
-    let l = c .before .before .before in
+    let at-is = c .before in
+    let at-loop-test = at-is .before in
+    let l = at-loop-test .before in
     let a = l .before .args in
     let i = l .loop .i in
     let at = a .first + 2 * i in
-    let next : (table : Words) → withTerms (setOf (a .bound)) (termsAt table (a .words .now) (a .first) (a .n)) ≡ withTerms (setOf (l .loop .set)) (termAt table (a .words .now) at ∷ termsFrom table (a .words .now) (a .first) (a .n) (i + 1))
-    = λ table.
-    l .loop .inv .2 table
-    ∙ ap (withTerms (setOf (l .loop .set))) (terms-next table (a .words .now) (a .first) (a .n) i (c .before .before .loop-test .taken))
-    in
+    let next : (table : Words) → withTerms (setOf (a .bound)) (termsAt table (a .words .now) (a .first) (a .n)) ≡ withTerms (setOf (l .loop .set)) (termAt table (a .words .now) at ∷ termsFrom table (a .words .now) (a .first) (a .n) (i + 1)) =
+    λ table. l .loop .inv .2 table ∙ ap (withTerms (setOf (l .loop .set)))
+    (terms-next table (a .words .now) (a .first) (a .n) i (at-loop-test .loop-test .taken)) in
     ⊎-elim
-    (λ w.
-    let no-constant = not-true _ (w .0 .taken) in
-    let marks = l .loop .set in
-    let v = value (a .words .now) (at + 1) in
-    let is : c .if1 .set ≡ set marks v true = w .2 ∙ ap (λ (k : ℕ). set marks k true) (w .1 .ensures) in (
+    (λ w. let no-constant = not-true _ (w .0 .taken) in let marks = l .loop .set in let v = value (a .words .now)
+    (at + 1) in let is : c .if1 .set ≡ set marks v true = w .2 ∙ ap (λ (k : ℕ). set marks k true) (w .1 .ensures) in (
       omega arith,
       ap length is ∙ length-set marks v true ∙ l .loop .inv .1,
-      λ table.
-          next table
-          ∙ ap (λ (t : Term). withTerms (setOf marks) (t ∷ termsFrom table (a .words .now) (a .first) (a .n) (i + 1)))
-          (term-variable table (a .words .now) at (sym (c .before .is .ensures) ∙ no-constant))
-          ∙ with-variable marks v _ (omega (arith, small (c .before) no-constant, l .loop .inv .1))
-          ∙ ap (λ (m : List Bool). withTerms (setOf m) (termsFrom table (a .words .now) (a .first) (a .n) (i + 1))) (sym is),
+      λ table. next table ∙ ap
+          (λ (t : Term). withTerms (setOf marks) (t ∷ termsFrom table (a .words .now) (a .first) (a .n) (i + 1)))
+          (term-variable table (a .words .now) at (sym (at-is .is .ensures) ∙ no-constant)) ∙ with-variable marks v _
+          (omega (arith, small at-is no-constant, l .loop .inv .1)) ∙ ap
+          (λ (m : List Bool). withTerms (setOf m) (termsFrom table (a .words .now) (a .first) (a .n) (i + 1))) (sym is),
     ))
-    (λ w.
-    let constantly = not-false _ (w .0 .left) in (
+    (λ w. let constantly = not-false _ (w .0 .left) in (
       omega arith,
       ap length (w .1) ∙ l .loop .inv .1,
-      λ table.
-          next table
-          ∙ ap (λ (t : Term). withTerms (setOf (l .loop .set)) (t ∷ termsFrom table (a .words .now) (a .first) (a .n) (i + 1)))
-          (term-constant table (a .words .now) at (sym (c .before .is .ensures) ∙ constantly))
-          ∙ with-constant (setOf (l .loop .set)) _ _
-          ∙ ap (λ (m : List Bool). withTerms (setOf m) (termsFrom table (a .words .now) (a .first) (a .n) (i + 1))) (sym (w .1)),
+      λ table. next table ∙ ap
+          (λ (t : Term). withTerms (setOf (l .loop .set)) (t ∷ termsFrom table (a .words .now) (a .first) (a .n) (i + 1)))
+          (term-constant table (a .words .now) at (sym (at-is .is .ensures) ∙ constantly)) ∙ with-constant
+          (setOf (l .loop .set)) _ _ ∙ ap
+          (λ (m : List Bool). withTerms (setOf m) (termsFrom table (a .words .now) (a .first) (a .n) (i + 1))) (sym (w .1)),
     ))
     (c .if1 .came)
 

@@ -63,8 +63,11 @@ scoped-requires : tie.Need-scoped-requires
 scoped-requires c κs =
     let e = c .before .before .before .before in
     let s = e .before .before in
-    let a = s .args in
-    (s .pre .2, shaped-there (a .table .now) (a .words .now) (asTag (a .tag)) (asRole (a .role)) (a .above) (a .scope) (a .at) (e .before .shape .ensures) (e .if1 .left))
+    let a = s .args in (
+      s .pre .2,
+      shaped-there (a .table .now) (a .words .now) (asTag (a .tag)) (asRole (a .role)) (a .above) (a .scope)
+          (a .at) (e .before .shape .ensures) (e .if1 .left),
+    )
 
 returns-4 : tie.Need-returns-4
 returns-4 c =

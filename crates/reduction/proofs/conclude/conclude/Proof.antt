@@ -2,7 +2,8 @@
 -- closed.
 use native.Mathlib.Omega.{arith}
 use mathlib.Core.Path.{sym, _∙_}
-use Rattle.reduction.proofs.Concluding.{concluding-here, concluding-sizes, concluding-restriction, concluding-closed, concluded-closed, concluding-long, concluding-adding, concluding-joining, concluded-open}
+use Rattle.reduction.proofs.Concluding.{concluding-here, concluding-sizes, concluding-restriction, concluding-closed}
+use Rattle.reduction.proofs.Concluding.{concluded-closed, concluding-long, concluding-adding, concluding-joining, concluded-open}
 use borrow.Author.Needs.{needs}
 use Rattle.reduction.proofs.conclude.conclude.Statement.{statement}
 use Rattle.reduction.proofs.conclude.conclude.Tie as tie
@@ -24,16 +25,28 @@ add-closed c = search needs
 
 mul-closed : tie.Need-mul-closed
 mul-closed c =
-    let h = concluding-sizes (c .before .before .pre .2) (c .before .value .result) (c .value2 .result) (c .before .value .ensures) (c .value2 .ensures) in
-    omega (arith, c .before .before .good)
+    let at-value = c .before in
+    let value = at-value .value in
+    let at-good = at-value .before in
+    let h =
+    concluding-sizes (at-good .pre .2) (value .result) (c .value2 .result) (value .ensures) (c .value2 .ensures) in
+    omega (arith, at-good .good)
 
 add-closed-2 : tie.Need-add-closed-2
 add-closed-2 c =
-    let h = concluding-sizes (c .before .before .pre .2) (c .before .value .result) (c .value2 .result) (c .before .value .ensures) (c .value2 .ensures) in
-    omega (arith, c .before .before .good)
+    let at-value = c .before in
+    let value = at-value .value in
+    let at-good = at-value .before in
+    let h =
+    concluding-sizes (at-good .pre .2) (value .result) (c .value2 .result) (value .ensures) (c .value2 .ensures) in
+    omega (arith, at-good .good)
 
 closed-requires : tie.Need-closed-requires
-closed-requires c κs = concluding-restriction (c .before .before .pre .2) (c .before .value .result) (c .value2 .result) (c .before .value .ensures) (c .value2 .ensures)
+closed-requires c κs =
+    let at-value = c .before in
+    let value = at-value .value in
+    let at-pre = at-value .before in
+    concluding-restriction (at-pre .pre .2) (value .result) (c .value2 .result) (value .ensures) (c .value2 .ensures)
 
 finish-requires : tie.Need-finish-requires
 finish-requires c κs = search needs
@@ -43,10 +56,16 @@ same-length c = search needs
 
 returns : tie.Need-returns
 returns c =
-    λ a.
-    concluded-closed a _ _
-    (sym (concluding-closed a (c .before .before .before .before .before .before .value .result) (c .before .before .before .before .before .value2 .result) (c .before .before .before .before .before .before .value .ensures) (c .before .before .before .before .before .value2 .ensures) _ (c .before .before .before .before .closed .ensures)) ∙ c .before .before .before .if1 .taken)
-    (c .before .finish .ensures)
+    let at-if1 = c .before .before .before in
+    let at-closed = at-if1 .before in
+    let at-value2 = at-closed .before in
+    let value2 = at-value2 .value2 in
+    let at-value = at-value2 .before in
+    let value = at-value .value in
+    λ a. concluded-closed a _ _
+    (sym
+    (concluding-closed a (value .result) (value2 .result) (value .ensures) (value2 .ensures) _
+    (at-closed .closed .ensures)) ∙ at-if1 .if1 .taken) (c .before .finish .ensures)
 
 mul-last : tie.Need-mul-last
 mul-last c = search needs
@@ -61,27 +80,46 @@ part-last-end : tie.Need-part-last-end
 part-last-end c = search needs
 
 last-requires : tie.Need-last-requires
-last-requires c κs = (omega arith, c .before .before .before .before .before .pre .1, concluding-here (c .before .before .before .before .before .pre .2))
+last-requires c κs =
+    let at-pre = c .before .before .before .before .before in
+    let pre = at-pre .pre in
+    (omega arith, pre .1, concluding-here (pre .2))
 
 add-requires : tie.Need-add-requires
 add-requires c κs =
-    let long = concluding-long (c .before .before .before .before .before .before .before .before .pre .2) _ _ (c .before .before .last .ensures) in
-    (omega arith, concluding-adding (c .before .before .before .before .before .before .before .before .pre .2) _ _ (c .before .before .last .ensures))
+    let at-last = c .before .before in
+    let last = at-last .last in
+    let at-pre = at-last .before .before .before .before .before .before in
+    let pre = at-pre .pre in
+    let long = concluding-long (pre .2) _ _ (last .ensures) in
+    (omega arith, concluding-adding (pre .2) _ _ (last .ensures))
 
 finish-requires-2 : tie.Need-finish-requires-2
 finish-requires-2 c κs =
-    let long = concluding-long (c .before .before .before .before .before .before .before .before .before .before .before .pre .2) _ _ (c .before .before .before .before .before .last .ensures) in
-    (omega arith, (_, _, _, _, concluding-joining (c .before .before .before .before .before .before .before .before .before .before .before .pre .2) _ _ (c .before .before .before .before .before .last .ensures) _ _ (c .before .before .add .ensures)))
+    let at-add = c .before .before in
+    let at-last = at-add .before .before .before in
+    let last = at-last .last in
+    let at-pre = at-last .before .before .before .before .before .before in
+    let pre = at-pre .pre in
+    let long = concluding-long (pre .2) _ _ (last .ensures) in
+    (omega arith, (_, _, _, _, concluding-joining (pre .2) _ _ (last .ensures) _ _ (at-add .add .ensures)))
 
 same-length-2 : tie.Need-same-length-2
 same-length-2 c = search needs
 
 returns-2 : tie.Need-returns-2
-returns-2 c =
-    λ a.
+returns-2 c = λ a.
+    let closed =
+    let at-if1 = c .before .before .before .before .before .before .before .before .before in
+    let at-closed = at-if1 .before in
+    let at-value2 = at-closed .before in
+    let value2 = at-value2 .value2 in
+    let value = at-value2 .before .value in
+    sym
+    (concluding-closed a (value .result) (value2 .result) (value .ensures) (value2 .ensures) _
+    (at-closed .closed .ensures)) ∙ at-if1 .if1 .left in
     concluded-open a _ _ (c .before .before .before .before .before .before .before .last .ensures) _ _ (c .before .before .before .before .add .ensures) (omega arith) _ _
-    (sym (concluding-closed a (c .before .before .before .before .before .before .before .before .before .before .before .before .value .result) (c .before .before .before .before .before .before .before .before .before .before .before .value2 .result) (c .before .before .before .before .before .before .before .before .before .before .before .before .value .ensures) (c .before .before .before .before .before .before .before .before .before .before .before .value2 .ensures) _ (c .before .before .before .before .before .before .before .before .before .before .closed .ensures)) ∙ c .before .before .before .before .before .before .before .before .before .if1 .left)
-    (c .before .finish2 .ensures)
+    closed (c .before .finish2 .ensures)
 
 pub conclude-spec : {M : Type 1} → statement M
 conclude-spec =

@@ -9,8 +9,12 @@ use Rattle.reduction.proofs.ground.atom.Tie as tie
 value-at-requires : tie.Need-value-at-requires
 value-at-requires c κs =
     let s = c .before in
-    let a = s .args in
-    (s .pre .0, atom-asks (a .table .now) (a .words .now) (a .scope) (a .holds) (a .at) (s .pre .0 .few) (s .pre .1) (omega arith) (s .pre .2))
+    let a = s .args in (
+      s .pre .0 .accepted,
+      s .pre .0 .byAtom,
+      atom-asks (a .table .now) (a .words .now) (a .scope) (a .holds) (a .at) (s .pre .0 .few) (s .pre .1)
+          (omega arith) (s .pre .2),
+    )
 
 enum-told : tie.Need-enum-told
 enum-told c = search needs
@@ -44,9 +48,15 @@ same-length c = search needs
 
 returns-3 : tie.Need-returns-3
 returns-3 c =
-    let a = c .before .before .before .before .before .before .before .args in
+    let at-stay = c .before in
+    let stay = at-stay .stay in
+    let at-enum-told3 = at-stay .before .before in
+    let at-value-at = at-enum-told3 .before .before in
+    let value-at = at-value-at .value-at in
+    let a = at-value-at .before .before .args in
     reduces-open (a .table .now) (a .words .now) (a .log .now) (a .environment) (a .scope) (a .holds) (a .at)
-    (c .before .before .before .before .before .value-at .result) (c .before .before .before .before .before .value-at .ensures) (c .before .before .before .enum-told3 .given .1) (a .out .now) _ (c .before .stay .result) (c .before .stay .ensures)
+    (value-at .result) (value-at .ensures) (at-enum-told3 .enum-told3 .given .1) (a .out .now) _ (stay .result)
+    (stay .ensures)
 
 pub atom-spec : {M : Type 1} → statement M
 atom-spec =

@@ -8,7 +8,7 @@ use lib.IntN.{pos}
 use mir.Syntax.{w32}
 use mir.Val.{toZ, ofZ}
 use borrow.Author.Needs.{needs}
-use Rattle.listing.specs.Places.{held-bind}
+use Rattle.environments.specs.Places.{held-bind}
 use Rattle.reduction.proofs.GroundLaws.{Binding, binding-none, binding-more}
 use Rattle.reduction.proofs.ground.instance.Statement.{statement}
 use Rattle.reduction.proofs.ground.instance.Tie as tie

@@ -20,10 +20,30 @@ value-requires-2 : tie.Need-value-requires-2
 value-requires-2 c κs = search needs
 
 mul-behind : tie.Need-mul-behind
-mul-behind c = omega (arith, front-sums (c .before .before .args .words .now) (c .before .before .args .scratch .now) (c .before .before .args .scope) (c .before .before .args .at) (c .before .before .args .from) (c .before .before .args .k) (length (c .before .before .args .out .now)) (c .before .value .result) (c .value2 .result) (c .before .before .pre) (c .before .value .ensures) (c .value2 .ensures), c .before .before .good)
+mul-behind c =
+    let at-value = c .before in
+    let value = at-value .value in
+    let start = at-value .before in
+    let a = start .args in
+    omega (
+      arith,
+      front-sums (a .words .now) (a .scratch .now) (a .scope) (a .at) (a .from) (a .k) (length (a .out .now))
+          (value .result) (c .value2 .result) (start .pre) (value .ensures) (c .value2 .ensures),
+      start .good,
+    )
 
 add-behind : tie.Need-add-behind
-add-behind c = omega (arith, front-sums (c .before .before .args .words .now) (c .before .before .args .scratch .now) (c .before .before .args .scope) (c .before .before .args .at) (c .before .before .args .from) (c .before .before .args .k) (length (c .before .before .args .out .now)) (c .before .value .result) (c .value2 .result) (c .before .before .pre) (c .before .value .ensures) (c .value2 .ensures), c .before .before .good)
+add-behind c =
+    let at-value = c .before in
+    let value = at-value .value in
+    let start = at-value .before in
+    let a = start .args in
+    omega (
+      arith,
+      front-sums (a .words .now) (a .scratch .now) (a .scope) (a .at) (a .from) (a .k) (length (a .out .now))
+          (value .result) (c .value2 .result) (start .pre) (value .ensures) (c .value2 .ensures),
+      start .good,
+    )
 
 head-requires : tie.Need-head-requires
 head-requires c κs = search needs
@@ -32,19 +52,72 @@ add-copy-words : tie.Need-add-copy-words
 add-copy-words c = search needs
 
 mul-copy-words : tie.Need-mul-copy-words
-mul-copy-words c = omega (arith, front-sums (c .before .before .before .before .before .args .words .now) (c .before .before .before .before .before .args .scratch .now) (c .before .before .before .before .before .args .scope) (c .before .before .before .before .before .args .at) (c .before .before .before .before .before .args .from) (c .before .before .before .before .before .args .k) (length (c .before .before .before .before .before .args .out .now)) (c .before .before .before .before .value .result) (c .before .before .before .value2 .result) (c .before .before .before .before .before .pre) (c .before .before .before .before .value .ensures) (c .before .before .before .value2 .ensures), c .before .before .before .before .before .good)
+mul-copy-words c =
+    let at-value2 = c .before .before .before in
+    let value2 = at-value2 .value2 in
+    let at-value = at-value2 .before in
+    let value = at-value .value in
+    let start = at-value .before in
+    let a = start .args in
+    omega (
+      arith,
+      front-sums (a .words .now) (a .scratch .now) (a .scope) (a .at) (a .from) (a .k) (length (a .out .now))
+          (value .result) (value2 .result) (start .pre) (value .ensures) (value2 .ensures),
+      start .good,
+    )
 
 copy-words-requires : tie.Need-copy-words-requires
-copy-words-requires c κs = let sums = front-sums (c .before .before .before .before .before .before .args .words .now) (c .before .before .before .before .before .before .args .scratch .now) (c .before .before .before .before .before .before .args .scope) (c .before .before .before .before .before .before .args .at) (c .before .before .before .before .before .before .args .from) (c .before .before .before .before .before .before .args .k) (length (c .before .before .before .before .before .before .args .out .now)) (c .before .before .before .before .before .value .result) (c .before .before .before .before .value2 .result) (c .before .before .before .before .before .before .pre) (c .before .before .before .before .before .value .ensures) (c .before .before .before .before .value2 .ensures) in omega (arith, c .before .before .head .kept .1 .1 .1 .0)
+copy-words-requires c κs =
+    let at-head = c .before .before in
+    let at-value2 = at-head .before .before in
+    let value2 = at-value2 .value2 in
+    let at-value = at-value2 .before in
+    let value = at-value .value in
+    let start = at-value .before in
+    let a = start .args in
+    let sums =
+    front-sums (a .words .now) (a .scratch .now) (a .scope) (a .at) (a .from) (a .k) (length (a .out .now))
+    (value .result) (value2 .result) (start .pre) (value .ensures) (value2 .ensures) in
+    omega (arith, at-head .head .kept .1 .1 .1 .0)
 
 tuples-requires : tie.Need-tuples-requires
-tuples-requires c κs = let sums = front-sums (c .before .before .before .before .before .before .before .before .before .args .words .now) (c .before .before .before .before .before .before .before .before .before .args .scratch .now) (c .before .before .before .before .before .before .before .before .before .args .scope) (c .before .before .before .before .before .before .before .before .before .args .at) (c .before .before .before .before .before .before .before .before .before .args .from) (c .before .before .before .before .before .before .before .before .before .args .k) (length (c .before .before .before .before .before .before .before .before .before .args .out .now)) (c .before .before .before .before .before .before .before .before .value .result) (c .before .before .before .before .before .before .before .value2 .result) (c .before .before .before .before .before .before .before .before .before .pre) (c .before .before .before .before .before .before .before .before .value .ensures) (c .before .before .before .before .before .before .before .value2 .ensures) in (c .before .before .before .before .before .before .before .before .before .pre .places, sums .2, omega (arith, c .before .before .before .before .before .head .kept .1 .1 .1 .0, c .before .before .copy-words .kept .1 .1 .1 .0))
+tuples-requires c κs =
+    let at-copy-words = c .before .before in
+    let at-head = at-copy-words .before .before .before in
+    let at-value2 = at-head .before .before in
+    let value2 = at-value2 .value2 in
+    let at-value = at-value2 .before in
+    let value = at-value .value in
+    let start = at-value .before in
+    let a = start .args in
+    let sums =
+    front-sums (a .words .now) (a .scratch .now) (a .scope) (a .at) (a .from) (a .k) (length (a .out .now))
+    (value .result) (value2 .result) (start .pre) (value .ensures) (value2 .ensures) in (
+      start .pre .places,
+      sums .2,
+      omega
+          (arith, at-head .head .kept .1 .1 .1 .0, at-copy-words .copy-words .kept .1 .1 .1 .0),
+    )
 
 same-length : tie.Need-same-length
 same-length c = search needs
 
 returns : tie.Need-returns
-returns c = front-laid (c .before .before .before .before .before .before .before .before .before .before .before .args .words .now) (c .before .before .before .before .before .before .before .before .before .before .before .args .scratch .now) (c .before .before .before .before .before .before .before .before .before .before .before .args .scope) (c .before .before .before .before .before .before .before .before .before .before .before .args .at) (c .before .before .before .before .before .before .before .before .before .before .before .args .from) (c .before .before .before .before .before .before .before .before .before .before .before .args .k) (length (c .before .before .before .before .before .before .before .before .before .before .before .args .out .now)) (c .before .before .before .before .before .before .before .before .before .before .value .result) (c .before .before .before .before .before .before .before .before .before .value2 .result) (c .before .before .before .before .before .before .before .before .before .before .before .pre) (c .before .before .before .before .before .before .before .before .before .before .value .ensures) (c .before .before .before .before .before .before .before .before .before .value2 .ensures) (c .before .before .before .before .before .before .before .before .before .before .before .args .out .now) _ _ _ refl (c .before .before .before .before .before .before .before .head .ensures) (c .before .before .before .before .copy-words .ensures) (c .before .tuples .ensures)
+returns c =
+    let at-copy-words = c .before .before .before .before in
+    let at-head = at-copy-words .before .before .before in
+    let at-value2 = at-head .before .before in
+    let value2 = at-value2 .value2 in
+    let at-value = at-value2 .before in
+    let value = at-value .value in
+    let start = at-value .before in
+    let a = start .args in
+    front-laid (a .words .now) (a .scratch .now) (a .scope) (a .at) (a .from) (a .k) (length (a .out .now))
+    (value .result) (value2 .result) (start .pre) (value .ensures) (value2 .ensures) (a .out .now) _ _ _ refl
+    (at-head .head .ensures) (at-copy-words .copy-words .ensures) (c .before .tuples .ensures)
 
 pub front-spec : {M : Type 1} → statement M
-front-spec = tie.close (tie.spec add-value value-requires add-value-2 value-requires-2 mul-behind add-behind head-requires add-copy-words mul-copy-words copy-words-requires tuples-requires same-length returns)
+front-spec =
+    tie.close
+    (tie.spec add-value value-requires add-value-2 value-requires-2 mul-behind add-behind head-requires add-copy-words
+    mul-copy-words copy-words-requires tuples-requires same-length returns)

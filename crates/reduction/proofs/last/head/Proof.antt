@@ -34,12 +34,15 @@ same-length c = search needs
 
 returns : tie.Need-returns
 returns c =
-    let s = c .before .before .before .before in
+    let at-value = c .before .before .before in
+    let value = at-value .value in
+    let s = at-value .before in
     let a = s .args in
-    let n = c .before .before .before .value .result + a .k in
-    let fits : SFits w32 (pos n) = record { sfits = omega (arith, s .pre .1, c .before .before .before .value .ensures) } in
+    let n = value .result + a .k in
+    let fits : SFits w32 (pos n) = record { sfits = omega (arith, s .pre .1, value .ensures) } in
     let back : toZ w32 (ofZ w32 (pos n)) ≡ pos n = toZ-ofZ fits in
-    head-laid (a .words .now) (a .at) (a .k) (s .pre .0) (a .out .now) _ (c .before .before .before .value .result) _ (s .pre .2) (c .before .before .before .value .ensures) back (c .before .copy-words .ensures)
+    head-laid (a .words .now) (a .at) (a .k) (s .pre .0) (a .out .now) _ (value .result) _ (s .pre .2) (value .ensures)
+    back (c .before .copy-words .ensures)
 
 pub head-spec : {M : Type 1} → statement M
 head-spec =

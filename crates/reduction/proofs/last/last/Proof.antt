@@ -25,90 +25,192 @@ add-start c = search needs
 
 mul-start : tie.Need-mul-start
 mul-start c =
-    let a = c .before .before .args in
-    let h = here-sizes (a .words .now) (a .scope) (a .at) (a .body) (a .next) (a .k) (c .before .value .result) (c .value2 .result) (c .before .value .ensures) (c .value2 .ensures) (c .before .before .pre .2) in
-    omega (arith, c .before .before .good, c .before .before .pre .1)
+    let at-value = c .before in
+    let value = at-value .value in
+    let start = at-value .before in
+    let a = start .args in
+    let h =
+    here-sizes (a .words .now) (a .scope) (a .at) (a .body) (a .next) (a .k) (value .result) (c .value2 .result)
+    (value .ensures) (c .value2 .ensures) (start .pre .2) in
+    omega (arith, start .good, start .pre .1)
 
 add-start-2 : tie.Need-add-start-2
 add-start-2 c =
-    let a = c .before .before .args in
-    let h = here-sizes (a .words .now) (a .scope) (a .at) (a .body) (a .next) (a .k) (c .before .value .result) (c .value2 .result) (c .before .value .ensures) (c .value2 .ensures) (c .before .before .pre .2) in
-    omega (arith, c .before .before .good, c .before .before .pre .1)
+    let at-value = c .before in
+    let value = at-value .value in
+    let start = at-value .before in
+    let a = start .args in
+    let h =
+    here-sizes (a .words .now) (a .scope) (a .at) (a .body) (a .next) (a .k) (value .result) (c .value2 .result)
+    (value .ensures) (c .value2 .ensures) (start .pre .2) in
+    omega (arith, start .good, start .pre .1)
 
 add-to : tie.Need-add-to
 add-to c =
-    let a = c .before .before .args in
-    let h = here-sizes (a .words .now) (a .scope) (a .at) (a .body) (a .next) (a .k) (c .before .value .result) (c .value2 .result) (c .before .value .ensures) (c .value2 .ensures) (c .before .before .pre .2) in
-    omega (arith, c .before .before .good, c .before .before .pre .1)
+    let at-value = c .before in
+    let value = at-value .value in
+    let start = at-value .before in
+    let a = start .args in
+    let h =
+    here-sizes (a .words .now) (a .scope) (a .at) (a .body) (a .next) (a .k) (value .result) (c .value2 .result)
+    (value .ensures) (c .value2 .ensures) (start .pre .2) in
+    omega (arith, start .good, start .pre .1)
 
 mul-to : tie.Need-mul-to
 mul-to c =
-    let a = c .before .before .args in
-    let h = here-sizes (a .words .now) (a .scope) (a .at) (a .body) (a .next) (a .k) (c .before .value .result) (c .value2 .result) (c .before .value .ensures) (c .value2 .ensures) (c .before .before .pre .2) in
-    omega (arith, c .before .before .good, c .before .before .pre .1)
+    let at-value = c .before in
+    let value = at-value .value in
+    let start = at-value .before in
+    let a = start .args in
+    let h =
+    here-sizes (a .words .now) (a .scope) (a .at) (a .body) (a .next) (a .k) (value .result) (c .value2 .result)
+    (value .ensures) (c .value2 .ensures) (start .pre .2) in
+    omega (arith, start .good, start .pre .1)
 
 add-to-2 : tie.Need-add-to-2
 add-to-2 c =
-    let a = c .before .before .args in
-    let h = here-sizes (a .words .now) (a .scope) (a .at) (a .body) (a .next) (a .k) (c .before .value .result) (c .value2 .result) (c .before .value .ensures) (c .value2 .ensures) (c .before .before .pre .2) in
-    omega (arith, c .before .before .good, c .before .before .pre .1)
+    let at-value = c .before in
+    let value = at-value .value in
+    let start = at-value .before in
+    let a = start .args in
+    let h =
+    here-sizes (a .words .now) (a .scope) (a .at) (a .body) (a .next) (a .k) (value .result) (c .value2 .result)
+    (value .ensures) (c .value2 .ensures) (start .pre .2) in
+    omega (arith, start .good, start .pre .1)
 
 sub-size : tie.Need-sub-size
 sub-size c =
-    let a = c .before .before .args in
-    let h = here-sizes (a .words .now) (a .scope) (a .at) (a .body) (a .next) (a .k) (c .before .value .result) (c .value2 .result) (c .before .value .ensures) (c .value2 .ensures) (c .before .before .pre .2) in
-    omega (arith, c .before .before .good, c .before .before .pre .1)
+    let at-value = c .before in
+    let value = at-value .value in
+    let start = at-value .before in
+    let a = start .args in
+    let h =
+    here-sizes (a .words .now) (a .scope) (a .at) (a .body) (a .next) (a .k) (value .result) (c .value2 .result)
+    (value .ensures) (c .value2 .ensures) (start .pre .2) in
+    omega (arith, start .good, start .pre .1)
 
 add-size : tie.Need-add-size
 add-size c =
-    let a = c .before .before .args in
-    let h = here-sizes (a .words .now) (a .scope) (a .at) (a .body) (a .next) (a .k) (c .before .value .result) (c .value2 .result) (c .before .value .ensures) (c .value2 .ensures) (c .before .before .pre .2) in
-    omega (arith, c .before .before .good, c .before .before .pre .1)
+    let at-value = c .before in
+    let value = at-value .value in
+    let start = at-value .before in
+    let a = start .args in
+    let h =
+    here-sizes (a .words .now) (a .scope) (a .at) (a .body) (a .next) (a .k) (value .result) (c .value2 .result)
+    (value .ensures) (c .value2 .ensures) (start .pre .2) in
+    omega (arith, start .good, start .pre .1)
 
 returns : tie.Need-returns
 returns c =
-    let a = c .before .before .before .args in
-    remains-long (a .words .now) (a .scope) (a .at) (a .body) (a .next) (a .k) (c .before .before .value .result) (c .before .value2 .result) (c .before .before .value .ensures) (c .before .value2 .ensures) (a .scratch .now) (a .environment) (a .from) (c .before .before .before .pre .1) (a .out .now) (c .if1 .taken)
+    let at-value2 = c .before in
+    let value2 = at-value2 .value2 in
+    let at-value = at-value2 .before in
+    let value = at-value .value in
+    let start = at-value .before in
+    let a = start .args in
+    remains-long (a .words .now) (a .scope) (a .at) (a .body) (a .next) (a .k) (value .result) (value2 .result)
+    (value .ensures) (value2 .ensures) (a .scratch .now) (a .environment) (a .from) (start .pre .1) (a .out .now)
+    (c .if1 .taken)
 
 front-requires : tie.Need-front-requires
 front-requires c κs =
-    let a = c .before .before .before .before .args in
-    here-fronts (a .words .now) (a .scope) (a .at) (a .body) (a .next) (a .k) (c .before .before .before .value .result) (c .before .before .value2 .result) (c .before .before .before .value .ensures) (c .before .before .value2 .ensures) (length (a .out .now)) (omega arith) (c .before .before .before .before .pre .2) (a .scratch .now) (a .from) (c .before .before .before .before .pre .1) (c .before .before .before .before .pre .0)
+    let at-value2 = c .before .before in
+    let value2 = at-value2 .value2 in
+    let at-value = at-value2 .before in
+    let value = at-value .value in
+    let start = at-value .before in
+    let a = start .args in
+    here-fronts (a .words .now) (a .scope) (a .at) (a .body) (a .next) (a .k) (value .result) (value2 .result)
+    (value .ensures) (value2 .ensures) (length (a .out .now)) (omega arith) (start .pre .2) (a .scratch .now) (a .from)
+    (start .pre .1) (start .pre .0)
 
 copy-at-requires : tie.Need-copy-at-requires
 copy-at-requires c κs =
-    let a = c .before .before .before .before .before .before .before .args in
-    let h = here-sizes (a .words .now) (a .scope) (a .at) (a .body) (a .next) (a .k) (c .before .before .before .before .before .before .value .result) (c .before .before .before .before .before .value2 .result) (c .before .before .before .before .before .before .value .ensures) (c .before .before .before .before .before .value2 .ensures) (c .before .before .before .before .before .before .before .pre .2) in
-    (omega arith, here-restriction (a .words .now) (a .scope) (a .at) (a .body) (a .next) (a .k) (c .before .before .before .before .before .before .value .result) (c .before .before .before .before .before .value2 .result) (c .before .before .before .before .before .before .value .ensures) (c .before .before .before .before .before .value2 .ensures) _ (omega (arith, c .before .before .front .kept .1 .1 .1 .1 .1 .1 .0)) (c .before .before .before .before .before .before .before .pre .2))
+    let at-front = c .before .before in
+    let at-value2 = at-front .before .before .before in
+    let value2 = at-value2 .value2 in
+    let at-value = at-value2 .before in
+    let value = at-value .value in
+    let start = at-value .before in
+    let a = start .args in
+    let h =
+    here-sizes (a .words .now) (a .scope) (a .at) (a .body) (a .next) (a .k) (value .result) (value2 .result)
+    (value .ensures) (value2 .ensures) (start .pre .2) in (
+      omega arith,
+      here-restriction (a .words .now) (a .scope) (a .at) (a .body) (a .next) (a .k) (value .result)
+          (value2 .result) (value .ensures) (value2 .ensures) _ (omega (arith, at-front .front .kept .1 .1 .1 .1 .1 .1 .0))
+          (start .pre .2),
+    )
 
 sub-copy-at : tie.Need-sub-copy-at
 sub-copy-at c =
-    let a = c .before .before .before .before .before .before .before .before .before .before .args in
-    let h = here-sizes (a .words .now) (a .scope) (a .at) (a .body) (a .next) (a .k) (c .before .before .before .before .before .before .before .before .before .value .result) (c .before .before .before .before .before .before .before .before .value2 .result) (c .before .before .before .before .before .before .before .before .before .value .ensures) (c .before .before .before .before .before .before .before .before .value2 .ensures) (c .before .before .before .before .before .before .before .before .before .before .pre .2) in
-    omega (arith, c .before .before .before .before .before .before .before .before .before .before .good, c .before .before .before .before .before .before .before .before .before .before .pre .1)
+    let at-value2 = c .before .before .before .before .before .before .before .before in
+    let value2 = at-value2 .value2 in
+    let at-value = at-value2 .before in
+    let value = at-value .value in
+    let start = at-value .before in
+    let a = start .args in
+    let h =
+    here-sizes (a .words .now) (a .scope) (a .at) (a .body) (a .next) (a .k) (value .result) (value2 .result)
+    (value .ensures) (value2 .ensures) (start .pre .2) in
+    omega (arith, start .good, start .pre .1)
 
 add-copy-at : tie.Need-add-copy-at
 add-copy-at c =
-    let a = c .before .before .before .before .before .before .before .before .before .before .args in
-    let h = here-sizes (a .words .now) (a .scope) (a .at) (a .body) (a .next) (a .k) (c .before .before .before .before .before .before .before .before .before .value .result) (c .before .before .before .before .before .before .before .before .value2 .result) (c .before .before .before .before .before .before .before .before .before .value .ensures) (c .before .before .before .before .before .before .before .before .value2 .ensures) (c .before .before .before .before .before .before .before .before .before .before .pre .2) in
-    omega (arith, c .before .before .before .before .before .before .before .before .before .before .good, c .before .before .before .before .before .before .before .before .before .before .pre .1)
+    let at-value2 = c .before .before .before .before .before .before .before .before in
+    let value2 = at-value2 .value2 in
+    let at-value = at-value2 .before in
+    let value = at-value .value in
+    let start = at-value .before in
+    let a = start .args in
+    let h =
+    here-sizes (a .words .now) (a .scope) (a .at) (a .body) (a .next) (a .k) (value .result) (value2 .result)
+    (value .ensures) (value2 .ensures) (start .pre .2) in
+    omega (arith, start .good, start .pre .1)
 
 copy-at-requires-2 : tie.Need-copy-at-requires-2
 copy-at-requires-2 c κs =
-    let a = c .before .before .before .before .before .before .before .before .before .before .args in
-    let h = here-sizes (a .words .now) (a .scope) (a .at) (a .body) (a .next) (a .k) (c .before .before .before .before .before .before .before .before .before .value .result) (c .before .before .before .before .before .before .before .before .value2 .result) (c .before .before .before .before .before .before .before .before .before .value .ensures) (c .before .before .before .before .before .before .before .before .value2 .ensures) (c .before .before .before .before .before .before .before .before .before .before .pre .2) in
-    (omega arith, here-body (a .words .now) (a .scope) (a .at) (a .body) (a .next) (a .k) (c .before .before .before .before .before .before .before .before .before .value .result) (c .before .before .before .before .before .before .before .before .value2 .result) (c .before .before .before .before .before .before .before .before .before .value .ensures) (c .before .before .before .before .before .before .before .before .value2 .ensures) _ (omega (arith, c .before .before .before .before .before .front .kept .1 .1 .1 .1 .1 .1 .0, c .before .before .copy-at .kept .1 .1 .1 .1 .0)) (c .before .before .before .before .before .before .before .before .before .before .pre .2))
+    let at-copy-at = c .before .before in
+    let at-front = at-copy-at .before .before .before in
+    let at-value2 = at-front .before .before .before in
+    let value2 = at-value2 .value2 in
+    let at-value = at-value2 .before in
+    let value = at-value .value in
+    let start = at-value .before in
+    let a = start .args in
+    let h =
+    here-sizes (a .words .now) (a .scope) (a .at) (a .body) (a .next) (a .k) (value .result) (value2 .result)
+    (value .ensures) (value2 .ensures) (start .pre .2) in (
+      omega arith,
+      here-body (a .words .now) (a .scope) (a .at) (a .body) (a .next) (a .k) (value .result)
+          (value2 .result) (value .ensures) (value2 .ensures) _
+          (omega (arith, at-front .front .kept .1 .1 .1 .1 .1 .1 .0, at-copy-at .copy-at .kept .1 .1 .1 .1 .0))
+          (start .pre .2),
+    )
 
 same-length : tie.Need-same-length
 same-length c = search needs
 
 returns-2 : tie.Need-returns-2
 returns-2 c =
-    let a = c .before .before .before .before .before .before .before .before .before .before .before .before .args in
-    remains-part (a .words .now) (a .scope) (a .at) (a .body) (a .next) (a .k) (c .before .before .before .before .before .before .before .before .before .before .before .value .result) (c .before .before .before .before .before .before .before .before .before .before .value2 .result) (c .before .before .before .before .before .before .before .before .before .before .before .value .ensures) (c .before .before .before .before .before .before .before .before .before .before .value2 .ensures) (a .scratch .now) (a .environment) (a .from) (c .before .before .before .before .before .before .before .before .before .before .before .before .pre .1) (a .out .now) _ _ _ (omega arith)
-    (c .before .before .before .before .before .before .before .front .kept .1 .1 .1 .1 .1 .1 .0) (omega (arith, c .before .before .before .before .before .before .before .front .kept .1 .1 .1 .1 .1 .1 .0, c .before .before .before .before .copy-at .kept .1 .1 .1 .1 .0))
-    (omega (arith, c .before .before .before .before .before .before .before .front .kept .1 .1 .1 .1 .1 .1 .0, c .before .before .before .before .copy-at .kept .1 .1 .1 .1 .0, c .before .copy-at2 .kept .1 .1 .1 .1 .0))
-    (c .before .before .before .before .before .before .before .front .ensures) (c .before .before .before .before .copy-at .ensures) (c .before .copy-at2 .ensures)
+    let at-copy-at2 = c .before in
+    let copy-at2 = at-copy-at2 .copy-at2 in
+    let at-copy-at = at-copy-at2 .before .before .before in
+    let copy-at = at-copy-at .copy-at in
+    let at-front = at-copy-at .before .before .before in
+    let front = at-front .front in
+    let at-value2 = at-front .before .before .before in
+    let value2 = at-value2 .value2 in
+    let at-value = at-value2 .before in
+    let value = at-value .value in
+    let start = at-value .before in
+    let a = start .args in
+    remains-part (a .words .now) (a .scope) (a .at) (a .body) (a .next) (a .k) (value .result) (value2 .result)
+    (value .ensures) (value2 .ensures) (a .scratch .now) (a .environment) (a .from) (start .pre .1) (a .out .now) _ _ _
+    (omega (arith, at-front .before .before .if1 .left)) (front .kept .1 .1 .1 .1 .1 .1 .0)
+    (omega (arith, front .kept .1 .1 .1 .1 .1 .1 .0, copy-at .kept .1 .1 .1 .1 .0))
+    (omega (arith, front .kept .1 .1 .1 .1 .1 .1 .0, copy-at .kept .1 .1 .1 .1 .0, copy-at2 .kept .1 .1 .1 .1 .0))
+    (front .ensures) (copy-at .ensures) (copy-at2 .ensures)
 
 pub last-spec : {M : Type 1} → statement M
 last-spec =

@@ -29,20 +29,33 @@ add-copy-words-2 c = omega (arith, c .before .before .pre, c .before .before .go
 
 copy-words-requires : tie.Need-copy-words-requires Inv-loop μ-loop
 copy-words-requires c κs =
-    let a = c .before .before .before .args in
-    let l = c .before .before .loop in
-    let there : 17 * a .from + a .scope + 17 * a .k + a .v ≤ length (a .scratch .now) + 17 = omega (arith, c .before .before .before .pre) in
-    let room = copied-room (a .scratch .now) (a .v) (17 * a .from + a .scope) (a .k) (a .out .now) (a .to) there (l .end) (l .j) (l .out) (l .inv) (c .before .loop-test .taken) in
-    let long = copied-long (a .scratch .now) (a .v) (17 * a .from + a .scope) (a .k) (a .out .now) (a .to) there (l .end) (l .j) (l .out) (l .inv) in
-    (omega (arith, c .before .before .before .pre), omega arith)
+    let at-loop = c .before .before in
+    let start = at-loop .before in
+    let a = start .args in
+    let l = at-loop .loop in
+    let there : 17 * a .from + a .scope + 17 * a .k + a .v ≤ length (a .scratch .now) + 17 =
+    omega (arith, start .pre) in
+    let room =
+    copied-room (a .scratch .now) (a .v) (17 * a .from + a .scope) (a .k) (a .out .now) (a .to) there (l .end) (l .j)
+    (l .out) (l .inv) (c .before .loop-test .taken) in
+    let long =
+    copied-long (a .scratch .now) (a .v) (17 * a .from + a .scope) (a .k) (a .out .now) (a .to) there (l .end) (l .j)
+    (l .out) (l .inv) in
+    (omega (arith, start .pre), omega arith)
 
 add-end : tie.Need-add-end Inv-loop μ-loop
 add-end c =
-    let a = c .before .before .before .before .before .args in
-    let l = c .before .before .before .before .loop in
-    let there : 17 * a .from + a .scope + 17 * a .k + a .v ≤ length (a .scratch .now) + 17 = omega (arith, c .before .before .before .before .before .pre) in
-    let room = copied-room (a .scratch .now) (a .v) (17 * a .from + a .scope) (a .k) (a .out .now) (a .to) there (l .end) (l .j) (l .out) (l .inv) (c .before .before .before .loop-test .taken) in
-    omega (arith, c .before .before .before .before .before .good)
+    let at-loop-test = c .before .before .before in
+    let at-loop = at-loop-test .before in
+    let start = at-loop .before in
+    let a = start .args in
+    let l = at-loop .loop in
+    let there : 17 * a .from + a .scope + 17 * a .k + a .v ≤ length (a .scratch .now) + 17 =
+    omega (arith, start .pre) in
+    let room =
+    copied-room (a .scratch .now) (a .v) (17 * a .from + a .scope) (a .k) (a .out .now) (a .to) there (l .end) (l .j)
+    (l .out) (l .inv) (at-loop-test .loop-test .taken) in
+    omega (arith, start .good)
 
 add-j : tie.Need-add-j Inv-loop μ-loop
 add-j c = omega arith
@@ -52,25 +65,32 @@ loop-less c = omega arith
 
 loop-again : tie.Need-loop-again Inv-loop μ-loop
 loop-again c =
-    let a = c .before .before .before .before .before .args in
-    let l = c .before .before .before .before .loop in
-    let there : 17 * a .from + a .scope + 17 * a .k + a .v ≤ length (a .scratch .now) + 17 = omega (arith, c .before .before .before .before .before .pre) in
+    let at-loop-test = c .before .before .before in
+    let at-loop = at-loop-test .before in
+    let start = at-loop .before in
+    let a = start .args in
+    let l = at-loop .loop in
+    let there : 17 * a .from + a .scope + 17 * a .k + a .v ≤ length (a .scratch .now) + 17 =
+    omega (arith, start .pre) in
     let place : 17 * (a .from + l .j) + a .scope ≡ 17 * a .from + a .scope + 17 * l .j = omega arith in
-    copied-more (a .scratch .now) (a .v) (17 * a .from + a .scope) (a .k) (a .out .now) (a .to) there (l .end) (l .j) (l .out) (l .inv) (c .before .before .before .loop-test .taken)
-    _ _ place (c .before .copy-words .ensures)
+    copied-more (a .scratch .now) (a .v) (17 * a .from + a .scope) (a .k) (a .out .now) (a .to) there (l .end) (l .j)
+    (l .out) (l .inv) (at-loop-test .loop-test .taken) _ _ place (c .before .copy-words .ensures)
 
 same-length : tie.Need-same-length Inv-loop μ-loop
 same-length c =
-    let a = c .before .before .args in
+    let start = c .before .before in
+    let a = start .args in
     let l = c .before .loop in
-    copied-long (a .scratch .now) (a .v) (17 * a .from + a .scope) (a .k) (a .out .now) (a .to) (omega (arith, c .before .before .pre)) (l .end) (l .j) (l .out) (l .inv)
+    copied-long (a .scratch .now) (a .v) (17 * a .from + a .scope) (a .k) (a .out .now) (a .to)
+    (omega (arith, start .pre)) (l .end) (l .j) (l .out) (l .inv)
 
 returns : tie.Need-returns Inv-loop μ-loop
 returns c =
-    let a = c .before .before .args in
+    let start = c .before .before in
+    let a = start .args in
     let l = c .before .loop in
-    copied-end (a .scratch .now) (a .v) (17 * a .from + a .scope) (a .k) (a .out .now) (a .to) (omega (arith, c .before .before .pre)) (l .end) (l .j) (l .out) (l .inv)
-    (omega arith)
+    copied-end (a .scratch .now) (a .v) (17 * a .from + a .scope) (a .k) (a .out .now) (a .to)
+    (omega (arith, start .pre)) (l .end) (l .j) (l .out) (l .inv) (omega arith)
 
 pub tuples-spec : {M : Type 1} → statement M
 tuples-spec =

@@ -43,27 +43,50 @@ add-list-2 c = search needs
 
 mul-list : tie.Need-mul-list
 mul-list c =
-    let fits = c .before .before .before .before .before .before .before .before .before .pre .3 in
-    let same = ap (λ (k : ℕ). c .before .before .before .before .before .before .before .before .before .args .v * k) (c .before .before .value .ensures) in
-    omega (arith, c .before .before .before .before .before .before .before .before .before .good .1 .0)
+    let at-value = c .before .before in
+    let start = at-value .before .before .before .before .before .before .before in
+    let a = start .args in
+    let fits = start .pre .3 in
+    let same = ap (λ (k : ℕ). a .v * k) (at-value .value .ensures) in
+    omega (arith, start .good .1 .0)
 
 add-list-3 : tie.Need-add-list-3
 add-list-3 c =
-    let fits = c .before .before .before .before .before .before .before .before .before .pre .3 in
-    let same = ap (λ (k : ℕ). c .before .before .before .before .before .before .before .before .before .args .v * k) (c .before .before .value .ensures) in
-    omega (arith, c .before .before .before .before .before .before .before .before .before .good .1 .0)
+    let at-value = c .before .before in
+    let start = at-value .before .before .before .before .before .before .before in
+    let a = start .args in
+    let fits = start .pre .3 in
+    let same = ap (λ (k : ℕ). a .v * k) (at-value .value .ensures) in
+    omega (arith, start .good .1 .0)
 
 list-requires : tie.Need-list-requires
 list-requires c κs =
-    let (ρ, o) = c .before .before .before .before .before .before .before .before .before .pre .5 in
-    let here = subst (λ (m : ℕ). Here (c .before .before .before .before .before .before .before .before .before .args .table .now) (c .before .before .before .before .before .before .before .before .before .args .words .now) restriction (c .before .before .before .before .before .before .before .before .before .args .level) (c .before .before .before .before .before .before .before .before .before .args .scope + c .before .before .before .before .before .before .before .before .before .args .v) (c .before .before .before .before .before .before .before .before .before .args .at + 3 + c .before .before .before .before .before .before .before .before .before .args .v * m)) (sym (c .before .before .value .ensures)) (c .before .before .before .before .before .before .before .before .before .pre .4) in
+    let at-value = c .before .before in
+    let at-write = at-value .before .before in
+    let write = at-write .write in
+    let at-if1 = at-write .before .before in
+    let if1 = at-if1 .if1 in
+    let start = at-if1 .before .before .before in
+    let a = start .args in
+    let (ρ, o) = start .pre .5 in
+    let here =
+    subst
+    (λ (m : ℕ). Here (a .table .now) (a .words .now) restriction (a .level) (a .scope + a .v) (a .at + 3 + a .v * m))
+    (sym (at-value .value .ensures)) (start .pre .4) in
     let room = sym (c .room .ensures) in (
-      c .before .before .before .before .before .before .before .before .before .pre .0,
-      c .before .before .before .before .before .before .before .before .before .pre .1,
-      c .before .before .before .before .before .before .before .before .before .pre .2,
+      start .pre .0,
+      start .pre .1,
+      start .pre .2,
       here,
-      subst (λ (r : Room). R.Roomy r (c .before .before .before .before .write .last .1 .0)) room (alone-roomy (length (c .before .before .before .before .before .before .before .before .before .args .scratch .now) / 17) (c .before .before .before .before .before .before .before .before .before .args .scratch .now) (c .before .before .before .before .write .last .1 .0) (outer ρ) (c .before .before .before .before .before .before .if1 .left) (omega arith) (c .before .before .before .before .write .ensures (outer ρ) (o .0))),
-      (outer ρ ∷ [], subst (λ (r : Room). R.Holding r (c .before .before .before .before .write .last .1 .0) (outer ρ ∷ [])) room (alone-holds (length (c .before .before .before .before .before .before .before .before .before .args .scratch .now) / 17) (c .before .before .before .before .before .before .before .before .before .args .scratch .now) (c .before .before .before .before .write .last .1 .0) (outer ρ) (c .before .before .before .before .before .before .if1 .left) (omega arith) (c .before .before .before .before .write .ensures (outer ρ) (o .0)))),
+      subst (λ (r : Room). R.Roomy r (write .last .1 .0)) room
+          (alone-roomy (length (a .scratch .now) / 17) (a .scratch .now) (write .last .1 .0) (outer ρ) (if1 .left)
+          (omega arith) (write .ensures (outer ρ) (o .0))),
+      (
+        outer ρ ∷ [],
+        subst (λ (r : Room). R.Holding r (write .last .1 .0) (outer ρ ∷ [])) room
+            (alone-holds (length (a .scratch .now) / 17) (a .scratch .now) (write .last .1 .0) (outer ρ) (if1 .left)
+            (omega arith) (write .ensures (outer ρ) (o .0))),
+      ),
     )
 
 enum-known-made : tie.Need-enum-known-made
@@ -73,43 +96,109 @@ enum-told : tie.Need-enum-told
 enum-told c = search needs
 
 same-length : tie.Need-same-length
-same-length c = c .before .before .before .list .kept .1 .1 .1 .1 .1 .0 ∙ c .before .before .before .before .before .before .before .before .write .kept .1 .0
+same-length c =
+    let at-list = c .before .before .before in
+    let at-write = at-list .before .before .before .before .before in
+    at-list .list .kept .1 .1 .1 .1 .1 .0 ∙ at-write .write .kept .1 .0
 
 made-list :
     (c : tie.After-list) →
+    let at-write = c .before .before .before .before .before in
+    let a = at-write .before .before .before .before .before .args in
     (ρ : List ℤ) (d : Tree) (body : ℕ) →
-    Outer (c .before .before .before .before .before .before .before .before .before .before .args .environment) (c .before .before .before .before .before .before .before .before .before .before .args .scope) ρ →
-    Node (c .before .before .before .before .before .before .before .before .before .before .args .table .now) (c .before .before .before .before .before .before .before .before .before .before .args .words .now) restriction (c .before .before .before .before .before .before .before .before .before .before .args .level) (c .before .before .before .before .before .before .before .before .before .before .args .scope + c .before .before .before .before .before .before .before .before .before .before .args .v) (c .before .before .before .before .before .before .before .before .before .before .args .at + 3 + c .before .before .before .before .before .before .before .before .before .before .args .v * value (c .before .before .before .before .before .before .before .before .before .before .args .words .now) (c .before .before .before .before .before .before .before .before .before .before .args .at + 2)) d body →
-    R.MakesTree (c .before .before .before .before .before .before .before .before .before .before .args .table .now) (c .before .before .before .before .before .before .before .before .before .before .args .log .now) d (c .before .before .before .before .before .before .before .before .before .before .args .scope + c .before .before .before .before .before .before .before .before .before .before .args .v) body (outer ρ ∷ []) (alone (length (c .before .before .before .before .before .before .before .before .before .before .args .scratch .now) / 17)) (c .before .before .before .before .before .write .last .1 .0) (c .list .last .1 .1 .1 .1 .1 .0) (c .list .result)
-made-list c = λ ρ d body o node.
-    let room = c .before .room .ensures in
-    subst (λ (r : Room). R.MakesTree (c .before .before .before .before .before .before .before .before .before .before .args .table .now) (c .before .before .before .before .before .before .before .before .before .before .args .log .now) d (c .before .before .before .before .before .before .before .before .before .before .args .scope + c .before .before .before .before .before .before .before .before .before .before .args .v) body (outer ρ ∷ []) r (c .before .before .before .before .before .write .last .1 .0) (c .list .last .1 .1 .1 .1 .1 .0) (c .list .result)) room
+    Outer (a .environment) (a .scope) ρ →
+    Node (a .table .now) (a .words .now) restriction (a .level) (a .scope + a .v)
+    (a .at + 3 + a .v * value (a .words .now) (a .at + 2)) d body →
+    R.MakesTree (a .table .now) (a .log .now) d (a .scope + a .v) body (outer ρ ∷ [])
+    (alone (length (a .scratch .now) / 17)) (at-write .write .last .1 .0) (c .list .last .1 .1 .1 .1 .1 .0)
+    (c .list .result)
+made-list c =
+    let at-value = c .before .before .before in
+    let at-write = at-value .before .before in
+    let write = at-write .write in
+    let at-if1 = at-write .before .before in
+    let a = at-if1 .before .before .before .args in
+    λ ρ d body o node. let room = c .before .room .ensures in subst
+    (λ (r : Room). R.MakesTree (a .table .now) (a .log .now) d (a .scope + a .v) body (outer ρ ∷ []) r
+    (write .last .1 .0) (c .list .last .1 .1 .1 .1 .1 .0) (c .list .result)) room
     (c .list .ensures (outer ρ ∷ [])
-    (subst (λ (r : Room). R.Holding r (c .before .before .before .before .before .write .last .1 .0) (outer ρ ∷ [])) (sym room) (alone-holds (length (c .before .before .before .before .before .before .before .before .before .before .args .scratch .now) / 17) (c .before .before .before .before .before .before .before .before .before .before .args .scratch .now) (c .before .before .before .before .before .write .last .1 .0) (outer ρ) (c .before .before .before .before .before .before .before .if1 .left) (omega arith) (c .before .before .before .before .before .write .ensures (outer ρ) (o .0))))
-    d body (subst (λ (m : ℕ). Node (c .before .before .before .before .before .before .before .before .before .before .args .table .now) (c .before .before .before .before .before .before .before .before .before .before .args .words .now) restriction (c .before .before .before .before .before .before .before .before .before .before .args .level) (c .before .before .before .before .before .before .before .before .before .before .args .scope + c .before .before .before .before .before .before .before .before .before .before .args .v) (c .before .before .before .before .before .before .before .before .before .before .args .at + 3 + c .before .before .before .before .before .before .before .before .before .before .args .v * m) d body) (sym (c .before .before .before .value .ensures)) node))
+    (subst (λ (r : Room). R.Holding r (write .last .1 .0) (outer ρ ∷ [])) (sym room)
+    (alone-holds (length (a .scratch .now) / 17) (a .scratch .now) (write .last .1 .0) (outer ρ) (at-if1 .if1 .left)
+    (omega arith) (write .ensures (outer ρ) (o .0)))) d body
+    (subst
+    (λ (m : ℕ). Node (a .table .now) (a .words .now) restriction (a .level) (a .scope + a .v) (a .at + 3 + a .v * m) d
+    body) (sym (at-value .value .ensures)) node))
 
 returns-2 : tie.Need-returns-2
-returns-2 c = λ ρ d body o node. prepare-short (c .before .before .before .before .before .before .before .before .before .before .before .before .before .args .table .now) (c .before .before .before .before .before .before .before .before .before .before .before .before .before .args .words .now) (c .before .before .before .before .before .before .before .before .before .before .before .before .before .args .log .now) (c .before .before .before .before .before .before .before .before .before .before .before .before .before .args .scope) (c .before .before .before .before .before .before .before .before .before .before .before .before .before .args .v) (c .before .before .before .before .before .before .before .before .before .before .before .before .before .args .at) d ρ body (length (c .before .before .before .before .before .before .before .before .before .before .before .before .before .args .scratch .now) / 17) (c .before .before .before .before .before .before .before .before .write .last .1 .0) (c .before .before .before .list .last .1 .1 .1 .1 .1 .0) (subst (λ (r : Made). R.MakesTree (c .before .before .before .before .before .before .before .before .before .before .before .before .before .args .table .now) (c .before .before .before .before .before .before .before .before .before .before .before .before .before .args .log .now) d (c .before .before .before .before .before .before .before .before .before .before .before .before .before .args .scope + c .before .before .before .before .before .before .before .before .before .before .before .before .before .args .v) body (outer ρ ∷ []) (alone (length (c .before .before .before .before .before .before .before .before .before .before .before .before .before .args .scratch .now) / 17)) (c .before .before .before .before .before .before .before .before .write .last .1 .0) (c .before .before .before .list .last .1 .1 .1 .1 .1 .0) r) (c .enum-told .given .1) (made-list (c .before .before .before) ρ d body o node))
+returns-2 c =
+    let at-list = c .before .before .before in
+    let list = at-list .list in
+    let at-write = at-list .before .before .before .before .before in
+    let write = at-write .write in
+    let a = at-write .before .before .before .before .before .args in
+    λ ρ d body o node. prepare-short (a .table .now) (a .words .now) (a .log .now) (a .scope) (a .v) (a .at) d ρ body
+    (length (a .scratch .now) / 17) (write .last .1 .0) (list .last .1 .1 .1 .1 .1 .0)
+    (subst
+    (λ (r : Made). R.MakesTree (a .table .now) (a .log .now) d (a .scope + a .v) body (outer ρ ∷ [])
+    (alone (length (a .scratch .now) / 17)) (write .last .1 .0) (list .last .1 .1 .1 .1 .1 .0) r)
+    (c .enum-told .given .1) (made-list at-list ρ d body o node))
 
 add-instances : tie.Need-add-instances
 add-instances c =
-    let fits = c .before .before .before .before .before .before .before .before .before .before .before .before .before .before .pre .3 in
-    omega (arith, c .before .before .before .before .before .before .before .before .before .before .before .before .before .before .good .1 .0)
+    let at-good = c .before .before .before .before .before .before .before .before .before .before .before .before .before .before in
+    let fits = at-good .pre .3 in
+    omega (arith, at-good .good .1 .0)
 
 instances-requires : tie.Need-instances-requires
 instances-requires c κs =
-    let (ρ, o) = c .before .before .before .before .before .before .before .before .before .before .before .before .before .before .before .pre .5 in
-    let (d, body, node) = c .before .before .before .before .before .before .before .before .before .before .before .before .before .before .before .pre .4 in
-    let (inside, fits) = prepare-inside (c .before .before .before .before .before .before .before .before .before .before .before .before .before .before .before .args .table .now) (c .before .before .before .before .before .before .before .before .before .before .before .before .before .before .before .args .words .now) (c .before .before .before .before .before .before .before .before .before .before .before .before .before .before .before .args .log .now) (c .before .before .before .before .before .before .before .before .before .before .before .before .before .before .before .args .scope) (c .before .before .before .before .before .before .before .before .before .before .before .before .before .before .before .args .v) (c .before .before .before .before .before .before .before .before .before .before .before .before .before .before .before .args .at) d ρ body (length (c .before .before .before .before .before .before .before .before .before .before .before .before .before .before .before .args .scratch .now) / 17) (c .before .before .before .before .before .before .before .before .before .before .write .last .1 .0) (c .before .before .before .before .before .list .last .1 .1 .1 .1 .1 .0) _ _ (subst (λ (r : Made). R.MakesTree (c .before .before .before .before .before .before .before .before .before .before .before .before .before .before .before .args .table .now) (c .before .before .before .before .before .before .before .before .before .before .before .before .before .before .before .args .log .now) d (c .before .before .before .before .before .before .before .before .before .before .before .before .before .before .before .args .scope + c .before .before .before .before .before .before .before .before .before .before .before .before .before .before .before .args .v) body (outer ρ ∷ []) (alone (length (c .before .before .before .before .before .before .before .before .before .before .before .before .before .before .before .args .scratch .now) / 17)) (c .before .before .before .before .before .before .before .before .before .before .write .last .1 .0) (c .before .before .before .before .before .list .last .1 .1 .1 .1 .1 .0) r) (c .before .before .made .given .1) (made-list (c .before .before .before .before .before) ρ d body o node)) in
-    let long = c .before .before .before .before .before .list .kept .1 .1 .1 .1 .1 .0 ∙ c .before .before .before .before .before .before .before .before .before .before .write .kept .1 .0 in
-    let m = c .before .before .before .before .before .before .before .before .value .ensures in
-    (c .before .before .before .before .before .before .before .before .before .before .before .before .before .before .before .pre .2, omega arith, subst (λ (k : ℕ). c .before .before .before .before .before .before .before .before .before .before .before .before .before .before .before .args .at + 3 + c .before .before .before .before .before .before .before .before .before .before .before .before .before .before .before .args .v * k ≤ length (c .before .before .before .before .before .before .before .before .before .before .before .before .before .before .before .args .words .now)) (sym m) (c .before .before .before .before .before .before .before .before .before .before .before .before .before .before .before .pre .3))
+    let at-made = c .before .before in
+    let at-list = at-made .before .before .before in
+    let list = at-list .list in
+    let at-value = at-list .before .before .before in
+    let at-write = at-value .before .before in
+    let write = at-write .write in
+    let start = at-write .before .before .before .before .before in
+    let a = start .args in
+    let (ρ, o) = start .pre .5 in
+    let (d, body, node) = start .pre .4 in
+    let (inside, fits) =
+    prepare-inside (a .table .now) (a .words .now) (a .log .now) (a .scope) (a .v) (a .at) d ρ body
+    (length (a .scratch .now) / 17) (write .last .1 .0) (list .last .1 .1 .1 .1 .1 .0) _ _
+    (subst
+    (λ (r : Made). R.MakesTree (a .table .now) (a .log .now) d (a .scope + a .v) body (outer ρ ∷ [])
+    (alone (length (a .scratch .now) / 17)) (write .last .1 .0) (list .last .1 .1 .1 .1 .1 .0) r)
+    (at-made .made .given .1) (made-list at-list ρ d body o node)) in
+    let long = list .kept .1 .1 .1 .1 .1 .0 ∙ write .kept .1 .0 in
+    let m = at-value .value .ensures in (
+      start .pre .2,
+      omega arith,
+      subst (λ (k : ℕ). a .at + 3 + a .v * k ≤ length (a .words .now)) (sym m)
+          (start .pre .3),
+    )
 
 same-length-2 : tie.Need-same-length-2
-same-length-2 c = c .before .instances .kept .1 .1 .1 .1 .1 .0 ∙ c .before .before .before .before .before .before .before .list .kept .1 .1 .1 .1 .1 .0 ∙ c .before .before .before .before .before .before .before .before .before .before .before .before .write .kept .1 .0
+same-length-2 c =
+    let at-list = c .before .before .before .before .before .before .before in
+    let at-write = at-list .before .before .before .before .before in
+    c .before .instances .kept .1 .1 .1 .1 .1 .0 ∙ at-list .list .kept .1 .1 .1 .1 .1 .0 ∙ at-write .write .kept .1 .0
 
 returns-3 : tie.Need-returns-3
-returns-3 c = λ ρ d body o node. prepare-stood (c .before .before .before .before .before .before .before .before .before .before .before .before .before .before .before .before .before .args .table .now) (c .before .before .before .before .before .before .before .before .before .before .before .before .before .before .before .before .before .args .words .now) (c .before .before .before .before .before .before .before .before .before .before .before .before .before .before .before .before .before .args .log .now) (c .before .before .before .before .before .before .before .before .before .before .before .before .before .before .before .before .before .args .scope) (c .before .before .before .before .before .before .before .before .before .before .before .before .before .before .before .before .before .args .v) (c .before .before .before .before .before .before .before .before .before .before .before .before .before .before .before .before .before .args .at) d ρ body (length (c .before .before .before .before .before .before .before .before .before .before .before .before .before .before .before .before .before .args .scratch .now) / 17) (c .before .before .before .before .before .before .before .before .before .before .before .before .write .last .1 .0) (c .before .before .before .before .before .before .before .list .last .1 .1 .1 .1 .1 .0) _ _ (subst (λ (r : Made). R.MakesTree (c .before .before .before .before .before .before .before .before .before .before .before .before .before .before .before .before .before .args .table .now) (c .before .before .before .before .before .before .before .before .before .before .before .before .before .before .before .before .before .args .log .now) d (c .before .before .before .before .before .before .before .before .before .before .before .before .before .before .before .before .before .args .scope + c .before .before .before .before .before .before .before .before .before .before .before .before .before .before .before .before .before .args .v) body (outer ρ ∷ []) (alone (length (c .before .before .before .before .before .before .before .before .before .before .before .before .before .before .before .before .before .args .scratch .now) / 17)) (c .before .before .before .before .before .before .before .before .before .before .before .before .write .last .1 .0) (c .before .before .before .before .before .before .before .list .last .1 .1 .1 .1 .1 .0) r) (c .before .before .before .before .made .given .1) (made-list (c .before .before .before .before .before .before .before) ρ d body o node)) (c .before .before .before .before .before .before .before .before .before .before .before .before .before .before .before .before .before .pre .2) _ _ _ (c .before .before .before .before .before .before .before .before .before .before .value .ensures) (c .before .instances .ensures)
+returns-3 c =
+    let at-made = c .before .before .before .before in
+    let at-list = at-made .before .before .before in
+    let list = at-list .list in
+    let at-value = at-list .before .before .before in
+    let at-write = at-value .before .before in
+    let write = at-write .write in
+    let start = at-write .before .before .before .before .before in
+    let a = start .args in
+    λ ρ d body o node. prepare-stood (a .table .now) (a .words .now) (a .log .now) (a .scope) (a .v) (a .at) d ρ body
+    (length (a .scratch .now) / 17) (write .last .1 .0) (list .last .1 .1 .1 .1 .1 .0) _ _
+    (subst
+    (λ (r : Made). R.MakesTree (a .table .now) (a .log .now) d (a .scope + a .v) body (outer ρ ∷ [])
+    (alone (length (a .scratch .now) / 17)) (write .last .1 .0) (list .last .1 .1 .1 .1 .1 .0) r)
+    (at-made .made .given .1) (made-list at-list ρ d body o node)) (start .pre .2) _ _ _ (at-value .value .ensures)
+    (c .before .instances .ensures)
 
 pub prepare-spec : {M : Type 1} → statement M
 prepare-spec =

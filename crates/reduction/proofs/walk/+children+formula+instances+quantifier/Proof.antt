@@ -23,10 +23,15 @@ use mathlib.Core.Logic.{_⊎_, inl, inr, ⊎-elim}
 use Rattle.policies.proofs.ModeFormula.{Stood, formula-kind, level-fits, own-fits, next-in, level-in, level-down}
 use Rattle.reduction.specs.Walk.{ReducesNode}
 use Rattle.joining.proofs.Lending.{rest, rest-long, lent-long}
-use Rattle.reduction.proofs.WalkChildren.{ChildrenSoFar, children-start, children-within, children-here, children-short, children-adding, children-next, children-state, children-end}
-use Rattle.reduction.proofs.WalkNodes.{node-plain, atom-here, node-atom, compare-here, node-compare, join-here, node-join, quantifier-here, node-quantifier, node-some, node-unused}
-use Rattle.reduction.proofs.WalkInstances.{not-short, ScratchKept, InstancesSoFar, instances-start, kept-start, kept-within, kept-lent, instance-place, instance-some, instances-adding, instances-next, instances-short, instances-within, instances-end, instances-none, instances-tree}
-use Rattle.reduction.proofs.WalkQuantifier.{quantifier-short, quantifier-whole, concluding, body-here, restriction-here, variables-few, first-within}
+use Rattle.reduction.proofs.WalkChildren.{ChildrenSoFar, children-start, children-within, children-here, children-short}
+use Rattle.reduction.proofs.WalkChildren.{children-adding, children-next, children-state, children-end}
+use Rattle.reduction.proofs.WalkNodes.{node-plain, atom-here, node-atom, compare-here, node-compare, join-here, node-join}
+use Rattle.reduction.proofs.WalkNodes.{quantifier-here, node-quantifier, node-some, node-unused}
+use Rattle.reduction.proofs.WalkInstances.{not-short, ScratchKept, InstancesSoFar, instances-start, kept-start, kept-within}
+use Rattle.reduction.proofs.WalkInstances.{kept-lent, instance-place, instance-some, instances-adding, instances-next}
+use Rattle.reduction.proofs.WalkInstances.{instances-short, instances-within, instances-end, instances-none, instances-tree}
+use Rattle.reduction.proofs.WalkQuantifier.{quantifier-short, quantifier-whole, concluding, body-here, restriction-here}
+use Rattle.reduction.proofs.WalkQuantifier.{variables-few, first-within}
 use Rattle.model.specs.Words.{value}
 use Rattle.model.specs.Tree.{Tree}
 use Rattle.laws.specs.Reading.Nodes.{Node}
@@ -199,71 +204,208 @@ module _ (t : ℕ) where
   children-new-requires c κs = search needs
 
   children-loop-holds : children-lts.Need-loop-holds children-calls children-at children.Post children-Inv-loop children-μ-loop
-  children-loop-holds c = (omega arith, refl, refl, children-start (c .before .before .before .args .table .now) (c .before .before .before .args .words .now) (c .before .before .before .args .log .now) (c .before .before .before .args .kind) (c .before .before .before .args .above) (c .before .before .before .args .scope) (c .before .before .before .args .environment) (length (c .before .before .before .args .scratch .now) / 17) (c .before .before .before .args .n) (c .before .before .before .args .at) (c .new .ensures))
+  children-loop-holds c =
+      let a = c .before .before .before .args in (
+        omega arith,
+        refl,
+        refl,
+        children-start (a .table .now) (a .words .now) (a .log .now) (a .kind) (a .above)
+            (a .scope) (a .environment) (length (a .scratch .now) / 17) (a .n) (a .at) (c .new .ensures),
+      )
 
   children-mul-formula : children-lts.Need-mul-formula children-calls children-at children.Post children-Inv-loop children-μ-loop
-  children-mul-formula c = omega (arith, children-within (c .before .before .before .before .before .before .args .table .now) (c .before .before .before .before .before .before .args .words .now) (c .before .before .before .before .before .before .args .log .now) (c .before .before .before .before .before .before .args .kind) (c .before .before .before .before .before .before .args .above) (c .before .before .before .before .before .before .args .scope) (c .before .before .before .before .before .before .args .environment) (length (c .before .before .before .before .before .before .args .scratch .now) / 17) (c .before .before .before .before .before .before .args .n) (c .before .before .before .before .before .before .args .at) (c .before .before .loop .i) (c .before .before .loop .next) (c .before .before .loop .join) (c .before .before .loop .out) (c .before .before .loop .inv .3) (c .before .before .before .before .before .before .pre .1 .4) (c .before .before .before .before .before .before .pre .1 .5), (c .before .before .loop .inv .2), c .before .before .before .before .before .before .pre .1 .3)
+  children-mul-formula c =
+      let at-loop = c .before .before in
+      let loop = at-loop .loop in
+      let start = at-loop .before .before .before .before in
+      let a = start .args in
+      omega (
+        arith,
+        children-within (a .table .now) (a .words .now) (a .log .now) (a .kind) (a .above) (a .scope)
+            (a .environment) (length (a .scratch .now) / 17) (a .n) (a .at) (loop .i) (loop .next) (loop .join) (loop .out)
+            (loop .inv .3) (start .pre .1 .4) (start .pre .1 .5),
+        (loop .inv .2),
+        start .pre .1 .3,
+      )
 
   children-sub-formula : children-lts.Need-sub-formula children-calls children-at children.Post children-Inv-loop children-μ-loop
-  children-sub-formula c = omega (arith, children-within (c .before .before .before .before .before .before .args .table .now) (c .before .before .before .before .before .before .args .words .now) (c .before .before .before .before .before .before .args .log .now) (c .before .before .before .before .before .before .args .kind) (c .before .before .before .before .before .before .args .above) (c .before .before .before .before .before .before .args .scope) (c .before .before .before .before .before .before .args .environment) (length (c .before .before .before .before .before .before .args .scratch .now) / 17) (c .before .before .before .before .before .before .args .n) (c .before .before .before .before .before .before .args .at) (c .before .before .loop .i) (c .before .before .loop .next) (c .before .before .loop .join) (c .before .before .loop .out) (c .before .before .loop .inv .3) (c .before .before .before .before .before .before .pre .1 .4) (c .before .before .before .before .before .before .pre .1 .5))
+  children-sub-formula c =
+      let at-loop = c .before .before in
+      let loop = at-loop .loop in
+      let start = at-loop .before .before .before .before in
+      let a = start .args in
+      omega (
+        arith,
+        children-within (a .table .now) (a .words .now) (a .log .now) (a .kind) (a .above) (a .scope)
+            (a .environment) (length (a .scratch .now) / 17) (a .n) (a .at) (loop .i) (loop .next) (loop .join) (loop .out)
+            (loop .inv .3) (start .pre .1 .4) (start .pre .1 .5),
+      )
 
   children-part-formula-start : children-lts.Need-part-formula-start children-calls children-at children.Post children-Inv-loop children-μ-loop
-  children-part-formula-start c = children-within (c .before .before .before .before .before .before .args .table .now) (c .before .before .before .before .before .before .args .words .now) (c .before .before .before .before .before .before .args .log .now) (c .before .before .before .before .before .before .args .kind) (c .before .before .before .before .before .before .args .above) (c .before .before .before .before .before .before .args .scope) (c .before .before .before .before .before .before .args .environment) (length (c .before .before .before .before .before .before .args .scratch .now) / 17) (c .before .before .before .before .before .before .args .n) (c .before .before .before .before .before .before .args .at) (c .before .before .loop .i) (c .before .before .loop .next) (c .before .before .loop .join) (c .before .before .loop .out) (c .before .before .loop .inv .3) (c .before .before .before .before .before .before .pre .1 .4) (c .before .before .before .before .before .before .pre .1 .5)
+  children-part-formula-start c =
+      let at-loop = c .before .before in
+      let loop = at-loop .loop in
+      let start = at-loop .before .before .before .before in
+      let a = start .args in
+      children-within (a .table .now) (a .words .now) (a .log .now) (a .kind) (a .above) (a .scope) (a .environment)
+      (length (a .scratch .now) / 17) (a .n) (a .at) (loop .i) (loop .next) (loop .join) (loop .out) (loop .inv .3)
+      (start .pre .1 .4) (start .pre .1 .5)
 
   children-part-formula-end : children-lts.Need-part-formula-end children-calls children-at children.Post children-Inv-loop children-μ-loop
   children-part-formula-end c = omega arith
 
   children-formula-requires : children-lts.Need-formula-requires children-calls children-at children.Post children-Inv-loop children-μ-loop
-  children-formula-requires c κs = (
-    omega (arith, c .before .before .before .before .before .before .before .pre .0, c .before .before .before .before .before .before .before .pre .1 .1),
-    (
-      c .before .before .before .before .before .before .before .pre .1 .0,
-      c .before .before .before .before .before .before .before .pre .1 .1,
-      c .before .before .before .before .before .before .before .pre .1 .2,
-      omega (arith, rest-long (c .before .before .before .loop .out) (c .before .before .before .loop .join .words), (c .before .before .before .loop .inv .2), c .before .before .before .before .before .before .before .pre .1 .3),
-      operand-kind (c .before .before .before .before .before .before .before .args .kind),
-      children-here (c .before .before .before .before .before .before .before .args .table .now) (c .before .before .before .before .before .before .before .args .words .now) (c .before .before .before .before .before .before .before .args .log .now) (c .before .before .before .before .before .before .before .args .kind) (c .before .before .before .before .before .before .before .args .above) (c .before .before .before .before .before .before .before .args .scope) (c .before .before .before .before .before .before .before .args .environment) (length (c .before .before .before .before .before .before .before .args .scratch .now) / 17) (c .before .before .before .before .before .before .before .args .n) (c .before .before .before .before .before .before .before .args .at) (c .before .before .before .loop .i) (c .before .before .before .loop .next) (c .before .before .before .loop .join) (c .before .before .before .loop .out) (c .before .before .before .loop .inv .3) (c .before .before .loop-test .taken) (c .before .before .before .before .before .before .before .pre .1 .4) (c .before .before .before .before .before .before .before .pre .1 .5),
-      c .before .before .before .before .before .before .before .pre .1 .5,
-    ),
-  )
+  children-formula-requires c κs =
+      let at-loop-test = c .before .before in
+      let at-loop = at-loop-test .before in
+      let loop = at-loop .loop in
+      let start = at-loop .before .before .before .before in
+      let a = start .args in (
+        omega (arith, start .pre .0, start .pre .1 .1),
+        (
+          start .pre .1 .0,
+          start .pre .1 .1,
+          start .pre .1 .2,
+          omega
+              (arith, rest-long (loop .out) (loop .join .words), (loop .inv .2), start .pre .1 .3),
+          operand-kind (a .kind),
+          children-here (a .table .now) (a .words .now) (a .log .now) (a .kind) (a .above) (a .scope) (a .environment)
+              (length (a .scratch .now) / 17) (a .n) (a .at) (loop .i) (loop .next) (loop .join) (loop .out) (loop .inv .3)
+              (at-loop-test .loop-test .taken) (start .pre .1 .4) (start .pre .1 .5),
+          start .pre .1 .5,
+        ),
+      )
 
   child :
       (c : children-lts.After-formula children-calls children-at children.Post children-Inv-loop children-μ-loop) →
-      ReducesNode (c .before .before .before .before .before .before .before .before .args .table .now) (c .before .before .before .before .before .before .before .before .args .words .now) (c .before .before .before .before .before .before .before .before .args .log .now) (L.Role.operand (c .before .before .before .before .before .before .before .before .args .kind)) (c .before .before .before .before .before .before .before .before .args .above) (c .before .before .before .before .before .before .before .before .args .scope) (c .before .before .before .before .loop .next) (c .before .before .before .before .before .before .before .before .args .environment) (length (c .before .before .before .before .before .before .before .before .args .scratch .now) / 17) (rest (c .before .before .before .before .loop .out) (c .before .before .before .before .loop .join .words)) (c .formula .last .1 .1 .1 .1 .1 .1 .0) (c .formula .result)
+      let at-loop = c .before .before .before .before in
+      let loop = at-loop .loop in
+      let a = at-loop .before .before .before .before .args in
+      ReducesNode (a .table .now) (a .words .now) (a .log .now) (L.Role.operand (a .kind)) (a .above) (a .scope)
+      (loop .next) (a .environment) (length (a .scratch .now) / 17) (rest (loop .out) (loop .join .words))
+      (c .formula .last .1 .1 .1 .1 .1 .1 .0) (c .formula .result)
   child c =
-      subst (λ (n : ℕ). ReducesNode (c .before .before .before .before .before .before .before .before .args .table .now) (c .before .before .before .before .before .before .before .before .args .words .now) (c .before .before .before .before .before .before .before .before .args .log .now) (L.Role.operand (c .before .before .before .before .before .before .before .before .args .kind)) (c .before .before .before .before .before .before .before .before .args .above) (c .before .before .before .before .before .before .before .before .args .scope) (c .before .before .before .before .loop .next) (c .before .before .before .before .before .before .before .before .args .environment) (n / 17) (rest (c .before .before .before .before .loop .out) (c .before .before .before .before .loop .join .words)) (c .formula .last .1 .1 .1 .1 .1 .1 .0) (c .formula .result)) (c .before .before .before .before .loop .inv .1) (c .formula .ensures)
+      let at-loop = c .before .before .before .before in
+      let loop = at-loop .loop in
+      let a = at-loop .before .before .before .before .args in
+      subst
+      (λ (n : ℕ). ReducesNode (a .table .now) (a .words .now) (a .log .now) (L.Role.operand (a .kind)) (a .above)
+      (a .scope) (loop .next) (a .environment) (n / 17) (rest (loop .out) (loop .join .words))
+      (c .formula .last .1 .1 .1 .1 .1 .1 .0) (c .formula .result)) (loop .inv .1) (c .formula .ensures)
 
   children-enum-told : children-lts.Need-enum-told children-calls children-at children.Post children-Inv-loop children-μ-loop
   children-enum-told c = search needs
 
   children-same-length : children-lts.Need-same-length children-calls children-at children.Post children-Inv-loop children-μ-loop
-  children-same-length c = c .before .before .before .before .formula .kept .1 .1 .1 .1 .1 .0 ∙ c .before .before .before .before .before .before .before .before .loop .inv .1
+  children-same-length c =
+      let at-formula = c .before .before .before .before in
+      let at-loop = at-formula .before .before .before .before in
+      at-formula .formula .kept .1 .1 .1 .1 .1 .0 ∙ at-loop .loop .inv .1
 
   children-same-length-2 : children-lts.Need-same-length-2 children-calls children-at children.Post children-Inv-loop children-μ-loop
-  children-same-length-2 c = lent-long (c .before .before .before .before .before .before .before .before .loop .out) (c .before .before .before .before .before .before .before .before .loop .join .words) (c .before .before .before .before .formula .last .1 .1 .1 .1 .1 .1 .0) (children-within (c .before .before .before .before .before .before .before .before .before .before .before .before .args .table .now) (c .before .before .before .before .before .before .before .before .before .before .before .before .args .words .now) (c .before .before .before .before .before .before .before .before .before .before .before .before .args .log .now) (c .before .before .before .before .before .before .before .before .before .before .before .before .args .kind) (c .before .before .before .before .before .before .before .before .before .before .before .before .args .above) (c .before .before .before .before .before .before .before .before .before .before .before .before .args .scope) (c .before .before .before .before .before .before .before .before .before .before .before .before .args .environment) (length (c .before .before .before .before .before .before .before .before .before .before .before .before .args .scratch .now) / 17) (c .before .before .before .before .before .before .before .before .before .before .before .before .args .n) (c .before .before .before .before .before .before .before .before .before .before .before .before .args .at) (c .before .before .before .before .before .before .before .before .loop .i) (c .before .before .before .before .before .before .before .before .loop .next) (c .before .before .before .before .before .before .before .before .loop .join) (c .before .before .before .before .before .before .before .before .loop .out) (c .before .before .before .before .before .before .before .before .loop .inv .3) (c .before .before .before .before .before .before .before .before .before .before .before .before .pre .1 .4) (c .before .before .before .before .before .before .before .before .before .before .before .before .pre .1 .5)) (c .before .before .before .before .formula .kept .1 .1 .1 .1 .1 .1 .0) ∙ (c .before .before .before .before .before .before .before .before .loop .inv .2)
+  children-same-length-2 c =
+      let at-formula = c .before .before .before .before in
+      let formula = at-formula .formula in
+      let at-loop = at-formula .before .before .before .before in
+      let loop = at-loop .loop in
+      let start = at-loop .before .before .before .before in
+      let a = start .args in
+      lent-long (loop .out) (loop .join .words) (formula .last .1 .1 .1 .1 .1 .1 .0)
+      (children-within (a .table .now) (a .words .now) (a .log .now) (a .kind) (a .above) (a .scope) (a .environment)
+      (length (a .scratch .now) / 17) (a .n) (a .at) (loop .i) (loop .next) (loop .join) (loop .out) (loop .inv .3)
+      (start .pre .1 .4) (start .pre .1 .5)) (formula .kept .1 .1 .1 .1 .1 .1 .0) ∙ (loop .inv .2)
 
   children-returns : children-lts.Need-returns children-calls children-at children.Post children-Inv-loop children-μ-loop
-  children-returns c = children-short (c .before .before .before .before .before .before .before .before .before .before .before .before .args .table .now) (c .before .before .before .before .before .before .before .before .before .before .before .before .args .words .now) (c .before .before .before .before .before .before .before .before .before .before .before .before .args .log .now) (c .before .before .before .before .before .before .before .before .before .before .before .before .args .kind) (c .before .before .before .before .before .before .before .before .before .before .before .before .args .above) (c .before .before .before .before .before .before .before .before .before .before .before .before .args .scope) (c .before .before .before .before .before .before .before .before .before .before .before .before .args .environment) (length (c .before .before .before .before .before .before .before .before .before .before .before .before .args .scratch .now) / 17) (c .before .before .before .before .before .before .before .before .before .before .before .before .args .n) (c .before .before .before .before .before .before .before .before .before .before .before .before .args .at) (c .before .before .before .before .before .before .before .before .loop .i) (c .before .before .before .before .before .before .before .before .loop .next) (c .before .before .before .before .before .before .before .before .loop .join) (c .before .before .before .before .before .before .before .before .loop .out) (c .before .before .before .before .before .before .before .before .loop .inv .3) (c .before .before .before .before .before .before .before .loop-test .taken) (c .before .before .before .before .formula .last .1 .1 .1 .1 .1 .1 .0) (c .before .before .before .before .formula .result) (child (c .before .before .before .before)) (c .enum-told .given .1) (lent-long (c .before .before .before .before .before .before .before .before .loop .out) (c .before .before .before .before .before .before .before .before .loop .join .words) (c .before .before .before .before .formula .last .1 .1 .1 .1 .1 .1 .0) (children-within (c .before .before .before .before .before .before .before .before .before .before .before .before .args .table .now) (c .before .before .before .before .before .before .before .before .before .before .before .before .args .words .now) (c .before .before .before .before .before .before .before .before .before .before .before .before .args .log .now) (c .before .before .before .before .before .before .before .before .before .before .before .before .args .kind) (c .before .before .before .before .before .before .before .before .before .before .before .before .args .above) (c .before .before .before .before .before .before .before .before .before .before .before .before .args .scope) (c .before .before .before .before .before .before .before .before .before .before .before .before .args .environment) (length (c .before .before .before .before .before .before .before .before .before .before .before .before .args .scratch .now) / 17) (c .before .before .before .before .before .before .before .before .before .before .before .before .args .n) (c .before .before .before .before .before .before .before .before .before .before .before .before .args .at) (c .before .before .before .before .before .before .before .before .loop .i) (c .before .before .before .before .before .before .before .before .loop .next) (c .before .before .before .before .before .before .before .before .loop .join) (c .before .before .before .before .before .before .before .before .loop .out) (c .before .before .before .before .before .before .before .before .loop .inv .3) (c .before .before .before .before .before .before .before .before .before .before .before .before .pre .1 .4) (c .before .before .before .before .before .before .before .before .before .before .before .before .pre .1 .5)) (c .before .before .before .before .formula .kept .1 .1 .1 .1 .1 .1 .0) ∙ (c .before .before .before .before .before .before .before .before .loop .inv .2)) _ (c .enum-told .given .1)
+  children-returns c =
+      let at-formula = c .before .before .before .before in
+      let formula = at-formula .formula in
+      let at-loop-test = at-formula .before .before .before in
+      let at-loop = at-loop-test .before in
+      let loop = at-loop .loop in
+      let start = at-loop .before .before .before .before in
+      let a = start .args in
+      children-short (a .table .now) (a .words .now) (a .log .now) (a .kind) (a .above) (a .scope) (a .environment)
+      (length (a .scratch .now) / 17) (a .n) (a .at) (loop .i) (loop .next) (loop .join) (loop .out) (loop .inv .3)
+      (at-loop-test .loop-test .taken) (formula .last .1 .1 .1 .1 .1 .1 .0) (formula .result) (child at-formula)
+      (c .enum-told .given .1)
+      (lent-long (loop .out) (loop .join .words) (formula .last .1 .1 .1 .1 .1 .1 .0)
+      (children-within (a .table .now) (a .words .now) (a .log .now) (a .kind) (a .above) (a .scope) (a .environment)
+      (length (a .scratch .now) / 17) (a .n) (a .at) (loop .i) (loop .next) (loop .join) (loop .out) (loop .inv .3)
+      (start .pre .1 .4) (start .pre .1 .5)) (formula .kept .1 .1 .1 .1 .1 .1 .0) ∙ (loop .inv .2)) _
+      (c .enum-told .given .1)
 
   children-add-requires : children-lts.Need-add-requires children-calls children-at children.Post children-Inv-loop children-μ-loop
-  children-add-requires c κs = (omega (arith, lent-long (c .before .before .before .before .before .before .before .before .loop .out) (c .before .before .before .before .before .before .before .before .loop .join .words) (c .before .before .before .before .formula .last .1 .1 .1 .1 .1 .1 .0) (children-within (c .before .before .before .before .before .before .before .before .before .before .before .before .args .table .now) (c .before .before .before .before .before .before .before .before .before .before .before .before .args .words .now) (c .before .before .before .before .before .before .before .before .before .before .before .before .args .log .now) (c .before .before .before .before .before .before .before .before .before .before .before .before .args .kind) (c .before .before .before .before .before .before .before .before .before .before .before .before .args .above) (c .before .before .before .before .before .before .before .before .before .before .before .before .args .scope) (c .before .before .before .before .before .before .before .before .before .before .before .before .args .environment) (length (c .before .before .before .before .before .before .before .before .before .before .before .before .args .scratch .now) / 17) (c .before .before .before .before .before .before .before .before .before .before .before .before .args .n) (c .before .before .before .before .before .before .before .before .before .before .before .before .args .at) (c .before .before .before .before .before .before .before .before .loop .i) (c .before .before .before .before .before .before .before .before .loop .next) (c .before .before .before .before .before .before .before .before .loop .join) (c .before .before .before .before .before .before .before .before .loop .out) (c .before .before .before .before .before .before .before .before .loop .inv .3) (c .before .before .before .before .before .before .before .before .before .before .before .before .pre .1 .4) (c .before .before .before .before .before .before .before .before .before .before .before .before .pre .1 .5)) (c .before .before .before .before .formula .kept .1 .1 .1 .1 .1 .1 .0), (c .before .before .before .before .before .before .before .before .loop .inv .2), c .before .before .before .before .before .before .before .before .before .before .before .before .pre .1 .3), children-adding (c .before .before .before .before .before .before .before .before .before .before .before .before .args .table .now) (c .before .before .before .before .before .before .before .before .before .before .before .before .args .words .now) (c .before .before .before .before .before .before .before .before .before .before .before .before .args .log .now) (c .before .before .before .before .before .before .before .before .before .before .before .before .args .kind) (c .before .before .before .before .before .before .before .before .before .before .before .before .args .above) (c .before .before .before .before .before .before .before .before .before .before .before .before .args .scope) (c .before .before .before .before .before .before .before .before .before .before .before .before .args .environment) (length (c .before .before .before .before .before .before .before .before .before .before .before .before .args .scratch .now) / 17) (c .before .before .before .before .before .before .before .before .before .before .before .before .args .n) (c .before .before .before .before .before .before .before .before .before .before .before .before .args .at) (c .before .before .before .before .before .before .before .before .loop .i) (c .before .before .before .before .before .before .before .before .loop .next) (c .before .before .before .before .before .before .before .before .loop .join) (c .before .before .before .before .before .before .before .before .loop .out) (c .before .before .before .before .before .before .before .before .loop .inv .3) (c .before .before .before .before .before .before .before .loop-test .taken) (c .before .before .before .before .formula .last .1 .1 .1 .1 .1 .1 .0) (c .before .before .before .before .formula .result) (child (c .before .before .before .before)) (c .before .before .before .before .before .before .before .before .before .before .before .before .pre .1 .4) (c .before .before .before .before .before .before .before .before .before .before .before .before .pre .1 .5))
+  children-add-requires c κs =
+      let at-formula = c .before .before .before .before in
+      let formula = at-formula .formula in
+      let at-loop-test = at-formula .before .before .before in
+      let at-loop = at-loop-test .before in
+      let loop = at-loop .loop in
+      let start = at-loop .before .before .before .before in
+      let a = start .args in (
+        omega (
+          arith,
+          lent-long (loop .out) (loop .join .words) (formula .last .1 .1 .1 .1 .1 .1 .0)
+              (children-within (a .table .now) (a .words .now) (a .log .now) (a .kind) (a .above) (a .scope) (a .environment)
+              (length (a .scratch .now) / 17) (a .n) (a .at) (loop .i) (loop .next) (loop .join) (loop .out) (loop .inv .3)
+              (start .pre .1 .4) (start .pre .1 .5)) (formula .kept .1 .1 .1 .1 .1 .1 .0),
+          (loop .inv .2),
+          start .pre .1 .3,
+        ),
+        children-adding (a .table .now) (a .words .now) (a .log .now) (a .kind) (a .above) (a .scope) (a .environment)
+            (length (a .scratch .now) / 17) (a .n) (a .at) (loop .i) (loop .next) (loop .join) (loop .out) (loop .inv .3)
+            (at-loop-test .loop-test .taken) (formula .last .1 .1 .1 .1 .1 .1 .0) (formula .result) (child at-formula)
+            (start .pre .1 .4) (start .pre .1 .5),
+      )
 
   children-add-i : children-lts.Need-add-i children-calls children-at children.Post children-Inv-loop children-μ-loop
-  children-add-i c = omega (arith, c .before .before .before .before .before .before .before .before .before .loop-test .taken, c .before .before .before .before .before .before .before .before .before .before .before .before .before .before .fits .n)
+  children-add-i c =
+      let at-loop-test = c .before .before .before .before .before .before .before .before .before in
+      let at-fits = at-loop-test .before .before .before .before .before in
+      omega (arith, at-loop-test .loop-test .taken, at-fits .fits .n)
 
   children-loop-less : children-lts.Need-loop-less children-calls children-at children.Post children-Inv-loop children-μ-loop
   children-loop-less c = omega (arith, c .before .before .before .before .before .before .before .before .before .loop-test .taken)
 
   children-loop-again : children-lts.Need-loop-again children-calls children-at children.Post children-Inv-loop children-μ-loop
-  children-loop-again c = (
-    omega (arith, c .before .before .before .before .before .before .before .before .before .loop-test .taken),
-    c .before .before .before .before .before .before .formula .kept .1 .1 .1 .1 .1 .0 ∙ c .before .before .before .before .before .before .before .before .before .before .loop .inv .1,
-    c .before .add .kept .1 .0 ∙ lent-long (c .before .before .before .before .before .before .before .before .before .before .loop .out) (c .before .before .before .before .before .before .before .before .before .before .loop .join .words) (c .before .before .before .before .before .before .formula .last .1 .1 .1 .1 .1 .1 .0) (children-within (c .before .before .before .before .before .before .before .before .before .before .before .before .before .before .args .table .now) (c .before .before .before .before .before .before .before .before .before .before .before .before .before .before .args .words .now) (c .before .before .before .before .before .before .before .before .before .before .before .before .before .before .args .log .now) (c .before .before .before .before .before .before .before .before .before .before .before .before .before .before .args .kind) (c .before .before .before .before .before .before .before .before .before .before .before .before .before .before .args .above) (c .before .before .before .before .before .before .before .before .before .before .before .before .before .before .args .scope) (c .before .before .before .before .before .before .before .before .before .before .before .before .before .before .args .environment) (length (c .before .before .before .before .before .before .before .before .before .before .before .before .before .before .args .scratch .now) / 17) (c .before .before .before .before .before .before .before .before .before .before .before .before .before .before .args .n) (c .before .before .before .before .before .before .before .before .before .before .before .before .before .before .args .at) (c .before .before .before .before .before .before .before .before .before .before .loop .i) (c .before .before .before .before .before .before .before .before .before .before .loop .next) (c .before .before .before .before .before .before .before .before .before .before .loop .join) (c .before .before .before .before .before .before .before .before .before .before .loop .out) (c .before .before .before .before .before .before .before .before .before .before .loop .inv .3) (c .before .before .before .before .before .before .before .before .before .before .before .before .before .before .pre .1 .4) (c .before .before .before .before .before .before .before .before .before .before .before .before .before .before .pre .1 .5)) (c .before .before .before .before .before .before .formula .kept .1 .1 .1 .1 .1 .1 .0) ∙ (c .before .before .before .before .before .before .before .before .before .before .loop .inv .2),
-    children-next (c .before .before .before .before .before .before .before .before .before .before .before .before .before .before .args .table .now) (c .before .before .before .before .before .before .before .before .before .before .before .before .before .before .args .words .now) (c .before .before .before .before .before .before .before .before .before .before .before .before .before .before .args .log .now) (c .before .before .before .before .before .before .before .before .before .before .before .before .before .before .args .kind) (c .before .before .before .before .before .before .before .before .before .before .before .before .before .before .args .above) (c .before .before .before .before .before .before .before .before .before .before .before .before .before .before .args .scope) (c .before .before .before .before .before .before .before .before .before .before .before .before .before .before .args .environment) (length (c .before .before .before .before .before .before .before .before .before .before .before .before .before .before .args .scratch .now) / 17) (c .before .before .before .before .before .before .before .before .before .before .before .before .before .before .args .n) (c .before .before .before .before .before .before .before .before .before .before .before .before .before .before .args .at) (c .before .before .before .before .before .before .before .before .before .before .loop .i) (c .before .before .before .before .before .before .before .before .before .before .loop .next) (c .before .before .before .before .before .before .before .before .before .before .loop .join) (c .before .before .before .before .before .before .before .before .before .before .loop .out) (c .before .before .before .before .before .before .before .before .before .before .loop .inv .3) (c .before .before .before .before .before .before .before .before .before .loop-test .taken) (c .before .before .before .before .before .before .formula .last .1 .1 .1 .1 .1 .1 .0) (c .before .before .before .before .before .before .formula .result) (child (c .before .before .before .before .before .before)) (not-short _ (c .before .before .before .match .keys2)) _ _ (c .before .add .ensures),
-  )
+  children-loop-again c =
+      let at-add = c .before in
+      let add = at-add .add in
+      let at-match = at-add .before .before in
+      let at-formula = at-match .before .before .before in
+      let formula = at-formula .formula in
+      let at-loop-test = at-formula .before .before .before in
+      let loop-test = at-loop-test .loop-test in
+      let at-loop = at-loop-test .before in
+      let loop = at-loop .loop in
+      let start = at-loop .before .before .before .before in
+      let a = start .args in (
+        omega (arith, loop-test .taken),
+        formula .kept .1 .1 .1 .1 .1 .0 ∙ loop .inv .1,
+        add .kept .1 .0 ∙ lent-long
+            (loop .out) (loop .join .words) (formula .last .1 .1 .1 .1 .1 .1 .0)
+            (children-within (a .table .now) (a .words .now) (a .log .now) (a .kind) (a .above) (a .scope) (a .environment)
+            (length (a .scratch .now) / 17) (a .n) (a .at) (loop .i) (loop .next) (loop .join) (loop .out) (loop .inv .3)
+            (start .pre .1 .4) (start .pre .1 .5)) (formula .kept .1 .1 .1 .1 .1 .1 .0) ∙ (loop .inv .2),
+        children-next
+            (a .table .now) (a .words .now) (a .log .now) (a .kind) (a .above) (a .scope) (a .environment)
+            (length (a .scratch .now) / 17) (a .n) (a .at) (loop .i) (loop .next) (loop .join) (loop .out) (loop .inv .3)
+            (loop-test .taken) (formula .last .1 .1 .1 .1 .1 .1 .0) (formula .result) (child at-formula)
+            (not-short _ (at-match .match .keys2)) _ _ (add .ensures),
+      )
 
   children-finish-requires : children-lts.Need-finish-requires children-calls children-at children.Post children-Inv-loop children-μ-loop
-  children-finish-requires c κs = (omega (arith, (c .before .before .loop .inv .2), c .before .before .before .before .before .before .pre .1 .3), children-state (c .before .before .before .before .before .before .args .table .now) (c .before .before .before .before .before .before .args .words .now) (c .before .before .before .before .before .before .args .log .now) (c .before .before .before .before .before .before .args .kind) (c .before .before .before .before .before .before .args .above) (c .before .before .before .before .before .before .args .scope) (c .before .before .before .before .before .before .args .environment) (length (c .before .before .before .before .before .before .args .scratch .now) / 17) (c .before .before .before .before .before .before .args .n) (c .before .before .before .before .before .before .args .at) (c .before .before .loop .i) (c .before .before .loop .next) (c .before .before .loop .join) (c .before .before .loop .out) (c .before .before .loop .inv .3) (c .before .loop-test .left) (c .before .before .before .before .before .before .pre .1 .4) (c .before .before .before .before .before .before .pre .1 .5))
+  children-finish-requires c κs =
+      let at-loop = c .before .before in
+      let loop = at-loop .loop in
+      let start = at-loop .before .before .before .before in
+      let a = start .args in (
+        omega (arith, (loop .inv .2), start .pre .1 .3),
+        children-state (a .table .now) (a .words .now) (a .log .now)
+            (a .kind) (a .above) (a .scope) (a .environment) (length (a .scratch .now) / 17) (a .n) (a .at) (loop .i)
+            (loop .next) (loop .join) (loop .out) (loop .inv .3) (c .before .loop-test .left) (start .pre .1 .4)
+            (start .pre .1 .5),
+      )
 
   children-same-length-3 : children-lts.Need-same-length-3 children-calls children-at children.Post children-Inv-loop children-μ-loop
   children-same-length-3 c = c .before .before .before .before .loop .inv .1
@@ -272,7 +414,14 @@ module _ (t : ℕ) where
   children-same-length-4 c = c .before .finish .kept .1 .0 ∙ (c .before .before .before .before .loop .inv .2)
 
   children-returns-2 : children-lts.Need-returns-2 children-calls children-at children.Post children-Inv-loop children-μ-loop
-  children-returns-2 c = children-end (c .before .before .before .before .before .before .before .before .args .table .now) (c .before .before .before .before .before .before .before .before .args .words .now) (c .before .before .before .before .before .before .before .before .args .log .now) (c .before .before .before .before .before .before .before .before .args .kind) (c .before .before .before .before .before .before .before .before .args .above) (c .before .before .before .before .before .before .before .before .args .scope) (c .before .before .before .before .before .before .before .before .args .environment) (length (c .before .before .before .before .before .before .before .before .args .scratch .now) / 17) (c .before .before .before .before .before .before .before .before .args .n) (c .before .before .before .before .before .before .before .before .args .at) (c .before .before .before .before .loop .i) (c .before .before .before .before .loop .next) (c .before .before .before .before .loop .join) (c .before .before .before .before .loop .out) (c .before .before .before .before .loop .inv .3) (c .before .before .before .loop-test .left) (c .before .before .before .before .loop .inv .2) _ _ (c .before .finish .ensures)
+  children-returns-2 c =
+      let at-loop-test = c .before .before .before in
+      let at-loop = at-loop-test .before in
+      let loop = at-loop .loop in
+      let a = at-loop .before .before .before .before .args in
+      children-end (a .table .now) (a .words .now) (a .log .now) (a .kind) (a .above) (a .scope) (a .environment)
+      (length (a .scratch .now) / 17) (a .n) (a .at) (loop .i) (loop .next) (loop .join) (loop .out) (loop .inv .3)
+      (at-loop-test .loop-test .left) (loop .inv .2) _ _ (c .before .finish .ensures)
 
   formula-tag-at-requires : formula-lts.Need-tag-at-requires formula-calls formula-at formula.Post
   formula-tag-at-requires c κs = search needs
@@ -281,21 +430,40 @@ module _ (t : ℕ) where
   formula-cost-requires c κs = search needs
 
   formula-add-level : formula-lts.Need-add-level formula-calls formula-at formula.Post
-  formula-add-level c = omega (arith, level-fits _ _ _ _ _ _ (c .before .before .before .before .pre .1 .5) (asTag (c .before .tag-at .result)) (c .before .tag-at .ensures), c .cost .ensures)
+  formula-add-level c =
+      let at-tag-at = c .before in
+      let tag-at = at-tag-at .tag-at in
+      let at-pre = at-tag-at .before .before .before in
+      omega
+      (arith, level-fits _ _ _ _ _ _ (at-pre .pre .1 .5) (asTag (tag-at .result)) (tag-at .ensures), c .cost .ensures)
 
   formula-size-requires : formula-lts.Need-size-requires formula-calls formula-at formula.Post
-  formula-size-requires c κs = own-fits (c .before .before .before .before .args .table .now) (c .before .before .before .before .args .words .now) (asRole (c .before .before .before .before .args .role)) (c .before .before .before .before .args .above) (c .before .before .before .before .args .scope) (c .before .before .before .before .args .at) (c .before .before .before .before .pre .1 .5) (asTag (c .before .tag-at .result)) (c .before .tag-at .ensures)
+  formula-size-requires c κs =
+      let at-tag-at = c .before in
+      let tag-at = at-tag-at .tag-at in
+      let start = at-tag-at .before .before .before in
+      let a = start .args in
+      own-fits (a .table .now) (a .words .now) (asRole (a .role)) (a .above) (a .scope) (a .at) (start .pre .1 .5)
+      (asTag (tag-at .result)) (tag-at .ensures)
 
   formula-stood :
       (c : formula-lts.After-size formula-calls formula-at formula.Post) →
-      Stood (c .before .before .before .before .before .args .table .now) (c .before .before .before .before .before .args .words .now) (asRole (c .before .before .before .before .before .args .role)) (c .before .before .before .before .before .args .above) (c .before .before .before .before .before .args .scope) (c .before .before .before .before .before .args .at) (asTag (c .before .before .tag-at .result)) (c .before .before .before .before .before .args .above + c .before .cost .result) (c .before .before .before .before .before .args .at + c .size .result)
+      let at-tag-at = c .before .before in
+      let a = at-tag-at .before .before .before .args in
+      Stood (a .table .now) (a .words .now) (asRole (a .role)) (a .above) (a .scope) (a .at)
+      (asTag (at-tag-at .tag-at .result)) (a .above + c .before .cost .result) (a .at + c .size .result)
   formula-stood c =
+      let at-tag-at = c .before .before in
+      let start = at-tag-at .before .before .before in
+      let a = start .args in
       record {
-        kind = c .before .before .before .before .before .pre .1 .4;
-        here = c .before .before .before .before .before .pre .1 .5;
-        known = c .before .before .tag-at .ensures;
-        deep = ap (λ (n : ℕ). c .before .before .before .before .before .args .above + n) (c .before .cost .ensures);
-        first = ap (λ (n : ℕ). c .before .before .before .before .before .args .at + n) (c .size .ensures (c .before .before .before .before .before .args .table .now) (asRole (c .before .before .before .before .before .args .role)) (c .before .before .before .before .before .args .scope));
+        kind = start .pre .1 .4;
+        here = start .pre .1 .5;
+        known = at-tag-at .tag-at .ensures;
+        deep = ap
+            (λ (n : ℕ). a .above + n) (c .before .cost .ensures);
+        first = ap (λ (n : ℕ). a .at + n)
+            (c .size .ensures (a .table .now) (asRole (a .role)) (a .scope));
       }
 
   formula-add-next : formula-lts.Need-add-next formula-calls formula-at formula.Post
@@ -308,43 +476,107 @@ module _ (t : ℕ) where
   formula-enum-known-tag-2 c = search needs
 
   formula-atom-requires : formula-lts.Need-atom-requires formula-calls formula-at formula.Post
-  formula-atom-requires c κs = (c .before .before .before .before .before .before .before .before .before .pre .1 .0 .looks, c .before .before .before .before .before .before .before .before .before .pre .1 .2, atom-here (c .before .before .before .before .before .before .before .before .before .args .table .now) (c .before .before .before .before .before .before .before .before .before .args .words .now) (c .before .before .before .before .before .before .before .before .before .args .log .now) (formula-stood (c .before .before .before .before)) (c .before .before .before .before .before .before .before .before .before .args .environment) (length (c .before .before .before .before .before .before .before .before .before .args .scratch .now) / 17) (ap asTag (c .before .before .tag2 .given .1)))
+  formula-atom-requires c κs =
+      let at-tag2 = c .before .before in
+      let then = at-tag2 .before .before in
+      let start = then .before .before .before .before .before in
+      let a = start .args in (
+        start .pre .1 .0 .looks,
+        start .pre .1 .2,
+        atom-here (a .table .now) (a .words .now) (a .log .now)
+            (formula-stood then) (a .environment) (length (a .scratch .now) / 17) (ap asTag (at-tag2 .tag2 .given .1)),
+      )
 
   formula-enum-known-tag-3 : formula-lts.Need-enum-known-tag-3 formula-calls formula-at formula.Post
   formula-enum-known-tag-3 c = search needs
 
   formula-compare-requires : formula-lts.Need-compare-requires formula-calls formula-at formula.Post
-  formula-compare-requires c κs = compare-here (c .before .before .before .before .before .before .before .before .args .table .now) (c .before .before .before .before .before .before .before .before .args .words .now) (c .before .before .before .before .before .before .before .before .args .log .now) (formula-stood (c .before .before .before)) (c .before .before .before .before .before .before .before .before .args .environment) (length (c .before .before .before .before .before .before .before .before .args .scratch .now) / 17) (c .before .before .before .before .before .before .before .before .pre .1 .2) (ap asTag (c .before .tag3 .given .1))
+  formula-compare-requires c κs =
+      let then = c .before .before .before in
+      let start = then .before .before .before .before .before in
+      let a = start .args in
+      compare-here (a .table .now) (a .words .now) (a .log .now) (formula-stood then) (a .environment)
+      (length (a .scratch .now) / 17) (start .pre .1 .2) (ap asTag (c .before .tag3 .given .1))
 
   formula-enum-known-tag-4 : formula-lts.Need-enum-known-tag-4 formula-calls formula-at formula.Post
   formula-enum-known-tag-4 c = search needs
 
   formula-add-value : formula-lts.Need-add-value formula-calls formula-at formula.Post
-  formula-add-value c = omega (arith, next-in (formula-stood (c .before .before .before)), c .before .before .before .before .before .before .before .before .good .1 .0)
+  formula-add-value c =
+      let then = c .before .before .before in
+      let at-good = then .before .before .before .before .before in
+      omega (arith, next-in (formula-stood then), at-good .good .1 .0)
 
   formula-value-requires : formula-lts.Need-value-requires formula-calls formula-at formula.Post
   formula-value-requires c κs = search needs
 
   formula-children-requires : formula-lts.Need-children-requires formula-calls formula-at formula.Post
-  formula-children-requires c κs = (omega (arith, level-down (formula-stood (c .before .before .before .before .before .before)), level-in (formula-stood (c .before .before .before .before .before .before)), c .before .before .before .before .before .before .before .before .before .before .before .pre .0), (c .before .before .before .before .before .before .before .before .before .before .before .pre .1 .0, level-in (formula-stood (c .before .before .before .before .before .before)), c .before .before .before .before .before .before .before .before .before .before .before .pre .1 .2, c .before .before .before .before .before .before .before .before .before .before .before .pre .1 .3, join-here (c .before .before .before .before .before .before .before .before .before .before .before .args .table .now) (c .before .before .before .before .before .before .before .before .before .before .before .args .words .now) (c .before .before .before .before .before .before .before .before .before .before .before .args .log .now) (formula-stood (c .before .before .before .before .before .before)) (c .before .before .before .before .before .before .before .before .before .before .before .args .environment) (length (c .before .before .before .before .before .before .before .before .before .before .before .args .scratch .now) / 17) (ap asTag (c .before .before .before .before .tag4 .given .1)) (c .before .before .value .ensures), c .before .before .before .before .before .before .before .before .before .before .before .pre .1 .6))
+  formula-children-requires c κs =
+      let at-value = c .before .before in
+      let at-tag4 = at-value .before .before in
+      let then = at-tag4 .before .before in
+      let start = then .before .before .before .before .before in
+      let a = start .args in (
+        omega (arith, level-down (formula-stood then), level-in (formula-stood then), start .pre .0),
+        (
+          start .pre .1 .0,
+          level-in (formula-stood then),
+          start .pre .1 .2,
+          start .pre .1 .3,
+          join-here (a .table .now)
+              (a .words .now) (a .log .now) (formula-stood then) (a .environment) (length (a .scratch .now) / 17)
+              (ap asTag (at-tag4 .tag4 .given .1)) (at-value .value .ensures),
+          start .pre .1 .6,
+        ),
+      )
 
   formula-enum-known-tag-5 : formula-lts.Need-enum-known-tag-5 formula-calls formula-at formula.Post
   formula-enum-known-tag-5 c = search needs
 
   formula-quantifier-requires : formula-lts.Need-quantifier-requires formula-calls formula-at formula.Post
-  formula-quantifier-requires c κs = (omega (arith, level-down (formula-stood (c .before .before .before .before .before)), level-in (formula-stood (c .before .before .before .before .before)), c .before .before .before .before .before .before .before .before .before .before .pre .0), (c .before .before .before .before .before .before .before .before .before .before .pre .1 .0, level-in (formula-stood (c .before .before .before .before .before)), c .before .before .before .before .before .before .before .before .before .before .pre .1 .2, c .before .before .before .before .before .before .before .before .before .before .pre .1 .3, quantifier-here (c .before .before .before .before .before .before .before .before .before .before .args .table .now) (c .before .before .before .before .before .before .before .before .before .before .args .words .now) (c .before .before .before .before .before .before .before .before .before .before .args .log .now) (formula-stood (c .before .before .before .before .before)) (c .before .before .before .before .before .before .before .before .before .before .args .environment) (length (c .before .before .before .before .before .before .before .before .before .before .args .scratch .now) / 17) (ap asTag (c .before .before .before .tag5 .given .1)), c .before .before .before .before .before .before .before .before .before .before .pre .1 .6))
+  formula-quantifier-requires c κs =
+      let at-tag5 = c .before .before .before in
+      let then = at-tag5 .before .before in
+      let start = then .before .before .before .before .before in
+      let a = start .args in (
+        omega (arith, level-down (formula-stood then), level-in (formula-stood then), start .pre .0),
+        (
+          start .pre .1 .0,
+          level-in (formula-stood then),
+          start .pre .1 .2,
+          start .pre .1 .3,
+          quantifier-here
+              (a .table .now) (a .words .now) (a .log .now) (formula-stood then) (a .environment)
+              (length (a .scratch .now) / 17) (ap asTag (at-tag5 .tag5 .given .1)),
+          start .pre .1 .6,
+        ),
+      )
 
   formula-returns : formula-lts.Need-returns formula-calls formula-at formula.Post
-  formula-returns c = node-plain (c .before .before .before .before .before .before .before .before .args .table .now) (c .before .before .before .before .before .before .before .before .args .words .now) (c .before .before .before .before .before .before .before .before .args .log .now) (formula-stood (c .before .before .before)) (c .before .before .before .before .before .before .before .before .args .environment) (length (c .before .before .before .before .before .before .before .before .args .scratch .now) / 17) (ap asTag (c .before .tag .given .1)) (c .before .before .before .before .before .before .before .before .args .out .now)
+  formula-returns c =
+      let then = c .before .before .before in
+      let a = then .before .before .before .before .before .args in
+      node-plain (a .table .now) (a .words .now) (a .log .now) (formula-stood then) (a .environment)
+      (length (a .scratch .now) / 17) (ap asTag (c .before .tag .given .1)) (a .out .now)
 
   formula-same-length : formula-lts.Need-same-length formula-calls formula-at formula.Post
   formula-same-length c = c .before .atom .kept .1 .1 .1 .1 .1 .1 .1 .1 .0
 
   formula-returns-2 : formula-lts.Need-returns-2 formula-calls formula-at formula.Post
-  formula-returns-2 c = node-atom (c .before .before .before .before .before .before .before .before .before .before .before .args .table .now) (c .before .before .before .before .before .before .before .before .before .before .before .args .words .now) (c .before .before .before .before .before .before .before .before .before .before .before .args .log .now) (formula-stood (c .before .before .before .before .before .before)) (c .before .before .before .before .before .before .before .before .before .before .before .args .environment) (length (c .before .before .before .before .before .before .before .before .before .before .before .args .scratch .now) / 17) (ap asTag (c .before .before .before .before .tag2 .given .1)) (c .before .before .before .before .before .before .before .before .before .before .before .args .out .now) _ _ (c .before .atom .ensures)
+  formula-returns-2 c =
+      let at-tag2 = c .before .before .before .before in
+      let then = at-tag2 .before .before in
+      let a = then .before .before .before .before .before .args in
+      node-atom (a .table .now) (a .words .now) (a .log .now) (formula-stood then) (a .environment)
+      (length (a .scratch .now) / 17) (ap asTag (at-tag2 .tag2 .given .1)) (a .out .now) _ _ (c .before .atom .ensures)
 
   formula-returns-3 : formula-lts.Need-returns-3 formula-calls formula-at formula.Post
-  formula-returns-3 c = node-compare (c .before .before .before .before .before .before .before .before .before .args .table .now) (c .before .before .before .before .before .before .before .before .before .args .words .now) (c .before .before .before .before .before .before .before .before .before .args .log .now) (formula-stood (c .before .before .before .before)) (c .before .before .before .before .before .before .before .before .before .args .environment) (length (c .before .before .before .before .before .before .before .before .before .args .scratch .now) / 17) (ap asTag (c .before .before .tag3 .given .1)) (c .before .before .before .before .before .before .before .before .before .args .out .now) _ (c .compare .ensures)
+  formula-returns-3 c =
+      let at-tag3 = c .before .before in
+      let then = at-tag3 .before .before in
+      let a = then .before .before .before .before .before .args in
+      node-compare (a .table .now) (a .words .now) (a .log .now) (formula-stood then) (a .environment)
+      (length (a .scratch .now) / 17) (ap asTag (at-tag3 .tag3 .given .1)) (a .out .now) _ (c .compare .ensures)
 
   formula-same-length-2 : formula-lts.Need-same-length-2 formula-calls formula-at formula.Post
   formula-same-length-2 c = c .before .before .children .kept .1 .1 .1 .1 .1 .0
@@ -353,7 +585,15 @@ module _ (t : ℕ) where
   formula-same-length-3 c = c .before .before .children .kept .1 .1 .1 .1 .1 .1 .0
 
   formula-returns-4 : formula-lts.Need-returns-4 formula-calls formula-at formula.Post
-  formula-returns-4 c = node-join (c .before .before .before .before .before .before .before .before .before .before .before .before .before .before .args .table .now) (c .before .before .before .before .before .before .before .before .before .before .before .before .before .before .args .words .now) (c .before .before .before .before .before .before .before .before .before .before .before .before .before .before .args .log .now) (formula-stood (c .before .before .before .before .before .before .before .before .before)) (c .before .before .before .before .before .before .before .before .before .before .before .before .before .before .args .environment) (length (c .before .before .before .before .before .before .before .before .before .before .before .before .before .before .args .scratch .now) / 17) (ap asTag (c .before .before .before .before .before .before .before .tag4 .given .1)) (c .before .before .before .before .before .value .ensures) (c .before .before .children .ensures)
+  formula-returns-4 c =
+      let at-children = c .before .before in
+      let at-value = at-children .before .before .before in
+      let at-tag4 = at-value .before .before in
+      let then = at-tag4 .before .before in
+      let a = then .before .before .before .before .before .args in
+      node-join (a .table .now) (a .words .now) (a .log .now) (formula-stood then) (a .environment)
+      (length (a .scratch .now) / 17) (ap asTag (at-tag4 .tag4 .given .1)) (at-value .value .ensures)
+      (at-children .children .ensures)
 
   formula-same-length-4 : formula-lts.Need-same-length-4 formula-calls formula-at formula.Post
   formula-same-length-4 c = c .before .before .quantifier .kept .1 .1 .1 .1 .1 .0
@@ -362,46 +602,122 @@ module _ (t : ℕ) where
   formula-same-length-5 c = c .before .before .quantifier .kept .1 .1 .1 .1 .1 .1 .0
 
   formula-returns-5 : formula-lts.Need-returns-5 formula-calls formula-at formula.Post
-  formula-returns-5 c = node-quantifier (c .before .before .before .before .before .before .before .before .before .before .before .before .before .args .table .now) (c .before .before .before .before .before .before .before .before .before .before .before .before .before .args .words .now) (c .before .before .before .before .before .before .before .before .before .before .before .before .before .args .log .now) (formula-stood (c .before .before .before .before .before .before .before .before)) (c .before .before .before .before .before .before .before .before .before .before .before .before .before .args .environment) (length (c .before .before .before .before .before .before .before .before .before .before .before .before .before .args .scratch .now) / 17) (ap asTag (c .before .before .before .before .before .before .tag5 .given .1)) (c .before .before .quantifier .ensures)
+  formula-returns-5 c =
+      let at-quantifier = c .before .before in
+      let at-tag5 = at-quantifier .before .before .before .before in
+      let then = at-tag5 .before .before in
+      let a = then .before .before .before .before .before .args in
+      node-quantifier (a .table .now) (a .words .now) (a .log .now) (formula-stood then) (a .environment)
+      (length (a .scratch .now) / 17) (ap asTag (at-tag5 .tag5 .given .1)) (at-quantifier .quantifier .ensures)
 
   formula-returns-6 : formula-lts.Need-returns-6 formula-calls formula-at formula.Post
-  formula-returns-6 c = ⊎-elim (λ e. node-some (c .before .before .before .before .before .before .args .table .now) (c .before .before .before .before .before .before .args .words .now) (c .before .before .before .before .before .before .args .log .now) (formula-stood (c .before)) (c .before .before .before .before .before .before .args .environment) (length (c .before .before .before .before .before .before .args .scratch .now) / 17) e) (λ e. node-unused (c .before .before .before .before .before .before .args .table .now) (c .before .before .before .before .before .before .args .words .now) (c .before .before .before .before .before .before .args .log .now) (formula-stood (c .before)) (c .before .before .before .before .before .before .args .environment) (length (c .before .before .before .before .before .before .args .scratch .now) / 17) e) (other-tag (c .before .before .before .tag-at .result) (c .match .keys6))
+  formula-returns-6 c =
+      let then = c .before in
+      let at-tag-at = then .before .before in
+      let a = at-tag-at .before .before .before .args in
+      ⊎-elim
+      (λ e. node-some (a .table .now) (a .words .now) (a .log .now) (formula-stood then) (a .environment)
+      (length (a .scratch .now) / 17) e)
+      (λ e. node-unused (a .table .now) (a .words .now) (a .log .now) (formula-stood then) (a .environment)
+      (length (a .scratch .now) / 17) e) (other-tag (at-tag-at .tag-at .result) (c .match .keys6))
 
   instances-new-requires : instances-lts.Need-new-requires instances-calls instances-at instances.Post instances-Inv-loop instances-μ-loop
   instances-new-requires c κs = search needs
 
   instances-loop-holds : instances-lts.Need-loop-holds instances-calls instances-at instances.Post instances-Inv-loop instances-μ-loop
-  instances-loop-holds c = (omega arith, kept-start (c .before .before .before .args .table .now) (c .before .before .before .args .words .now) (c .before .before .before .args .log .now) (c .before .before .before .args .kind) (c .before .before .before .args .level) (c .before .before .before .args .scope) (c .before .before .before .args .v) (c .before .before .before .args .body) (c .before .before .before .args .from) (c .before .before .before .args .k) (c .before .before .before .args .used) (c .before .before .before .args .environment) (c .before .before .before .args .scratch .now), refl, instances-start (c .before .before .before .args .table .now) (c .before .before .before .args .words .now) (c .before .before .before .args .log .now) (c .before .before .before .args .kind) (c .before .before .before .args .level) (c .before .before .before .args .scope) (c .before .before .before .args .v) (c .before .before .before .args .body) (c .before .before .before .args .from) (c .before .before .before .args .k) (c .before .before .before .args .used) (c .before .before .before .args .environment) (c .before .before .before .args .scratch .now) (c .before .before .before .args .body) (c .new .result) (c .before .before .before .args .out .now) (c .new .ensures))
+  instances-loop-holds c =
+      let a = c .before .before .before .args in (
+        omega arith,
+        kept-start (a .table .now) (a .words .now) (a .log .now) (a .kind) (a .level) (a .scope) (a .v)
+            (a .body) (a .from) (a .k) (a .used) (a .environment) (a .scratch .now),
+        refl,
+        instances-start (a .table .now)
+            (a .words .now) (a .log .now) (a .kind) (a .level) (a .scope) (a .v) (a .body) (a .from) (a .k) (a .used)
+            (a .environment) (a .scratch .now) (a .body) (c .new .result) (a .out .now) (c .new .ensures),
+      )
 
   instances-add-instance : instances-lts.Need-add-instance instances-calls instances-at instances.Post instances-Inv-loop instances-μ-loop
-  instances-add-instance c = omega (arith, c .before .loop-test .taken, c .before .before .before .before .before .before .pre .1 .5, c .before .before .before .before .before .before .fits .used)
+  instances-add-instance c =
+      let at-fits = c .before .before .before .before .before .before in
+      omega (arith, c .before .loop-test .taken, at-fits .pre .1 .5, at-fits .fits .used)
 
   instances-instance-requires : instances-lts.Need-instance-requires instances-calls instances-at instances.Post instances-Inv-loop instances-μ-loop
-  instances-instance-requires c κs = (c .before .before .before .before .before .before .pre .1 .2, instance-place (c .before .before .before .before .before .before .args .table .now) (c .before .before .before .before .before .before .args .words .now) (c .before .before .before .before .before .before .args .log .now) (c .before .before .before .before .before .before .args .kind) (c .before .before .before .before .before .before .args .level) (c .before .before .before .before .before .before .args .scope) (c .before .before .before .before .before .before .args .v) (c .before .before .before .before .before .before .args .body) (c .before .before .before .before .before .before .args .from) (c .before .before .before .before .before .before .args .k) (c .before .before .before .before .before .before .args .used) (c .before .before .before .before .before .before .args .environment) (c .before .before .before .before .before .before .args .scratch .now) (c .before .before .loop .scratch) (c .before .before .loop .inv .1) (c .before .before .before .before .before .before .pre .1 .6) (c .before .before .loop .i) (c .before .loop-test .taken) (c .before .before .before .before .before .before .pre .1 .5) (c .before .before .before .before .before .before .pre .1 .2))
+  instances-instance-requires c κs =
+      let at-loop = c .before .before in
+      let loop = at-loop .loop in
+      let start = at-loop .before .before .before .before in
+      let a = start .args in (
+        start .pre .1 .2,
+        instance-place (a .table .now) (a .words .now) (a .log .now) (a .kind) (a .level) (a .scope)
+            (a .v) (a .body) (a .from) (a .k) (a .used) (a .environment) (a .scratch .now) (loop .scratch) (loop .inv .1)
+            (start .pre .1 .6) (loop .i) (c .before .loop-test .taken) (start .pre .1 .5) (start .pre .1 .2),
+      )
 
   instances-mul-room : instances-lts.Need-mul-room instances-calls instances-at instances.Post instances-Inv-loop instances-μ-loop
-  instances-mul-room c = omega (arith, c .before .before .before .before .before .before .before .pre .1 .6, c .before .before .before .before .before .before .before .good .1 .1 .1 .1 .1 .0)
+  instances-mul-room c =
+      let at-good = c .before .before .before .before .before .before .before in
+      omega (arith, at-good .pre .1 .6, at-good .good .1 .1 .1 .1 .1 .0)
 
   instances-mul-formula : instances-lts.Need-mul-formula instances-calls instances-at instances.Post instances-Inv-loop instances-μ-loop
-  instances-mul-formula c = omega (arith, c .before .before .before .before .before .before .before .pre .1 .6, c .before .before .before .before .before .before .before .good .1 .1 .1 .1 .1 .0)
+  instances-mul-formula c =
+      let at-good = c .before .before .before .before .before .before .before in
+      omega (arith, at-good .pre .1 .6, at-good .good .1 .1 .1 .1 .1 .0)
 
   instances-sub-formula : instances-lts.Need-sub-formula instances-calls instances-at instances.Post instances-Inv-loop instances-μ-loop
-  instances-sub-formula c = kept-within (c .before .before .before .before .before .before .before .args .table .now) (c .before .before .before .before .before .before .before .args .words .now) (c .before .before .before .before .before .before .before .args .log .now) (c .before .before .before .before .before .before .before .args .kind) (c .before .before .before .before .before .before .before .args .level) (c .before .before .before .before .before .before .before .args .scope) (c .before .before .before .before .before .before .before .args .v) (c .before .before .before .before .before .before .before .args .body) (c .before .before .before .before .before .before .before .args .from) (c .before .before .before .before .before .before .before .args .k) (c .before .before .before .before .before .before .before .args .used) (c .before .before .before .before .before .before .before .args .environment) (c .before .before .before .before .before .before .before .args .scratch .now) (c .before .before .before .loop .scratch) (c .before .before .before .loop .inv .1) (c .before .before .before .before .before .before .before .pre .1 .6)
+  instances-sub-formula c =
+      let at-loop = c .before .before .before in
+      let loop = at-loop .loop in
+      let start = at-loop .before .before .before .before in
+      let a = start .args in
+      kept-within (a .table .now) (a .words .now) (a .log .now) (a .kind) (a .level) (a .scope) (a .v) (a .body)
+      (a .from) (a .k) (a .used) (a .environment) (a .scratch .now) (loop .scratch) (loop .inv .1) (start .pre .1 .6)
 
   instances-part-formula-start : instances-lts.Need-part-formula-start instances-calls instances-at instances.Post instances-Inv-loop instances-μ-loop
-  instances-part-formula-start c = kept-within (c .before .before .before .before .before .before .before .args .table .now) (c .before .before .before .before .before .before .before .args .words .now) (c .before .before .before .before .before .before .before .args .log .now) (c .before .before .before .before .before .before .before .args .kind) (c .before .before .before .before .before .before .before .args .level) (c .before .before .before .before .before .before .before .args .scope) (c .before .before .before .before .before .before .before .args .v) (c .before .before .before .before .before .before .before .args .body) (c .before .before .before .before .before .before .before .args .from) (c .before .before .before .before .before .before .before .args .k) (c .before .before .before .before .before .before .before .args .used) (c .before .before .before .before .before .before .before .args .environment) (c .before .before .before .before .before .before .before .args .scratch .now) (c .before .before .before .loop .scratch) (c .before .before .before .loop .inv .1) (c .before .before .before .before .before .before .before .pre .1 .6)
+  instances-part-formula-start c =
+      let at-loop = c .before .before .before in
+      let loop = at-loop .loop in
+      let start = at-loop .before .before .before .before in
+      let a = start .args in
+      kept-within (a .table .now) (a .words .now) (a .log .now) (a .kind) (a .level) (a .scope) (a .v) (a .body)
+      (a .from) (a .k) (a .used) (a .environment) (a .scratch .now) (loop .scratch) (loop .inv .1) (start .pre .1 .6)
 
   instances-part-formula-end : instances-lts.Need-part-formula-end instances-calls instances-at instances.Post instances-Inv-loop instances-μ-loop
   instances-part-formula-end c = omega arith
 
   instances-mul-formula-2 : instances-lts.Need-mul-formula-2 instances-calls instances-at instances.Post instances-Inv-loop instances-μ-loop
-  instances-mul-formula-2 c = omega (arith, instances-within (c .before .before .before .before .before .before .before .before .args .table .now) (c .before .before .before .before .before .before .before .before .args .words .now) (c .before .before .before .before .before .before .before .before .args .log .now) (c .before .before .before .before .before .before .before .before .args .kind) (c .before .before .before .before .before .before .before .before .args .level) (c .before .before .before .before .before .before .before .before .args .scope) (c .before .before .before .before .before .before .before .before .args .v) (c .before .before .before .before .before .before .before .before .args .body) (c .before .before .before .before .before .before .before .before .args .from) (c .before .before .before .before .before .before .before .before .args .k) (c .before .before .before .before .before .before .before .before .args .used) (c .before .before .before .before .before .before .before .before .args .environment) (c .before .before .before .before .before .before .before .before .args .scratch .now) (c .before .before .before .before .loop .i) (c .before .before .before .before .loop .next) (c .before .before .before .before .loop .join) (c .before .before .before .before .loop .out) (c .before .before .before .before .loop .inv .3) (c .before .before .before .before .before .before .before .before .pre .1 .4) (c .before .before .before .before .before .before .before .before .pre .1 .7) (c .before .before .before .before .before .before .before .before .pre .1 .8), c .before .before .before .before .loop .inv .2, c .before .before .before .before .before .before .before .before .pre .1 .3)
+  instances-mul-formula-2 c =
+      let at-loop = c .before .before .before .before in
+      let loop = at-loop .loop in
+      let start = at-loop .before .before .before .before in
+      let a = start .args in
+      omega (
+        arith,
+        instances-within (a .table .now) (a .words .now) (a .log .now) (a .kind) (a .level) (a .scope) (a .v)
+            (a .body) (a .from) (a .k) (a .used) (a .environment) (a .scratch .now) (loop .i) (loop .next) (loop .join)
+            (loop .out) (loop .inv .3) (start .pre .1 .4) (start .pre .1 .7) (start .pre .1 .8),
+        loop .inv .2,
+        start .pre .1 .3,
+      )
 
   instances-sub-formula-2 : instances-lts.Need-sub-formula-2 instances-calls instances-at instances.Post instances-Inv-loop instances-μ-loop
-  instances-sub-formula-2 c = instances-within (c .before .before .before .before .before .before .before .before .args .table .now) (c .before .before .before .before .before .before .before .before .args .words .now) (c .before .before .before .before .before .before .before .before .args .log .now) (c .before .before .before .before .before .before .before .before .args .kind) (c .before .before .before .before .before .before .before .before .args .level) (c .before .before .before .before .before .before .before .before .args .scope) (c .before .before .before .before .before .before .before .before .args .v) (c .before .before .before .before .before .before .before .before .args .body) (c .before .before .before .before .before .before .before .before .args .from) (c .before .before .before .before .before .before .before .before .args .k) (c .before .before .before .before .before .before .before .before .args .used) (c .before .before .before .before .before .before .before .before .args .environment) (c .before .before .before .before .before .before .before .before .args .scratch .now) (c .before .before .before .before .loop .i) (c .before .before .before .before .loop .next) (c .before .before .before .before .loop .join) (c .before .before .before .before .loop .out) (c .before .before .before .before .loop .inv .3) (c .before .before .before .before .before .before .before .before .pre .1 .4) (c .before .before .before .before .before .before .before .before .pre .1 .7) (c .before .before .before .before .before .before .before .before .pre .1 .8)
+  instances-sub-formula-2 c =
+      let at-loop = c .before .before .before .before in
+      let loop = at-loop .loop in
+      let start = at-loop .before .before .before .before in
+      let a = start .args in
+      instances-within (a .table .now) (a .words .now) (a .log .now) (a .kind) (a .level) (a .scope) (a .v) (a .body)
+      (a .from) (a .k) (a .used) (a .environment) (a .scratch .now) (loop .i) (loop .next) (loop .join) (loop .out)
+      (loop .inv .3) (start .pre .1 .4) (start .pre .1 .7) (start .pre .1 .8)
 
   instances-part-formula-start-2 : instances-lts.Need-part-formula-start-2 instances-calls instances-at instances.Post instances-Inv-loop instances-μ-loop
-  instances-part-formula-start-2 c = instances-within (c .before .before .before .before .before .before .before .before .args .table .now) (c .before .before .before .before .before .before .before .before .args .words .now) (c .before .before .before .before .before .before .before .before .args .log .now) (c .before .before .before .before .before .before .before .before .args .kind) (c .before .before .before .before .before .before .before .before .args .level) (c .before .before .before .before .before .before .before .before .args .scope) (c .before .before .before .before .before .before .before .before .args .v) (c .before .before .before .before .before .before .before .before .args .body) (c .before .before .before .before .before .before .before .before .args .from) (c .before .before .before .before .before .before .before .before .args .k) (c .before .before .before .before .before .before .before .before .args .used) (c .before .before .before .before .before .before .before .before .args .environment) (c .before .before .before .before .before .before .before .before .args .scratch .now) (c .before .before .before .before .loop .i) (c .before .before .before .before .loop .next) (c .before .before .before .before .loop .join) (c .before .before .before .before .loop .out) (c .before .before .before .before .loop .inv .3) (c .before .before .before .before .before .before .before .before .pre .1 .4) (c .before .before .before .before .before .before .before .before .pre .1 .7) (c .before .before .before .before .before .before .before .before .pre .1 .8)
+  instances-part-formula-start-2 c =
+      let at-loop = c .before .before .before .before in
+      let loop = at-loop .loop in
+      let start = at-loop .before .before .before .before in
+      let a = start .args in
+      instances-within (a .table .now) (a .words .now) (a .log .now) (a .kind) (a .level) (a .scope) (a .v) (a .body)
+      (a .from) (a .k) (a .used) (a .environment) (a .scratch .now) (loop .i) (loop .next) (loop .join) (loop .out)
+      (loop .inv .3) (start .pre .1 .4) (start .pre .1 .7) (start .pre .1 .8)
 
   instances-part-formula-end-2 : instances-lts.Need-part-formula-end-2 instances-calls instances-at instances.Post instances-Inv-loop instances-μ-loop
   instances-part-formula-end-2 c = omega arith
@@ -410,50 +726,157 @@ module _ (t : ℕ) where
   instances-add-formula c = omega (arith, c .before .before .before .before .before .before .before .before .before .pre .1 .2)
 
   instances-formula-requires : instances-lts.Need-formula-requires instances-calls instances-at instances.Post instances-Inv-loop instances-μ-loop
-  instances-formula-requires c κs = (
-    omega (arith, c .before .before .before .before .before .before .before .before .before .pre .0, c .before .before .before .before .before .before .before .before .before .pre .1 .1),
-    (
-      c .before .before .before .before .before .before .before .before .before .pre .1 .0,
-      c .before .before .before .before .before .before .before .before .before .pre .1 .1,
-      c .before .before .before .before .before .before .before .before .before .pre .1 .2,
-      omega (arith, rest-long (c .before .before .before .before .before .loop .out) (c .before .before .before .before .before .loop .join .words), c .before .before .before .before .before .loop .inv .2, c .before .before .before .before .before .before .before .before .before .pre .1 .3),
-      formula-kind,
-      c .before .before .before .before .before .before .before .before .before .pre .1 .4,
-      instance-some (c .before .before .before .before .before .before .before .before .before .args .table .now) (c .before .before .before .before .before .before .before .before .before .args .words .now) (c .before .before .before .before .before .before .before .before .before .args .log .now) (c .before .before .before .before .before .before .before .before .before .args .kind) (c .before .before .before .before .before .before .before .before .before .args .level) (c .before .before .before .before .before .before .before .before .before .args .scope) (c .before .before .before .before .before .before .before .before .before .args .v) (c .before .before .before .before .before .before .before .before .before .args .body) (c .before .before .before .before .before .before .before .before .before .args .from) (c .before .before .before .before .before .before .before .before .before .args .k) (c .before .before .before .before .before .before .before .before .before .args .used) (c .before .before .before .before .before .before .before .before .before .args .environment) (c .before .before .before .before .before .before .before .before .before .args .scratch .now) (c .before .before .before .before .before .loop .scratch) (c .before .before .before .before .before .loop .inv .1) (c .before .before .before .before .before .before .before .before .before .pre .1 .6) (c .before .before .before .before .before .loop .i) (c .before .before .before .before .loop-test .taken) (c .before .before .before .before .before .before .before .before .before .pre .1 .5) (c .before .before .before .before .before .before .before .before .before .pre .1 .2) (c .before .before .instance .result) (c .before .before .instance .ensures) (c .before .before .before .before .before .before .before .before .before .pre .1 .7),
-    ),
-  )
+  instances-formula-requires c κs =
+      let at-instance = c .before .before in
+      let instance = at-instance .instance in
+      let at-loop-test = at-instance .before .before in
+      let at-loop = at-loop-test .before in
+      let loop = at-loop .loop in
+      let start = at-loop .before .before .before .before in
+      let a = start .args in (
+        omega (arith, start .pre .0, start .pre .1 .1),
+        (
+          start .pre .1 .0,
+          start .pre .1 .1,
+          start .pre .1 .2,
+          omega
+              (arith, rest-long (loop .out) (loop .join .words), loop .inv .2, start .pre .1 .3),
+          formula-kind,
+          start .pre .1 .4,
+          instance-some (a .table .now) (a .words .now) (a .log .now) (a .kind) (a .level) (a .scope)
+              (a .v) (a .body) (a .from) (a .k) (a .used) (a .environment) (a .scratch .now) (loop .scratch) (loop .inv .1)
+              (start .pre .1 .6) (loop .i) (at-loop-test .loop-test .taken) (start .pre .1 .5) (start .pre .1 .2)
+              (instance .result) (instance .ensures) (start .pre .1 .7),
+        ),
+      )
 
   instances-add-requires : instances-lts.Need-add-requires instances-calls instances-at instances.Post instances-Inv-loop instances-μ-loop
-  instances-add-requires c κs = (omega (arith, lent-long (c .before .before .before .before .before .before .before .before .before .loop .out) (c .before .before .before .before .before .before .before .before .before .loop .join .words) (c .before .before .before .formula .last .1 .1 .1 .1 .1 .1 .0) (instances-within (c .before .before .before .before .before .before .before .before .before .before .before .before .before .args .table .now) (c .before .before .before .before .before .before .before .before .before .before .before .before .before .args .words .now) (c .before .before .before .before .before .before .before .before .before .before .before .before .before .args .log .now) (c .before .before .before .before .before .before .before .before .before .before .before .before .before .args .kind) (c .before .before .before .before .before .before .before .before .before .before .before .before .before .args .level) (c .before .before .before .before .before .before .before .before .before .before .before .before .before .args .scope) (c .before .before .before .before .before .before .before .before .before .before .before .before .before .args .v) (c .before .before .before .before .before .before .before .before .before .before .before .before .before .args .body) (c .before .before .before .before .before .before .before .before .before .before .before .before .before .args .from) (c .before .before .before .before .before .before .before .before .before .before .before .before .before .args .k) (c .before .before .before .before .before .before .before .before .before .before .before .before .before .args .used) (c .before .before .before .before .before .before .before .before .before .before .before .before .before .args .environment) (c .before .before .before .before .before .before .before .before .before .before .before .before .before .args .scratch .now) (c .before .before .before .before .before .before .before .before .before .loop .i) (c .before .before .before .before .before .before .before .before .before .loop .next) (c .before .before .before .before .before .before .before .before .before .loop .join) (c .before .before .before .before .before .before .before .before .before .loop .out) (c .before .before .before .before .before .before .before .before .before .loop .inv .3) (c .before .before .before .before .before .before .before .before .before .before .before .before .before .pre .1 .4) (c .before .before .before .before .before .before .before .before .before .before .before .before .before .pre .1 .7) (c .before .before .before .before .before .before .before .before .before .before .before .before .before .pre .1 .8)) (c .before .before .before .formula .kept .1 .1 .1 .1 .1 .1 .0), c .before .before .before .before .before .before .before .before .before .loop .inv .2, c .before .before .before .before .before .before .before .before .before .before .before .before .before .pre .1 .3), instances-adding (c .before .before .before .before .before .before .before .before .before .before .before .before .before .args .table .now) (c .before .before .before .before .before .before .before .before .before .before .before .before .before .args .words .now) (c .before .before .before .before .before .before .before .before .before .before .before .before .before .args .log .now) (c .before .before .before .before .before .before .before .before .before .before .before .before .before .args .kind) (c .before .before .before .before .before .before .before .before .before .before .before .before .before .args .level) (c .before .before .before .before .before .before .before .before .before .before .before .before .before .args .scope) (c .before .before .before .before .before .before .before .before .before .before .before .before .before .args .v) (c .before .before .before .before .before .before .before .before .before .before .before .before .before .args .body) (c .before .before .before .before .before .before .before .before .before .before .before .before .before .args .from) (c .before .before .before .before .before .before .before .before .before .before .before .before .before .args .k) (c .before .before .before .before .before .before .before .before .before .before .before .before .before .args .used) (c .before .before .before .before .before .before .before .before .before .before .before .before .before .args .environment) (c .before .before .before .before .before .before .before .before .before .before .before .before .before .args .scratch .now) (c .before .before .before .before .before .before .before .before .before .loop .scratch) (c .before .before .before .before .before .before .before .before .before .loop .inv .1) (c .before .before .before .before .before .before .before .before .before .before .before .before .before .pre .1 .6) (c .before .before .before .before .before .before .before .before .before .loop .i) (c .before .before .before .before .before .before .before .before .loop-test .taken) (c .before .before .before .before .before .before .before .before .before .before .before .before .before .pre .1 .5) (c .before .before .before .before .before .before .before .before .before .before .before .before .before .pre .1 .2) (c .before .before .before .before .before .before .instance .result) (c .before .before .before .before .before .before .instance .ensures) (c .before .before .before .before .before .before .before .before .before .loop .next) (c .before .before .before .before .before .before .before .before .before .loop .join) (c .before .before .before .before .before .before .before .before .before .loop .out) (c .before .before .before .before .before .before .before .before .before .loop .inv .3) (c .before .before .before .formula .last .1 .1 .1 .1 .1 .1 .0) (c .before .before .before .formula .result) (c .before .before .before .formula .ensures) (c .before .before .before .before .before .before .before .before .before .before .before .before .before .pre .1 .4) (c .before .before .before .before .before .before .before .before .before .before .before .before .before .pre .1 .7) (c .before .before .before .before .before .before .before .before .before .before .before .before .before .pre .1 .8))
+  instances-add-requires c κs =
+      let at-formula = c .before .before .before in
+      let formula = at-formula .formula in
+      let at-instance = at-formula .before .before .before in
+      let instance = at-instance .instance in
+      let at-loop-test = at-instance .before .before in
+      let at-loop = at-loop-test .before in
+      let loop = at-loop .loop in
+      let start = at-loop .before .before .before .before in
+      let a = start .args in (
+        omega (
+          arith,
+          lent-long (loop .out) (loop .join .words) (formula .last .1 .1 .1 .1 .1 .1 .0)
+              (instances-within (a .table .now) (a .words .now) (a .log .now) (a .kind) (a .level) (a .scope) (a .v) (a .body)
+              (a .from) (a .k) (a .used) (a .environment) (a .scratch .now) (loop .i) (loop .next) (loop .join) (loop .out)
+              (loop .inv .3) (start .pre .1 .4) (start .pre .1 .7) (start .pre .1 .8)) (formula .kept .1 .1 .1 .1 .1 .1 .0),
+          loop .inv .2,
+          start .pre .1 .3,
+        ),
+        instances-adding (a .table .now) (a .words .now) (a .log .now) (a .kind)
+            (a .level) (a .scope) (a .v) (a .body) (a .from) (a .k) (a .used) (a .environment) (a .scratch .now)
+            (loop .scratch) (loop .inv .1) (start .pre .1 .6) (loop .i) (at-loop-test .loop-test .taken) (start .pre .1 .5)
+            (start .pre .1 .2) (instance .result) (instance .ensures) (loop .next) (loop .join) (loop .out) (loop .inv .3)
+            (formula .last .1 .1 .1 .1 .1 .1 .0) (formula .result) (formula .ensures) (start .pre .1 .4) (start .pre .1 .7)
+            (start .pre .1 .8),
+      )
 
   instances-enum-told : instances-lts.Need-enum-told instances-calls instances-at instances.Post instances-Inv-loop instances-μ-loop
   instances-enum-told c = search needs
 
   instances-same-length : instances-lts.Need-same-length instances-calls instances-at instances.Post instances-Inv-loop instances-μ-loop
-  instances-same-length c = (kept-lent (c .before .before .before .before .before .before .before .before .before .before .before .before .before .before .before .before .before .args .table .now) (c .before .before .before .before .before .before .before .before .before .before .before .before .before .before .before .before .before .args .words .now) (c .before .before .before .before .before .before .before .before .before .before .before .before .before .before .before .before .before .args .log .now) (c .before .before .before .before .before .before .before .before .before .before .before .before .before .before .before .before .before .args .kind) (c .before .before .before .before .before .before .before .before .before .before .before .before .before .before .before .before .before .args .level) (c .before .before .before .before .before .before .before .before .before .before .before .before .before .before .before .before .before .args .scope) (c .before .before .before .before .before .before .before .before .before .before .before .before .before .before .before .before .before .args .v) (c .before .before .before .before .before .before .before .before .before .before .before .before .before .before .before .before .before .args .body) (c .before .before .before .before .before .before .before .before .before .before .before .before .before .before .before .before .before .args .from) (c .before .before .before .before .before .before .before .before .before .before .before .before .before .before .before .before .before .args .k) (c .before .before .before .before .before .before .before .before .before .before .before .before .before .before .before .before .before .args .used) (c .before .before .before .before .before .before .before .before .before .before .before .before .before .before .before .before .before .args .environment) (c .before .before .before .before .before .before .before .before .before .before .before .before .before .before .before .before .before .args .scratch .now) (c .before .before .before .before .before .before .before .before .before .before .before .before .before .loop .scratch) (c .before .before .before .before .before .before .before .before .before .before .before .before .before .loop .inv .1) (c .before .before .before .before .before .before .before .before .before .before .before .before .before .before .before .before .before .pre .1 .6) (c .before .before .before .before .before .before .before .formula .last .1 .1 .1 .1 .1 .0) (c .before .before .before .before .before .before .before .formula .kept .1 .1 .1 .1 .1 .0)) .0
+  instances-same-length c =
+      let at-formula = c .before .before .before .before .before .before .before in
+      let formula = at-formula .formula in
+      let at-loop = at-formula .before .before .before .before .before .before in
+      let loop = at-loop .loop in
+      let start = at-loop .before .before .before .before in
+      let a = start .args in
+      (kept-lent (a .table .now) (a .words .now) (a .log .now) (a .kind) (a .level) (a .scope) (a .v) (a .body) (a .from)
+      (a .k) (a .used) (a .environment) (a .scratch .now) (loop .scratch) (loop .inv .1) (start .pre .1 .6)
+      (formula .last .1 .1 .1 .1 .1 .0) (formula .kept .1 .1 .1 .1 .1 .0)) .0
 
   instances-same-length-2 : instances-lts.Need-same-length-2 instances-calls instances-at instances.Post instances-Inv-loop instances-μ-loop
-  instances-same-length-2 c = c .before .before .before .add .kept .1 .0 ∙ lent-long (c .before .before .before .before .before .before .before .before .before .before .before .before .before .loop .out) (c .before .before .before .before .before .before .before .before .before .before .before .before .before .loop .join .words) (c .before .before .before .before .before .before .before .formula .last .1 .1 .1 .1 .1 .1 .0) (instances-within (c .before .before .before .before .before .before .before .before .before .before .before .before .before .before .before .before .before .args .table .now) (c .before .before .before .before .before .before .before .before .before .before .before .before .before .before .before .before .before .args .words .now) (c .before .before .before .before .before .before .before .before .before .before .before .before .before .before .before .before .before .args .log .now) (c .before .before .before .before .before .before .before .before .before .before .before .before .before .before .before .before .before .args .kind) (c .before .before .before .before .before .before .before .before .before .before .before .before .before .before .before .before .before .args .level) (c .before .before .before .before .before .before .before .before .before .before .before .before .before .before .before .before .before .args .scope) (c .before .before .before .before .before .before .before .before .before .before .before .before .before .before .before .before .before .args .v) (c .before .before .before .before .before .before .before .before .before .before .before .before .before .before .before .before .before .args .body) (c .before .before .before .before .before .before .before .before .before .before .before .before .before .before .before .before .before .args .from) (c .before .before .before .before .before .before .before .before .before .before .before .before .before .before .before .before .before .args .k) (c .before .before .before .before .before .before .before .before .before .before .before .before .before .before .before .before .before .args .used) (c .before .before .before .before .before .before .before .before .before .before .before .before .before .before .before .before .before .args .environment) (c .before .before .before .before .before .before .before .before .before .before .before .before .before .before .before .before .before .args .scratch .now) (c .before .before .before .before .before .before .before .before .before .before .before .before .before .loop .i) (c .before .before .before .before .before .before .before .before .before .before .before .before .before .loop .next) (c .before .before .before .before .before .before .before .before .before .before .before .before .before .loop .join) (c .before .before .before .before .before .before .before .before .before .before .before .before .before .loop .out) (c .before .before .before .before .before .before .before .before .before .before .before .before .before .loop .inv .3) (c .before .before .before .before .before .before .before .before .before .before .before .before .before .before .before .before .before .pre .1 .4) (c .before .before .before .before .before .before .before .before .before .before .before .before .before .before .before .before .before .pre .1 .7) (c .before .before .before .before .before .before .before .before .before .before .before .before .before .before .before .before .before .pre .1 .8)) (c .before .before .before .before .before .before .before .formula .kept .1 .1 .1 .1 .1 .1 .0) ∙ c .before .before .before .before .before .before .before .before .before .before .before .before .before .loop .inv .2
+  instances-same-length-2 c =
+      let at-add = c .before .before .before in
+      let at-formula = at-add .before .before .before .before in
+      let formula = at-formula .formula in
+      let at-loop = at-formula .before .before .before .before .before .before in
+      let loop = at-loop .loop in
+      let start = at-loop .before .before .before .before in
+      let a = start .args in
+      at-add .add .kept .1 .0 ∙ lent-long (loop .out) (loop .join .words) (formula .last .1 .1 .1 .1 .1 .1 .0)
+      (instances-within (a .table .now) (a .words .now) (a .log .now) (a .kind) (a .level) (a .scope) (a .v) (a .body)
+      (a .from) (a .k) (a .used) (a .environment) (a .scratch .now) (loop .i) (loop .next) (loop .join) (loop .out)
+      (loop .inv .3) (start .pre .1 .4) (start .pre .1 .7) (start .pre .1 .8)) (formula .kept .1 .1 .1 .1 .1 .1 .0)
+      ∙ loop .inv .2
 
   instances-returns : instances-lts.Need-returns instances-calls instances-at instances.Post instances-Inv-loop instances-μ-loop
-  instances-returns c = (instances-short (c .before .before .before .before .before .before .before .before .before .before .before .before .before .before .before .before .before .args .table .now) (c .before .before .before .before .before .before .before .before .before .before .before .before .before .before .before .before .before .args .words .now) (c .before .before .before .before .before .before .before .before .before .before .before .before .before .before .before .before .before .args .log .now) (c .before .before .before .before .before .before .before .before .before .before .before .before .before .before .before .before .before .args .kind) (c .before .before .before .before .before .before .before .before .before .before .before .before .before .before .before .before .before .args .level) (c .before .before .before .before .before .before .before .before .before .before .before .before .before .before .before .before .before .args .scope) (c .before .before .before .before .before .before .before .before .before .before .before .before .before .before .before .before .before .args .v) (c .before .before .before .before .before .before .before .before .before .before .before .before .before .before .before .before .before .args .body) (c .before .before .before .before .before .before .before .before .before .before .before .before .before .before .before .before .before .args .from) (c .before .before .before .before .before .before .before .before .before .before .before .before .before .before .before .before .before .args .k) (c .before .before .before .before .before .before .before .before .before .before .before .before .before .before .before .before .before .args .used) (c .before .before .before .before .before .before .before .before .before .before .before .before .before .before .before .before .before .args .environment) (c .before .before .before .before .before .before .before .before .before .before .before .before .before .before .before .before .before .args .scratch .now) (c .before .before .before .before .before .before .before .before .before .before .before .before .before .loop .scratch) (c .before .before .before .before .before .before .before .before .before .before .before .before .before .loop .inv .1) (c .before .before .before .before .before .before .before .before .before .before .before .before .before .before .before .before .before .pre .1 .6) (c .before .before .before .before .before .before .before .before .before .before .before .before .before .loop .i) (c .before .before .before .before .before .before .before .before .before .before .before .before .loop-test .taken) (c .before .before .before .before .before .before .before .before .before .before .before .before .before .before .before .before .before .pre .1 .5) (c .before .before .before .before .before .before .before .before .before .before .before .before .before .before .before .before .before .pre .1 .2) (c .before .before .before .before .before .before .before .before .before .before .instance .result) (c .before .before .before .before .before .before .before .before .before .before .instance .ensures) (c .before .before .before .before .before .before .before .before .before .before .before .before .before .loop .next) (c .before .before .before .before .before .before .before .before .before .before .before .before .before .loop .join) (c .before .before .before .before .before .before .before .before .before .before .before .before .before .loop .out) (c .before .before .before .before .before .before .before .before .before .before .before .before .before .loop .inv .3) (c .before .before .before .before .before .before .before .formula .last .1 .1 .1 .1 .1 .1 .0) (c .before .before .before .before .before .before .before .formula .result) (c .before .before .before .before .before .before .before .formula .ensures) _ _ (c .before .before .before .add .ensures) (c .enum-told .given .1) (c .before .before .before .before .before .before .before .before .before .before .before .before .before .loop .next), (kept-lent (c .before .before .before .before .before .before .before .before .before .before .before .before .before .before .before .before .before .args .table .now) (c .before .before .before .before .before .before .before .before .before .before .before .before .before .before .before .before .before .args .words .now) (c .before .before .before .before .before .before .before .before .before .before .before .before .before .before .before .before .before .args .log .now) (c .before .before .before .before .before .before .before .before .before .before .before .before .before .before .before .before .before .args .kind) (c .before .before .before .before .before .before .before .before .before .before .before .before .before .before .before .before .before .args .level) (c .before .before .before .before .before .before .before .before .before .before .before .before .before .before .before .before .before .args .scope) (c .before .before .before .before .before .before .before .before .before .before .before .before .before .before .before .before .before .args .v) (c .before .before .before .before .before .before .before .before .before .before .before .before .before .before .before .before .before .args .body) (c .before .before .before .before .before .before .before .before .before .before .before .before .before .before .before .before .before .args .from) (c .before .before .before .before .before .before .before .before .before .before .before .before .before .before .before .before .before .args .k) (c .before .before .before .before .before .before .before .before .before .before .before .before .before .before .before .before .before .args .used) (c .before .before .before .before .before .before .before .before .before .before .before .before .before .before .before .before .before .args .environment) (c .before .before .before .before .before .before .before .before .before .before .before .before .before .before .before .before .before .args .scratch .now) (c .before .before .before .before .before .before .before .before .before .before .before .before .before .loop .scratch) (c .before .before .before .before .before .before .before .before .before .before .before .before .before .loop .inv .1) (c .before .before .before .before .before .before .before .before .before .before .before .before .before .before .before .before .before .pre .1 .6) (c .before .before .before .before .before .before .before .formula .last .1 .1 .1 .1 .1 .0) (c .before .before .before .before .before .before .before .formula .kept .1 .1 .1 .1 .1 .0)) .1)
+  instances-returns c =
+      let at-add = c .before .before .before in
+      let at-formula = at-add .before .before .before .before in
+      let formula = at-formula .formula in
+      let at-instance = at-formula .before .before .before in
+      let instance = at-instance .instance in
+      let at-loop-test = at-instance .before .before in
+      let at-loop = at-loop-test .before in
+      let loop = at-loop .loop in
+      let start = at-loop .before .before .before .before in
+      let a = start .args in (
+        instances-short (a .table .now) (a .words .now) (a .log .now) (a .kind) (a .level) (a .scope) (a .v) (a .body)
+            (a .from) (a .k) (a .used) (a .environment) (a .scratch .now) (loop .scratch) (loop .inv .1) (start .pre .1 .6)
+            (loop .i) (at-loop-test .loop-test .taken) (start .pre .1 .5) (start .pre .1 .2) (instance .result)
+            (instance .ensures) (loop .next) (loop .join) (loop .out) (loop .inv .3) (formula .last .1 .1 .1 .1 .1 .1 .0)
+            (formula .result) (formula .ensures) _ _ (at-add .add .ensures) (c .enum-told .given .1) (loop .next),
+        (kept-lent (a .table .now) (a .words .now) (a .log .now) (a .kind) (a .level) (a .scope) (a .v) (a .body) (a .from)
+            (a .k) (a .used) (a .environment) (a .scratch .now) (loop .scratch) (loop .inv .1) (start .pre .1 .6)
+            (formula .last .1 .1 .1 .1 .1 .0) (formula .kept .1 .1 .1 .1 .1 .0)) .1,
+      )
 
   instances-add-i : instances-lts.Need-add-i instances-calls instances-at instances.Post instances-Inv-loop instances-μ-loop
-  instances-add-i c = omega (arith, c .before .before .before .before .before .before .before .before .before .before .before .loop-test .taken, c .before .before .before .before .before .before .before .before .before .before .before .before .before .before .before .before .fits .k)
+  instances-add-i c =
+      let at-loop-test = c .before .before .before .before .before .before .before .before .before .before .before in
+      let at-fits = at-loop-test .before .before .before .before .before in
+      omega (arith, at-loop-test .loop-test .taken, at-fits .fits .k)
 
   instances-loop-less : instances-lts.Need-loop-less instances-calls instances-at instances.Post instances-Inv-loop instances-μ-loop
-  instances-loop-less c = omega (arith, c .before .before .before .before .before .before .before .before .before .before .before .loop-test .taken)
+  instances-loop-less c =
+      let at-loop-test = c .before .before .before .before .before .before .before .before .before .before .before in
+      omega (arith, at-loop-test .loop-test .taken)
 
   instances-loop-again : instances-lts.Need-loop-again instances-calls instances-at instances.Post instances-Inv-loop instances-μ-loop
-  instances-loop-again c = (
-    omega (arith, c .before .before .before .before .before .before .before .before .before .before .before .loop-test .taken),
-    kept-lent (c .before .before .before .before .before .before .before .before .before .before .before .before .before .before .before .before .args .table .now) (c .before .before .before .before .before .before .before .before .before .before .before .before .before .before .before .before .args .words .now) (c .before .before .before .before .before .before .before .before .before .before .before .before .before .before .before .before .args .log .now) (c .before .before .before .before .before .before .before .before .before .before .before .before .before .before .before .before .args .kind) (c .before .before .before .before .before .before .before .before .before .before .before .before .before .before .before .before .args .level) (c .before .before .before .before .before .before .before .before .before .before .before .before .before .before .before .before .args .scope) (c .before .before .before .before .before .before .before .before .before .before .before .before .before .before .before .before .args .v) (c .before .before .before .before .before .before .before .before .before .before .before .before .before .before .before .before .args .body) (c .before .before .before .before .before .before .before .before .before .before .before .before .before .before .before .before .args .from) (c .before .before .before .before .before .before .before .before .before .before .before .before .before .before .before .before .args .k) (c .before .before .before .before .before .before .before .before .before .before .before .before .before .before .before .before .args .used) (c .before .before .before .before .before .before .before .before .before .before .before .before .before .before .before .before .args .environment) (c .before .before .before .before .before .before .before .before .before .before .before .before .before .before .before .before .args .scratch .now) (c .before .before .before .before .before .before .before .before .before .before .before .before .loop .scratch) (c .before .before .before .before .before .before .before .before .before .before .before .before .loop .inv .1) (c .before .before .before .before .before .before .before .before .before .before .before .before .before .before .before .before .pre .1 .6) (c .before .before .before .before .before .before .formula .last .1 .1 .1 .1 .1 .0) (c .before .before .before .before .before .before .formula .kept .1 .1 .1 .1 .1 .0),
-    c .before .before .add .kept .1 .0 ∙ lent-long (c .before .before .before .before .before .before .before .before .before .before .before .before .loop .out) (c .before .before .before .before .before .before .before .before .before .before .before .before .loop .join .words) (c .before .before .before .before .before .before .formula .last .1 .1 .1 .1 .1 .1 .0) (instances-within (c .before .before .before .before .before .before .before .before .before .before .before .before .before .before .before .before .args .table .now) (c .before .before .before .before .before .before .before .before .before .before .before .before .before .before .before .before .args .words .now) (c .before .before .before .before .before .before .before .before .before .before .before .before .before .before .before .before .args .log .now) (c .before .before .before .before .before .before .before .before .before .before .before .before .before .before .before .before .args .kind) (c .before .before .before .before .before .before .before .before .before .before .before .before .before .before .before .before .args .level) (c .before .before .before .before .before .before .before .before .before .before .before .before .before .before .before .before .args .scope) (c .before .before .before .before .before .before .before .before .before .before .before .before .before .before .before .before .args .v) (c .before .before .before .before .before .before .before .before .before .before .before .before .before .before .before .before .args .body) (c .before .before .before .before .before .before .before .before .before .before .before .before .before .before .before .before .args .from) (c .before .before .before .before .before .before .before .before .before .before .before .before .before .before .before .before .args .k) (c .before .before .before .before .before .before .before .before .before .before .before .before .before .before .before .before .args .used) (c .before .before .before .before .before .before .before .before .before .before .before .before .before .before .before .before .args .environment) (c .before .before .before .before .before .before .before .before .before .before .before .before .before .before .before .before .args .scratch .now) (c .before .before .before .before .before .before .before .before .before .before .before .before .loop .i) (c .before .before .before .before .before .before .before .before .before .before .before .before .loop .next) (c .before .before .before .before .before .before .before .before .before .before .before .before .loop .join) (c .before .before .before .before .before .before .before .before .before .before .before .before .loop .out) (c .before .before .before .before .before .before .before .before .before .before .before .before .loop .inv .3) (c .before .before .before .before .before .before .before .before .before .before .before .before .before .before .before .before .pre .1 .4) (c .before .before .before .before .before .before .before .before .before .before .before .before .before .before .before .before .pre .1 .7) (c .before .before .before .before .before .before .before .before .before .before .before .before .before .before .before .before .pre .1 .8)) (c .before .before .before .before .before .before .formula .kept .1 .1 .1 .1 .1 .1 .0) ∙ c .before .before .before .before .before .before .before .before .before .before .before .before .loop .inv .2,
-    instances-next (c .before .before .before .before .before .before .before .before .before .before .before .before .before .before .before .before .args .table .now) (c .before .before .before .before .before .before .before .before .before .before .before .before .before .before .before .before .args .words .now) (c .before .before .before .before .before .before .before .before .before .before .before .before .before .before .before .before .args .log .now) (c .before .before .before .before .before .before .before .before .before .before .before .before .before .before .before .before .args .kind) (c .before .before .before .before .before .before .before .before .before .before .before .before .before .before .before .before .args .level) (c .before .before .before .before .before .before .before .before .before .before .before .before .before .before .before .before .args .scope) (c .before .before .before .before .before .before .before .before .before .before .before .before .before .before .before .before .args .v) (c .before .before .before .before .before .before .before .before .before .before .before .before .before .before .before .before .args .body) (c .before .before .before .before .before .before .before .before .before .before .before .before .before .before .before .before .args .from) (c .before .before .before .before .before .before .before .before .before .before .before .before .before .before .before .before .args .k) (c .before .before .before .before .before .before .before .before .before .before .before .before .before .before .before .before .args .used) (c .before .before .before .before .before .before .before .before .before .before .before .before .before .before .before .before .args .environment) (c .before .before .before .before .before .before .before .before .before .before .before .before .before .before .before .before .args .scratch .now) (c .before .before .before .before .before .before .before .before .before .before .before .before .loop .scratch) (c .before .before .before .before .before .before .before .before .before .before .before .before .loop .inv .1) (c .before .before .before .before .before .before .before .before .before .before .before .before .before .before .before .before .pre .1 .6) (c .before .before .before .before .before .before .before .before .before .before .before .before .loop .i) (c .before .before .before .before .before .before .before .before .before .before .before .loop-test .taken) (c .before .before .before .before .before .before .before .before .before .before .before .before .before .before .before .before .pre .1 .5) (c .before .before .before .before .before .before .before .before .before .before .before .before .before .before .before .before .pre .1 .2) (c .before .before .before .before .before .before .before .before .before .instance .result) (c .before .before .before .before .before .before .before .before .before .instance .ensures) (c .before .before .before .before .before .before .before .before .before .before .before .before .loop .next) (c .before .before .before .before .before .before .before .before .before .before .before .before .loop .join) (c .before .before .before .before .before .before .before .before .before .before .before .before .loop .out) (c .before .before .before .before .before .before .before .before .before .before .before .before .loop .inv .3) (c .before .before .before .before .before .before .formula .last .1 .1 .1 .1 .1 .1 .0) (c .before .before .before .before .before .before .formula .result) (c .before .before .before .before .before .before .formula .ensures) _ _ (c .before .before .add .ensures) (not-short _ (c .match .keys2)),
-  )
+  instances-loop-again c =
+      let at-add = c .before .before in
+      let add = at-add .add in
+      let at-formula = at-add .before .before .before .before in
+      let formula = at-formula .formula in
+      let at-instance = at-formula .before .before .before in
+      let instance = at-instance .instance in
+      let at-loop-test = at-instance .before .before in
+      let loop-test = at-loop-test .loop-test in
+      let at-loop = at-loop-test .before in
+      let loop = at-loop .loop in
+      let start = at-loop .before .before .before .before in
+      let a = start .args in (
+        omega (arith, loop-test .taken),
+        kept-lent (a .table .now) (a .words .now) (a .log .now) (a .kind) (a .level)
+            (a .scope) (a .v) (a .body) (a .from) (a .k) (a .used) (a .environment) (a .scratch .now) (loop .scratch)
+            (loop .inv .1) (start .pre .1 .6) (formula .last .1 .1 .1 .1 .1 .0) (formula .kept .1 .1 .1 .1 .1 .0),
+        add .kept .1 .0 ∙ lent-long (loop .out) (loop .join .words) (formula .last .1 .1 .1 .1 .1 .1 .0)
+            (instances-within (a .table .now) (a .words .now) (a .log .now) (a .kind) (a .level) (a .scope) (a .v) (a .body)
+            (a .from) (a .k) (a .used) (a .environment) (a .scratch .now) (loop .i) (loop .next) (loop .join) (loop .out)
+            (loop .inv .3) (start .pre .1 .4) (start .pre .1 .7) (start .pre .1 .8)) (formula .kept .1 .1 .1 .1 .1 .1 .0)
+            ∙ loop .inv .2,
+        instances-next (a .table .now) (a .words .now) (a .log .now) (a .kind) (a .level) (a .scope)
+            (a .v) (a .body) (a .from) (a .k) (a .used) (a .environment) (a .scratch .now) (loop .scratch) (loop .inv .1)
+            (start .pre .1 .6) (loop .i) (loop-test .taken) (start .pre .1 .5) (start .pre .1 .2) (instance .result)
+            (instance .ensures) (loop .next) (loop .join) (loop .out) (loop .inv .3) (formula .last .1 .1 .1 .1 .1 .1 .0)
+            (formula .result) (formula .ensures) _ _ (add .ensures) (not-short _ (c .match .keys2)),
+      )
 
   instances-behind-requires : instances-lts.Need-behind-requires instances-calls instances-at instances.Post instances-Inv-loop instances-μ-loop
-  instances-behind-requires c κs = instances-tree (c .before .before .before .before .before .before .args .table .now) (c .before .before .before .before .before .before .args .words .now) (c .before .before .before .before .before .before .args .log .now) (c .before .before .before .before .before .before .args .kind) (c .before .before .before .before .before .before .args .level) (c .before .before .before .before .before .before .args .scope) (c .before .before .before .before .before .before .args .v) (c .before .before .before .before .before .before .args .body) (c .before .before .before .before .before .before .args .from) (c .before .before .before .before .before .before .args .k) (c .before .before .before .before .before .before .args .used) (c .before .before .before .before .before .before .args .environment) (c .before .before .before .before .before .before .args .scratch .now) (c .before .before .before .before .before .before .pre .1 .4)
+  instances-behind-requires c κs =
+      let start = c .before .before .before .before .before .before in
+      let a = start .args in
+      instances-tree (a .table .now) (a .words .now) (a .log .now) (a .kind) (a .level) (a .scope) (a .v) (a .body)
+      (a .from) (a .k) (a .used) (a .environment) (a .scratch .now) (start .pre .1 .4)
 
   instances-same-length-3 : instances-lts.Need-same-length-3 instances-calls instances-at instances.Post instances-Inv-loop instances-μ-loop
   instances-same-length-3 c = c .before .before .before .loop .inv .1 .0
@@ -462,7 +885,15 @@ module _ (t : ℕ) where
   instances-same-length-4 c = c .before .before .before .loop .inv .2
 
   instances-returns-2 : instances-lts.Need-returns-2 instances-calls instances-at instances.Post instances-Inv-loop instances-μ-loop
-  instances-returns-2 c = (instances-none (c .before .before .before .before .before .before .before .args .table .now) (c .before .before .before .before .before .before .before .args .words .now) (c .before .before .before .before .before .before .before .args .log .now) (c .before .before .before .before .before .before .before .args .kind) (c .before .before .before .before .before .before .before .args .level) (c .before .before .before .before .before .before .before .args .scope) (c .before .before .before .before .before .before .before .args .v) (c .before .before .before .before .before .before .before .args .body) (c .before .before .before .before .before .before .before .args .from) (c .before .before .before .before .before .before .before .args .k) (c .before .before .before .before .before .before .before .args .used) (c .before .before .before .before .before .before .before .args .environment) (c .before .before .before .before .before .before .before .args .scratch .now) (c .before .before .before .loop .i) (c .before .before .before .loop .next) (c .before .before .before .loop .join) (c .before .before .before .loop .out) (c .before .before .before .loop .inv .3) (c .before .if1 .taken) _ (c .behind .ensures), c .before .before .before .loop .inv .1 .1)
+  instances-returns-2 c =
+      let at-loop = c .before .before .before in
+      let loop = at-loop .loop in
+      let a = at-loop .before .before .before .before .args in (
+        instances-none (a .table .now) (a .words .now) (a .log .now) (a .kind) (a .level) (a .scope) (a .v) (a .body)
+            (a .from) (a .k) (a .used) (a .environment) (a .scratch .now) (loop .i) (loop .next) (loop .join) (loop .out)
+            (loop .inv .3) (c .before .if1 .taken) _ (c .behind .ensures),
+        loop .inv .1 .1,
+      )
 
   instances-same-length-5 : instances-lts.Need-same-length-5 instances-calls instances-at instances.Post instances-Inv-loop instances-μ-loop
   instances-same-length-5 c = c .before .before .loop .inv .1 .0
@@ -471,16 +902,55 @@ module _ (t : ℕ) where
   instances-same-length-6 c = c .before .before .loop .inv .2
 
   instances-returns-3 : instances-lts.Need-returns-3 instances-calls instances-at instances.Post instances-Inv-loop instances-μ-loop
-  instances-returns-3 c = (instances-end (c .before .before .before .before .before .before .args .table .now) (c .before .before .before .before .before .before .args .words .now) (c .before .before .before .before .before .before .args .log .now) (c .before .before .before .before .before .before .args .kind) (c .before .before .before .before .before .before .args .level) (c .before .before .before .before .before .before .args .scope) (c .before .before .before .before .before .before .args .v) (c .before .before .before .before .before .before .args .body) (c .before .before .before .before .before .before .args .from) (c .before .before .before .before .before .before .args .k) (c .before .before .before .before .before .before .args .used) (c .before .before .before .before .before .before .args .environment) (c .before .before .before .before .before .before .args .scratch .now) (c .before .before .loop .i) (c .before .before .loop .next) (c .before .before .loop .join) (c .before .before .loop .out) (c .before .before .loop .inv .3) (c .before .loop-test .left) (omega (arith, c .if1 .left)), c .before .before .loop .inv .1 .1)
+  instances-returns-3 c =
+      let at-loop = c .before .before in
+      let loop = at-loop .loop in
+      let a = at-loop .before .before .before .before .args in (
+        instances-end (a .table .now) (a .words .now) (a .log .now) (a .kind) (a .level) (a .scope) (a .v) (a .body)
+            (a .from) (a .k) (a .used) (a .environment) (a .scratch .now) (loop .i) (loop .next) (loop .join) (loop .out)
+            (loop .inv .3) (c .before .loop-test .left) (omega (arith, c .if1 .left)),
+        loop .inv .1 .1,
+      )
 
   quantifier-add-value : quantifier-lts.Need-add-value quantifier-calls quantifier-at quantifier.Post
-  quantifier-add-value c = omega (arith, first-within (c .before .before .args .table .now) (c .before .before .args .words .now) (c .before .before .args .log .now) (c .before .before .args .kind) (c .before .before .args .level) (c .before .before .args .scope) (c .before .before .args .at) (value (c .before .before .args .words .now) (c .before .before .args .at + 1)) refl (c .before .before .pre .1 .4 .0) (c .before .before .pre .1 .4 .1) (c .before .before .pre .1 .4 .2) (c .before .before .pre .1 .4 .3) (c .before .before .pre .1 .4 .4) (c .before .before .pre .1 .4 .5), c .before .before .good .1 .0)
+  quantifier-add-value c =
+      let start = c .before .before in
+      let a = start .args in
+      omega (
+        arith,
+        first-within (a .table .now) (a .words .now) (a .log .now) (a .kind) (a .level) (a .scope) (a .at)
+            (value (a .words .now) (a .at + 1)) refl (start .pre .1 .4 .0) (start .pre .1 .4 .1) (start .pre .1 .4 .2)
+            (start .pre .1 .4 .3) (start .pre .1 .4 .4) (start .pre .1 .4 .5),
+        start .good .1 .0,
+      )
 
   quantifier-value-requires : quantifier-lts.Need-value-requires quantifier-calls quantifier-at quantifier.Post
   quantifier-value-requires c κs = search needs
 
   quantifier-prepare-requires : quantifier-lts.Need-prepare-requires quantifier-calls quantifier-at quantifier.Post
-  quantifier-prepare-requires c κs = (c .before .before .before .before .pre .1 .0, c .before .before .before .before .pre .1 .1, variables-few (c .before .before .before .before .args .table .now) (c .before .before .before .before .args .words .now) (c .before .before .before .before .args .log .now) (c .before .before .before .before .args .kind) (c .before .before .before .before .args .level) (c .before .before .before .before .args .scope) (c .before .before .before .before .args .at) (c .before .value .result) (c .before .value .ensures) (c .before .before .before .before .pre .1 .4 .0) (c .before .before .before .before .pre .1 .4 .1) (c .before .before .before .before .pre .1 .4 .2) (c .before .before .before .before .pre .1 .4 .3) (c .before .before .before .before .pre .1 .4 .4) (c .before .before .before .before .pre .1 .4 .5), first-within (c .before .before .before .before .args .table .now) (c .before .before .before .before .args .words .now) (c .before .before .before .before .args .log .now) (c .before .before .before .before .args .kind) (c .before .before .before .before .args .level) (c .before .before .before .before .args .scope) (c .before .before .before .before .args .at) (c .before .value .result) (c .before .value .ensures) (c .before .before .before .before .pre .1 .4 .0) (c .before .before .before .before .pre .1 .4 .1) (c .before .before .before .before .pre .1 .4 .2) (c .before .before .before .before .pre .1 .4 .3) (c .before .before .before .before .pre .1 .4 .4) (c .before .before .before .before .pre .1 .4 .5), ((c .before .before .before .before .pre .1 .4 .2), _, restriction-here (c .before .before .before .before .args .table .now) (c .before .before .before .before .args .words .now) (c .before .before .before .before .args .log .now) (c .before .before .before .before .args .kind) (c .before .before .before .before .args .level) (c .before .before .before .before .args .scope) (c .before .before .before .before .args .at) (c .before .value .result) (c .before .value .ensures) (c .before .before .before .before .pre .1 .4 .0) (c .before .before .before .before .pre .1 .4 .1) (c .before .before .before .before .pre .1 .4 .2) (c .before .before .before .before .pre .1 .4 .3) (c .before .before .before .before .pre .1 .4 .4) (c .before .before .before .before .pre .1 .4 .5)), c .before .before .before .before .pre .1 .5)
+  quantifier-prepare-requires c κs =
+      let at-value = c .before in
+      let value = at-value .value in
+      let start = at-value .before .before .before in
+      let a = start .args in (
+        start .pre .1 .0,
+        start .pre .1 .1,
+        variables-few (a .table .now) (a .words .now) (a .log .now) (a .kind)
+            (a .level) (a .scope) (a .at) (value .result) (value .ensures) (start .pre .1 .4 .0) (start .pre .1 .4 .1)
+            (start .pre .1 .4 .2) (start .pre .1 .4 .3) (start .pre .1 .4 .4) (start .pre .1 .4 .5),
+        first-within
+            (a .table .now) (a .words .now) (a .log .now) (a .kind) (a .level) (a .scope) (a .at) (value .result)
+            (value .ensures) (start .pre .1 .4 .0) (start .pre .1 .4 .1) (start .pre .1 .4 .2) (start .pre .1 .4 .3)
+            (start .pre .1 .4 .4) (start .pre .1 .4 .5),
+        (
+          (start .pre .1 .4 .2),
+          _,
+          restriction-here (a .table .now) (a .words .now) (a .log .now) (a .kind) (a .level)
+              (a .scope) (a .at) (value .result) (value .ensures) (start .pre .1 .4 .0) (start .pre .1 .4 .1)
+              (start .pre .1 .4 .2) (start .pre .1 .4 .3) (start .pre .1 .4 .4) (start .pre .1 .4 .5),
+        ),
+        start .pre .1 .5,
+      )
 
   quantifier-enum-known-prepared : quantifier-lts.Need-enum-known-prepared quantifier-calls quantifier-at quantifier.Post
   quantifier-enum-known-prepared c = search needs
@@ -492,61 +962,224 @@ module _ (t : ℕ) where
   quantifier-same-length c = c .before .before .before .prepare .kept .1 .1 .1 .1 .1 .0
 
   quantifier-returns : quantifier-lts.Need-returns quantifier-calls quantifier-at quantifier.Post
-  quantifier-returns c = λ ρ v excluded d f next o q. quantifier-short (c .before .before .before .before .before .before .before .before .args .table .now) (c .before .before .before .before .before .before .before .before .args .words .now) (c .before .before .before .before .before .before .before .before .args .log .now) (c .before .before .before .before .before .before .before .before .args .kind) (c .before .before .before .before .before .before .before .before .args .level) (c .before .before .before .before .before .before .before .before .args .scope) (c .before .before .before .before .before .before .before .before .args .at) (c .before .before .before .before .before .value .result) (c .before .before .before .before .before .value .ensures) v excluded d f next q (c .before .before .before .before .before .before .before .before .args .environment) ρ o (length (c .before .before .before .before .before .before .before .before .args .scratch .now) / 17) _ (prepared-short (c .before .before .before .before .before .before .before .before .args .table .now) (c .before .before .before .before .before .before .before .before .args .words .now) (c .before .before .before .before .before .before .before .before .args .log .now) (c .before .before .before .before .before .before .before .before .args .kind) (c .before .before .before .before .before .before .before .before .args .level) (c .before .before .before .before .before .before .before .before .args .scope) (c .before .before .before .before .before .before .before .before .args .at) (c .before .before .before .before .before .value .result) (c .before .before .before .before .before .value .ensures) v excluded d f next q (c .before .before .before .before .before .before .before .before .args .environment) ρ o (length (c .before .before .before .before .before .before .before .before .args .scratch .now) / 17) (c .before .before .before .prepare .last .1 .1 .1 .1 .1 .0) (c .before .before .before .prepare .result) (c .enum-told .given .1) (c .before .before .before .prepare .ensures ρ d _ o (restriction-here (c .before .before .before .before .before .before .before .before .args .table .now) (c .before .before .before .before .before .before .before .before .args .words .now) (c .before .before .before .before .before .before .before .before .args .log .now) (c .before .before .before .before .before .before .before .before .args .kind) (c .before .before .before .before .before .before .before .before .args .level) (c .before .before .before .before .before .before .before .before .args .scope) (c .before .before .before .before .before .before .before .before .args .at) (c .before .before .before .before .before .value .result) (c .before .before .before .before .before .value .ensures) v excluded d f next q))) refl refl
+  quantifier-returns c =
+      let at-prepare = c .before .before .before in
+      let prepare = at-prepare .prepare in
+      let at-value = at-prepare .before .before in
+      let value = at-value .value in
+      let a = at-value .before .before .before .args in
+      λ ρ v excluded d f next o q. quantifier-short (a .table .now) (a .words .now) (a .log .now) (a .kind) (a .level)
+      (a .scope) (a .at) (value .result) (value .ensures) v excluded d f next q (a .environment) ρ o
+      (length (a .scratch .now) / 17) _
+      (prepared-short (a .table .now) (a .words .now) (a .log .now) (a .kind) (a .level) (a .scope) (a .at)
+      (value .result) (value .ensures) v excluded d f next q (a .environment) ρ o (length (a .scratch .now) / 17)
+      (prepare .last .1 .1 .1 .1 .1 .0) (prepare .result) (c .enum-told .given .1)
+      (prepare .ensures ρ d _ o
+      (restriction-here (a .table .now) (a .words .now) (a .log .now) (a .kind) (a .level) (a .scope) (a .at)
+      (value .result) (value .ensures) v excluded d f next q))) refl refl
 
   stood :
       (c : quantifier-lts.After-known-told quantifier-calls quantifier-at quantifier.Post) →
-      (ρ : List ℤ) (v : ℕ) (excluded : List (List ℤ)) (d f : Tree) (next : ℕ) (o : Outer (c .before .before .before .before .before .before .before .before .before .args .environment) (c .before .before .before .before .before .before .before .before .before .args .scope) ρ) (q : Quantified (c .before .before .before .before .before .before .before .before .before .args .table .now) (c .before .before .before .before .before .before .before .before .before .args .words .now) (c .before .before .before .before .before .before .before .before .before .args .kind) (c .before .before .before .before .before .before .before .before .before .args .level) (c .before .before .before .before .before .before .before .before .before .args .scope) (c .before .before .before .before .before .before .before .before .before .args .at) v excluded d f next) →
-      PS.Stood (c .before .before .before .before .before .before .before .before .before .args .table .now) (c .before .before .before .before .before .before .before .before .before .args .words .now) (c .before .before .before .before .before .before .before .before .before .args .log .now) (c .before .before .before .before .before .before .before .before .before .args .scope) (c .before .before .before .before .before .before .value .result) (c .before .before .before .before .before .before .before .before .before .args .at) d ρ (bodyAt (c .before .before .before .before .before .before .before .before .before .args .table .now) (c .before .before .before .before .before .before .before .before .before .args .words .now) (c .before .before .before .before .before .before .before .before .before .args .log .now) (c .before .before .before .before .before .before .before .before .before .args .kind) (c .before .before .before .before .before .before .before .before .before .args .level) (c .before .before .before .before .before .before .before .before .before .args .scope) (c .before .before .before .before .before .before .before .before .before .args .at) (c .before .before .before .before .before .before .value .result) (c .before .before .before .before .before .before .value .ensures) v excluded d f next q) (length (c .before .before .before .before .before .before .before .before .before .args .scratch .now) / 17) (c .before .before .before .before .prepare .last .1 .1 .1 .1 .1 .0) (c .before .prepared .given .0 .0) (c .before .prepared .given .0 .1 .0) (c .before .prepared .given .0 .1 .1 .0) (c .before .prepared .given .0 .1 .1 .1 .0)
-  stood c = λ ρ v excluded d f next o q. (prepared-stood (c .before .before .before .before .before .before .before .before .before .args .table .now) (c .before .before .before .before .before .before .before .before .before .args .words .now) (c .before .before .before .before .before .before .before .before .before .args .log .now) (c .before .before .before .before .before .before .before .before .before .args .kind) (c .before .before .before .before .before .before .before .before .before .args .level) (c .before .before .before .before .before .before .before .before .before .args .scope) (c .before .before .before .before .before .before .before .before .before .args .at) (c .before .before .before .before .before .before .value .result) (c .before .before .before .before .before .before .value .ensures) v excluded d f next q (c .before .before .before .before .before .before .before .before .before .args .environment) ρ o (length (c .before .before .before .before .before .before .before .before .before .args .scratch .now) / 17) (c .before .before .before .before .prepare .last .1 .1 .1 .1 .1 .0) (c .before .before .before .before .prepare .result) (c .before .prepared .given .0 .0) (c .before .prepared .given .0 .1 .0) (c .before .prepared .given .0 .1 .1 .0) (c .before .prepared .given .0 .1 .1 .1 .0) (c .before .prepared .given .1) (c .before .before .before .before .prepare .ensures ρ d _ o (restriction-here (c .before .before .before .before .before .before .before .before .before .args .table .now) (c .before .before .before .before .before .before .before .before .before .args .words .now) (c .before .before .before .before .before .before .before .before .before .args .log .now) (c .before .before .before .before .before .before .before .before .before .args .kind) (c .before .before .before .before .before .before .before .before .before .args .level) (c .before .before .before .before .before .before .before .before .before .args .scope) (c .before .before .before .before .before .before .before .before .before .args .at) (c .before .before .before .before .before .before .value .result) (c .before .before .before .before .before .before .value .ensures) v excluded d f next q)))
+      let at-prepared = c .before in
+      let prepared = at-prepared .prepared in
+      let at-prepare = at-prepared .before .before .before in
+      let at-value = at-prepare .before .before in
+      let value = at-value .value in
+      let a = at-value .before .before .before .args in
+      (ρ : List ℤ) (v : ℕ) (excluded : List (List ℤ)) (d f : Tree) (next : ℕ) (o : Outer (a .environment) (a .scope) ρ)
+      (q : Quantified (a .table .now) (a .words .now) (a .kind) (a .level) (a .scope) (a .at) v excluded d f next) →
+      PS.Stood (a .table .now) (a .words .now) (a .log .now) (a .scope) (value .result) (a .at) d ρ
+      (bodyAt (a .table .now) (a .words .now) (a .log .now) (a .kind) (a .level) (a .scope) (a .at) (value .result)
+      (value .ensures) v excluded d f next q) (length (a .scratch .now) / 17)
+      (at-prepare .prepare .last .1 .1 .1 .1 .1 .0) (prepared .given .0 .0) (prepared .given .0 .1 .0)
+      (prepared .given .0 .1 .1 .0) (prepared .given .0 .1 .1 .1 .0)
+  stood c =
+      let at-prepared = c .before in
+      let prepared = at-prepared .prepared in
+      let at-prepare = at-prepared .before .before .before in
+      let prepare = at-prepare .prepare in
+      let at-value = at-prepare .before .before in
+      let value = at-value .value in
+      let a = at-value .before .before .before .args in
+      λ ρ v excluded d f next o q.
+      (prepared-stood (a .table .now) (a .words .now) (a .log .now) (a .kind) (a .level) (a .scope) (a .at)
+      (value .result) (value .ensures) v excluded d f next q (a .environment) ρ o (length (a .scratch .now) / 17)
+      (prepare .last .1 .1 .1 .1 .1 .0) (prepare .result) (prepared .given .0 .0) (prepared .given .0 .1 .0)
+      (prepared .given .0 .1 .1 .0) (prepared .given .0 .1 .1 .1 .0) (prepared .given .1)
+      (prepare .ensures ρ d _ o
+      (restriction-here (a .table .now) (a .words .now) (a .log .now) (a .kind) (a .level) (a .scope) (a .at)
+      (value .result) (value .ensures) v excluded d f next q)))
 
   quantifier-instances-requires : quantifier-lts.Need-instances-requires quantifier-calls quantifier-at quantifier.Post
   quantifier-instances-requires c κs =
-      let s = (stood (c .before .before) (c .before .before .before .before .before .before .before .before .before .before .before .pre .1 .5 .0) (c .before .before .before .before .before .before .before .before .before .before .before .pre .1 .4 .0) (c .before .before .before .before .before .before .before .before .before .before .before .pre .1 .4 .1) (c .before .before .before .before .before .before .before .before .before .before .before .pre .1 .4 .2) (c .before .before .before .before .before .before .before .before .before .before .before .pre .1 .4 .3) (c .before .before .before .before .before .before .before .before .before .before .before .pre .1 .4 .4) (c .before .before .before .before .before .before .before .before .before .before .before .pre .1 .5 .1) (c .before .before .before .before .before .before .before .before .before .before .before .pre .1 .4 .5)) in (
-        omega (arith, c .before .before .before .before .before .before .before .before .before .before .before .pre .0, c .before .before .before .before .before .before .before .before .before .before .before .pre .1 .1),
+      let then = c .before .before in
+      let at-prepare = then .before .before .before .before in
+      let at-value = at-prepare .before .before in
+      let value = at-value .value in
+      let start = at-value .before .before .before in
+      let a = start .args in
+      let s =
+      (stood then (start .pre .1 .5 .0) (start .pre .1 .4 .0) (start .pre .1 .4 .1) (start .pre .1 .4 .2)
+      (start .pre .1 .4 .3) (start .pre .1 .4 .4) (start .pre .1 .5 .1) (start .pre .1 .4 .5)) in (
+        omega (arith, start .pre .0, start .pre .1 .1),
         (
-          c .before .before .before .before .before .before .before .before .before .before .before .pre .1 .0,
-          c .before .before .before .before .before .before .before .before .before .before .before .pre .1 .1,
-          variables-few (c .before .before .before .before .before .before .before .before .before .before .before .args .table .now) (c .before .before .before .before .before .before .before .before .before .before .before .args .words .now) (c .before .before .before .before .before .before .before .before .before .before .before .args .log .now) (c .before .before .before .before .before .before .before .before .before .before .before .args .kind) (c .before .before .before .before .before .before .before .before .before .before .before .args .level) (c .before .before .before .before .before .before .before .before .before .before .before .args .scope) (c .before .before .before .before .before .before .before .before .before .before .before .args .at) (c .before .before .before .before .before .before .before .before .value .result) (c .before .before .before .before .before .before .before .before .value .ensures) (c .before .before .before .before .before .before .before .before .before .before .before .pre .1 .4 .0) (c .before .before .before .before .before .before .before .before .before .before .before .pre .1 .4 .1) (c .before .before .before .before .before .before .before .before .before .before .before .pre .1 .4 .2) (c .before .before .before .before .before .before .before .before .before .before .before .pre .1 .4 .3) (c .before .before .before .before .before .before .before .before .before .before .before .pre .1 .4 .4) (c .before .before .before .before .before .before .before .before .before .before .before .pre .1 .4 .5),
-          c .before .before .before .before .before .before .before .before .before .before .before .pre .1 .3,
-          ((c .before .before .before .before .before .before .before .before .before .before .before .pre .1 .4 .3), (c .before .before .before .before .before .before .before .before .before .before .before .pre .1 .4 .4), subst (λ (n : ℕ). Node (c .before .before .before .before .before .before .before .before .before .before .before .args .table .now) (c .before .before .before .before .before .before .before .before .before .before .before .args .words .now) L.Role.formula (c .before .before .before .before .before .before .before .before .before .before .before .args .level) (c .before .before .before .before .before .before .before .before .before .before .before .args .scope + (c .before .before .before .before .before .before .before .before .value .result)) n (c .before .before .before .before .before .before .before .before .before .before .before .pre .1 .4 .3) (c .before .before .before .before .before .before .before .before .before .before .before .pre .1 .4 .4)) (sym (s .behind)) (body-here (c .before .before .before .before .before .before .before .before .before .before .before .args .table .now) (c .before .before .before .before .before .before .before .before .before .before .before .args .words .now) (c .before .before .before .before .before .before .before .before .before .before .before .args .log .now) (c .before .before .before .before .before .before .before .before .before .before .before .args .kind) (c .before .before .before .before .before .before .before .before .before .before .before .args .level) (c .before .before .before .before .before .before .before .before .before .before .before .args .scope) (c .before .before .before .before .before .before .before .before .before .before .before .args .at) (c .before .before .before .before .before .before .before .before .value .result) (c .before .before .before .before .before .before .before .before .value .ensures) (c .before .before .before .before .before .before .before .before .before .before .before .pre .1 .4 .0) (c .before .before .before .before .before .before .before .before .before .before .before .pre .1 .4 .1) (c .before .before .before .before .before .before .before .before .before .before .before .pre .1 .4 .2) (c .before .before .before .before .before .before .before .before .before .before .before .pre .1 .4 .3) (c .before .before .before .before .before .before .before .before .before .before .before .pre .1 .4 .4) (c .before .before .before .before .before .before .before .before .before .before .before .pre .1 .4 .5))),
+          start .pre .1 .0,
+          start .pre .1 .1,
+          variables-few (a .table .now) (a .words .now) (a .log .now) (a .kind)
+              (a .level) (a .scope) (a .at) (value .result) (value .ensures) (start .pre .1 .4 .0) (start .pre .1 .4 .1)
+              (start .pre .1 .4 .2) (start .pre .1 .4 .3) (start .pre .1 .4 .4) (start .pre .1 .4 .5),
+          start .pre .1 .3,
+          (
+            (start .pre .1 .4 .3),
+            (start .pre .1 .4 .4),
+            subst
+                (λ (n : ℕ). Node (a .table .now) (a .words .now) L.Role.formula (a .level) (a .scope + (value .result)) n
+                (start .pre .1 .4 .3) (start .pre .1 .4 .4)) (sym (s .behind))
+                (body-here (a .table .now) (a .words .now) (a .log .now) (a .kind) (a .level) (a .scope) (a .at) (value .result)
+                (value .ensures) (start .pre .1 .4 .0) (start .pre .1 .4 .1) (start .pre .1 .4 .2) (start .pre .1 .4 .3)
+                (start .pre .1 .4 .4) (start .pre .1 .4 .5)),
+          ),
           s .below,
-          omega (arith, s .fits, c .before .before .before .before .before .before .prepare .kept .1 .1 .1 .1 .1 .0),
-          c .before .before .before .before .before .before .before .before .before .before .before .pre .1 .5,
-          (found (c .before .before .before .before .before .before .before .before .before .before .before .args .table .now) (c .before .before .before .before .before .before .before .before .before .before .before .args .words .now) (c .before .before .before .before .before .before .before .before .before .before .before .args .log .now) (c .before .before .before .before .before .before .before .before .before .before .before .args .kind) (c .before .before .before .before .before .before .before .before .before .before .before .args .level) (c .before .before .before .before .before .before .before .before .before .before .before .args .scope) (c .before .before .before .before .before .before .before .before .before .before .before .args .at) (c .before .before .before .before .before .before .before .before .value .result) (c .before .before .before .before .before .before .before .before .value .ensures) (c .before .before .before .before .before .before .before .before .before .before .before .pre .1 .4 .0) (c .before .before .before .before .before .before .before .before .before .before .before .pre .1 .4 .1) (c .before .before .before .before .before .before .before .before .before .before .before .pre .1 .4 .2) (c .before .before .before .before .before .before .before .before .before .before .before .pre .1 .4 .3) (c .before .before .before .before .before .before .before .before .before .before .before .pre .1 .4 .4) (c .before .before .before .before .before .before .before .before .before .before .before .pre .1 .4 .5) (c .before .before .before .before .before .before .before .before .before .before .before .args .environment) (c .before .before .before .before .before .before .before .before .before .before .before .pre .1 .5 .0) (c .before .before .before .before .before .before .before .before .before .before .before .pre .1 .5 .1), s .found),
+          omega
+              (arith, s .fits, at-prepare .prepare .kept .1 .1 .1 .1 .1 .0),
+          start .pre .1 .5,
+          (
+            found (a .table .now) (a .words .now) (a .log .now) (a .kind) (a .level) (a .scope) (a .at) (value .result)
+                (value .ensures) (start .pre .1 .4 .0) (start .pre .1 .4 .1) (start .pre .1 .4 .2) (start .pre .1 .4 .3)
+                (start .pre .1 .4 .4) (start .pre .1 .4 .5) (a .environment) (start .pre .1 .5 .0) (start .pre .1 .5 .1),
+            s .found,
+          ),
         ),
       )
 
   worked :
       (c : quantifier-lts.After-instances quantifier-calls quantifier-at quantifier.Post) →
-      (ρ : List ℤ) (v : ℕ) (excluded : List (List ℤ)) (d f : Tree) (next : ℕ) (o : Outer (c .before .before .before .before .before .before .before .before .before .before .before .before .args .environment) (c .before .before .before .before .before .before .before .before .before .before .before .before .args .scope) ρ) (q : Quantified (c .before .before .before .before .before .before .before .before .before .before .before .before .args .table .now) (c .before .before .before .before .before .before .before .before .before .before .before .before .args .words .now) (c .before .before .before .before .before .before .before .before .before .before .before .before .args .kind) (c .before .before .before .before .before .before .before .before .before .before .before .before .args .level) (c .before .before .before .before .before .before .before .before .before .before .before .before .args .scope) (c .before .before .before .before .before .before .before .before .before .before .before .before .args .at) v excluded d f next) →
-      Works (c .before .before .before .before .before .before .before .before .before .before .before .before .args .kind) (c .before .before .before .before .before .before .before .before .before .before .before .before .args .table .now) (c .before .before .before .before .before .before .before .before .before .before .before .before .args .log .now) f ρ (found (c .before .before .before .before .before .before .before .before .before .before .before .before .args .table .now) (c .before .before .before .before .before .before .before .before .before .before .before .before .args .words .now) (c .before .before .before .before .before .before .before .before .before .before .before .before .args .log .now) (c .before .before .before .before .before .before .before .before .before .before .before .before .args .kind) (c .before .before .before .before .before .before .before .before .before .before .before .before .args .level) (c .before .before .before .before .before .before .before .before .before .before .before .before .args .scope) (c .before .before .before .before .before .before .before .before .before .before .before .before .args .at) (c .before .before .before .before .before .before .before .before .before .value .result) (c .before .before .before .before .before .before .before .before .before .value .ensures) v excluded d f next q (c .before .before .before .before .before .before .before .before .before .before .before .before .args .environment) ρ o) (length (c .before .before .before .before .before .before .before .prepare .last .1 .1 .1 .1 .1 .0) / 17 - (c .before .before .before .before .prepared .given .0 .1 .1 .0)) next (c .instances .last .1 .1 .1 .1 .1 .1 .0) (c .instances .result)
-  worked c = λ ρ v excluded d f next o q. (c .instances .ensures .0 ρ (found (c .before .before .before .before .before .before .before .before .before .before .before .before .args .table .now) (c .before .before .before .before .before .before .before .before .before .before .before .before .args .words .now) (c .before .before .before .before .before .before .before .before .before .before .before .before .args .log .now) (c .before .before .before .before .before .before .before .before .before .before .before .before .args .kind) (c .before .before .before .before .before .before .before .before .before .before .before .before .args .level) (c .before .before .before .before .before .before .before .before .before .before .before .before .args .scope) (c .before .before .before .before .before .before .before .before .before .before .before .before .args .at) (c .before .before .before .before .before .before .before .before .before .value .result) (c .before .before .before .before .before .before .before .before .before .value .ensures) v excluded d f next q (c .before .before .before .before .before .before .before .before .before .before .before .before .args .environment) ρ o) f next o ((stood (c .before .before .before) ρ v excluded d f next o q) .found) (subst (λ (n : ℕ). Node (c .before .before .before .before .before .before .before .before .before .before .before .before .args .table .now) (c .before .before .before .before .before .before .before .before .before .before .before .before .args .words .now) L.Role.formula (c .before .before .before .before .before .before .before .before .before .before .before .before .args .level) (c .before .before .before .before .before .before .before .before .before .before .before .before .args .scope + (c .before .before .before .before .before .before .before .before .before .value .result)) n f next) (sym ((stood (c .before .before .before) ρ v excluded d f next o q) .behind)) (body-here (c .before .before .before .before .before .before .before .before .before .before .before .before .args .table .now) (c .before .before .before .before .before .before .before .before .before .before .before .before .args .words .now) (c .before .before .before .before .before .before .before .before .before .before .before .before .args .log .now) (c .before .before .before .before .before .before .before .before .before .before .before .before .args .kind) (c .before .before .before .before .before .before .before .before .before .before .before .before .args .level) (c .before .before .before .before .before .before .before .before .before .before .before .before .args .scope) (c .before .before .before .before .before .before .before .before .before .before .before .before .args .at) (c .before .before .before .before .before .before .before .before .before .value .result) (c .before .before .before .before .before .before .before .before .before .value .ensures) v excluded d f next q)))
+      let at-prepared = c .before .before .before .before in
+      let at-prepare = at-prepared .before .before .before in
+      let at-value = at-prepare .before .before in
+      let value = at-value .value in
+      let a = at-value .before .before .before .args in
+      (ρ : List ℤ) (v : ℕ) (excluded : List (List ℤ)) (d f : Tree) (next : ℕ) (o : Outer (a .environment) (a .scope) ρ)
+      (q : Quantified (a .table .now) (a .words .now) (a .kind) (a .level) (a .scope) (a .at) v excluded d f next) →
+      Works (a .kind) (a .table .now) (a .log .now) f ρ
+      (found (a .table .now) (a .words .now) (a .log .now) (a .kind) (a .level) (a .scope) (a .at) (value .result)
+      (value .ensures) v excluded d f next q (a .environment) ρ o)
+      (length (at-prepare .prepare .last .1 .1 .1 .1 .1 .0) / 17 - (at-prepared .prepared .given .0 .1 .1 .0)) next
+      (c .instances .last .1 .1 .1 .1 .1 .1 .0) (c .instances .result)
+  worked c =
+      let then = c .before .before .before in
+      let at-value = then .before .before .before .before .before .before in
+      let value = at-value .value in
+      let a = at-value .before .before .before .args in
+      λ ρ v excluded d f next o q.
+      (c .instances .ensures .0 ρ
+      (found (a .table .now) (a .words .now) (a .log .now) (a .kind) (a .level) (a .scope) (a .at) (value .result)
+      (value .ensures) v excluded d f next q (a .environment) ρ o) f next o
+      ((stood then ρ v excluded d f next o q) .found)
+      (subst
+      (λ (n : ℕ). Node (a .table .now) (a .words .now) L.Role.formula (a .level) (a .scope + (value .result)) n f next)
+      (sym ((stood then ρ v excluded d f next o q) .behind))
+      (body-here (a .table .now) (a .words .now) (a .log .now) (a .kind) (a .level) (a .scope) (a .at) (value .result)
+      (value .ensures) v excluded d f next q)))
 
   quantifier-same-length-2 : quantifier-lts.Need-same-length-2 quantifier-calls quantifier-at quantifier.Post
-  quantifier-same-length-2 c = c .before .before .before .before .instances .kept .1 .1 .1 .1 .1 .0 ∙ c .before .before .before .before .before .before .before .before .before .before .before .prepare .kept .1 .1 .1 .1 .1 .0
+  quantifier-same-length-2 c =
+      let at-instances = c .before .before .before .before in
+      let at-prepare = at-instances .before .before .before .before .before .before .before in
+      at-instances .instances .kept .1 .1 .1 .1 .1 .0 ∙ at-prepare .prepare .kept .1 .1 .1 .1 .1 .0
 
   quantifier-same-length-3 : quantifier-lts.Need-same-length-3 quantifier-calls quantifier-at quantifier.Post
   quantifier-same-length-3 c = c .before .before .before .before .instances .kept .1 .1 .1 .1 .1 .1 .0
 
   quantifier-returns-2 : quantifier-lts.Need-returns-2 quantifier-calls quantifier-at quantifier.Post
-  quantifier-returns-2 c = λ ρ v excluded d f next o q. let s = (stood (c .before .before .before .before .before .before .before) ρ v excluded d f next o q) in quantifier-short (c .before .before .before .before .before .before .before .before .before .before .before .before .before .before .before .before .args .table .now) (c .before .before .before .before .before .before .before .before .before .before .before .before .before .before .before .before .args .words .now) (c .before .before .before .before .before .before .before .before .before .before .before .before .before .before .before .before .args .log .now) (c .before .before .before .before .before .before .before .before .before .before .before .before .before .before .before .before .args .kind) (c .before .before .before .before .before .before .before .before .before .before .before .before .before .before .before .before .args .level) (c .before .before .before .before .before .before .before .before .before .before .before .before .before .before .before .before .args .scope) (c .before .before .before .before .before .before .before .before .before .before .before .before .before .before .before .before .args .at) (c .before .before .before .before .before .before .before .before .before .before .before .before .before .value .result) (c .before .before .before .before .before .before .before .before .before .before .before .before .before .value .ensures) v excluded d f next q (c .before .before .before .before .before .before .before .before .before .before .before .before .before .before .before .before .args .environment) ρ o (length (c .before .before .before .before .before .before .before .before .before .before .before .before .before .before .before .before .args .scratch .now) / 17) _ (omega (arith, (worked (c .before .before .before .before) ρ v excluded d f next o q) .short (c .if1 .taken), s .counted, s .fits, c .before .before .before .before .before .before .before .before .before .before .before .prepare .kept .1 .1 .1 .1 .1 .0)) (c .before .before .before .before .instances .kept .1 .1 .1 .1 .1 .1 .0) refl
+  quantifier-returns-2 c =
+      let at-instances = c .before .before .before .before in
+      let then = at-instances .before .before .before in
+      let at-prepare = then .before .before .before .before in
+      let at-value = at-prepare .before .before in
+      let value = at-value .value in
+      let a = at-value .before .before .before .args in
+      λ ρ v excluded d f next o q. let s = (stood then ρ v excluded d f next o q) in quantifier-short (a .table .now)
+      (a .words .now) (a .log .now) (a .kind) (a .level) (a .scope) (a .at) (value .result) (value .ensures) v excluded
+      d f next q (a .environment) ρ o (length (a .scratch .now) / 17) _
+      (omega (
+        arith,
+        (worked at-instances ρ v excluded d f next o q) .short (c .if1 .taken),
+        s .counted,
+        s .fits,
+        at-prepare .prepare .kept .1 .1 .1 .1 .1 .0,
+      )) (at-instances .instances .kept .1 .1 .1 .1 .1 .1 .0) refl
 
   quantifier-conclude-requires : quantifier-lts.Need-conclude-requires quantifier-calls quantifier-at quantifier.Post
-  quantifier-conclude-requires c κs = let s = (stood (c .before .before .before .before .before .before .before .before .before) (c .before .before .before .before .before .before .before .before .before .before .before .before .before .before .before .before .before .before .pre .1 .5 .0) (c .before .before .before .before .before .before .before .before .before .before .before .before .before .before .before .before .before .before .pre .1 .4 .0) (c .before .before .before .before .before .before .before .before .before .before .before .before .before .before .before .before .before .before .pre .1 .4 .1) (c .before .before .before .before .before .before .before .before .before .before .before .before .before .before .before .before .before .before .pre .1 .4 .2) (c .before .before .before .before .before .before .before .before .before .before .before .before .before .before .before .before .before .before .pre .1 .4 .3) (c .before .before .before .before .before .before .before .before .before .before .before .before .before .before .before .before .before .before .pre .1 .4 .4) (c .before .before .before .before .before .before .before .before .before .before .before .before .before .before .before .before .before .before .pre .1 .5 .1) (c .before .before .before .before .before .before .before .before .before .before .before .before .before .before .before .before .before .before .pre .1 .4 .5)) in (omega (arith, c .before .before .before .before .before .before .instances .kept .1 .1 .1 .1 .1 .1 .0, c .before .before .before .before .before .before .before .before .before .before .before .before .before .before .before .before .before .before .pre .1 .3), omega (arith, s .below, s .fits, c .before .before .before .before .before .before .before .before .before .before .before .before .before .prepare .kept .1 .1 .1 .1 .1 .0, c .before .before .before .before .before .before .instances .kept .1 .1 .1 .1 .1 .0), (concluding (c .before .before .before .before .before .before .before .before .before .before .before .before .before .before .before .before .before .before .args .table .now) (c .before .before .before .before .before .before .before .before .before .before .before .before .before .before .before .before .before .before .args .words .now) (c .before .before .before .before .before .before .before .before .before .before .before .before .before .before .before .before .before .before .args .log .now) (c .before .before .before .before .before .before .before .before .before .before .before .before .before .before .before .before .before .before .args .kind) (c .before .before .before .before .before .before .before .before .before .before .before .before .before .before .before .before .before .before .args .level) (c .before .before .before .before .before .before .before .before .before .before .before .before .before .before .before .before .before .before .args .scope) (c .before .before .before .before .before .before .before .before .before .before .before .before .before .before .before .before .before .before .args .at) (c .before .before .before .before .before .before .before .before .before .before .before .before .before .before .before .value .result) (c .before .before .before .before .before .before .before .before .before .before .before .before .before .before .before .value .ensures) (c .before .before .before .before .before .before .before .before .before .before .before .before .before .before .before .before .before .before .pre .1 .4 .0) (c .before .before .before .before .before .before .before .before .before .before .before .before .before .before .before .before .before .before .pre .1 .4 .1) (c .before .before .before .before .before .before .before .before .before .before .before .before .before .before .before .before .before .before .pre .1 .4 .2) (c .before .before .before .before .before .before .before .before .before .before .before .before .before .before .before .before .before .before .pre .1 .4 .3) (c .before .before .before .before .before .before .before .before .before .before .before .before .before .before .before .before .before .before .pre .1 .4 .4) (c .before .before .before .before .before .before .before .before .before .before .before .before .before .before .before .before .before .before .pre .1 .4 .5) (c .before .before .before .before .before .before .before .before .before .before .before .before .before .before .before .before .before .before .args .environment) (c .before .before .before .before .before .before .before .before .before .before .before .before .before .before .before .before .before .before .pre .1 .5 .0) (c .before .before .before .before .before .before .before .before .before .before .before .before .before .before .before .before .before .before .pre .1 .5 .1) (c .before .before .before .before .before .before .before .before .before .before .before .before .before .prepare .last .1 .1 .1 .1 .1 .0) (c .before .before .before .before .before .before .instances .last .1 .1 .1 .1 .1 .0) (c .before .before .before .before .before .before .instances .last .1 .1 .1 .1 .1 .1 .0) (c .before .before .before .before .before .before .before .before .before .before .prepared .given .0 .0) (c .before .before .before .before .before .before .before .before .before .before .prepared .given .0 .1 .0) (c .before .before .before .before .before .before .before .before .before .before .prepared .given .0 .1 .1 .0) (length (c .before .before .before .before .before .before .before .before .before .before .before .before .before .prepare .last .1 .1 .1 .1 .1 .0) / 17 - (c .before .before .before .before .before .before .before .before .before .before .prepared .given .0 .1 .1 .0)) (c .before .before .before .before .before .before .before .before .before .before .prepared .given .0 .1 .1 .1 .0) (c .before .before .before .before .before .before .instances .result) (s .below) (c .before .before .before .before .before .before .instances .ensures .1) (s .found) (s .behind) (worked (c .before .before .before .before .before .before) (c .before .before .before .before .before .before .before .before .before .before .before .before .before .before .before .before .before .before .pre .1 .5 .0) (c .before .before .before .before .before .before .before .before .before .before .before .before .before .before .before .before .before .before .pre .1 .4 .0) (c .before .before .before .before .before .before .before .before .before .before .before .before .before .before .before .before .before .before .pre .1 .4 .1) (c .before .before .before .before .before .before .before .before .before .before .before .before .before .before .before .before .before .before .pre .1 .4 .2) (c .before .before .before .before .before .before .before .before .before .before .before .before .before .before .before .before .before .before .pre .1 .4 .3) (c .before .before .before .before .before .before .before .before .before .before .before .before .before .before .before .before .before .before .pre .1 .4 .4) (c .before .before .before .before .before .before .before .before .before .before .before .before .before .before .before .before .before .before .pre .1 .5 .1) (c .before .before .before .before .before .before .before .before .before .before .before .before .before .before .before .before .before .before .pre .1 .4 .5)) (c .before .before .if1 .left)))
+  quantifier-conclude-requires c κs =
+      let at-if1 = c .before .before in
+      let at-instances = at-if1 .before .before .before .before in
+      let instances = at-instances .instances in
+      let then = at-instances .before .before .before in
+      let at-prepared = then .before in
+      let prepared = at-prepared .prepared in
+      let at-prepare = at-prepared .before .before .before in
+      let prepare = at-prepare .prepare in
+      let at-value = at-prepare .before .before in
+      let value = at-value .value in
+      let start = at-value .before .before .before in
+      let a = start .args in
+      let s =
+      (stood then (start .pre .1 .5 .0) (start .pre .1 .4 .0) (start .pre .1 .4 .1) (start .pre .1 .4 .2)
+      (start .pre .1 .4 .3) (start .pre .1 .4 .4) (start .pre .1 .5 .1) (start .pre .1 .4 .5)) in (
+        omega (arith, instances .kept .1 .1 .1 .1 .1 .1 .0, start .pre .1 .3),
+        omega
+            (arith, s .below, s .fits, prepare .kept .1 .1 .1 .1 .1 .0, instances .kept .1 .1 .1 .1 .1 .0),
+        (concluding (a .table .now) (a .words .now) (a .log .now) (a .kind) (a .level) (a .scope) (a .at) (value .result)
+            (value .ensures) (start .pre .1 .4 .0) (start .pre .1 .4 .1) (start .pre .1 .4 .2) (start .pre .1 .4 .3)
+            (start .pre .1 .4 .4) (start .pre .1 .4 .5) (a .environment) (start .pre .1 .5 .0) (start .pre .1 .5 .1)
+            (prepare .last .1 .1 .1 .1 .1 .0) (instances .last .1 .1 .1 .1 .1 .0) (instances .last .1 .1 .1 .1 .1 .1 .0)
+            (prepared .given .0 .0) (prepared .given .0 .1 .0) (prepared .given .0 .1 .1 .0)
+            (length (prepare .last .1 .1 .1 .1 .1 .0) / 17 - (prepared .given .0 .1 .1 .0)) (prepared .given .0 .1 .1 .1 .0)
+            (instances .result) (s .below) (instances .ensures .1) (s .found) (s .behind)
+            (worked at-instances (start .pre .1 .5 .0) (start .pre .1 .4 .0) (start .pre .1 .4 .1) (start .pre .1 .4 .2)
+            (start .pre .1 .4 .3) (start .pre .1 .4 .4) (start .pre .1 .5 .1) (start .pre .1 .4 .5)) (at-if1 .if1 .left)),
+      )
 
   quantifier-same-length-4 : quantifier-lts.Need-same-length-4 quantifier-calls quantifier-at quantifier.Post
-  quantifier-same-length-4 c = c .before .before .before .before .before .before .before .before .instances .kept .1 .1 .1 .1 .1 .0 ∙ c .before .before .before .before .before .before .before .before .before .before .before .before .before .before .before .prepare .kept .1 .1 .1 .1 .1 .0
+  quantifier-same-length-4 c =
+      let at-instances = c .before .before .before .before .before .before .before .before in
+      let at-prepare = at-instances .before .before .before .before .before .before .before in
+      at-instances .instances .kept .1 .1 .1 .1 .1 .0 ∙ at-prepare .prepare .kept .1 .1 .1 .1 .1 .0
 
   quantifier-same-length-5 : quantifier-lts.Need-same-length-5 quantifier-calls quantifier-at quantifier.Post
-  quantifier-same-length-5 c = c .before .conclude .kept .1 .1 .1 .0 ∙ c .before .before .before .before .before .before .before .before .instances .kept .1 .1 .1 .1 .1 .1 .0
+  quantifier-same-length-5 c =
+      let at-instances = c .before .before .before .before .before .before .before .before in
+      c .before .conclude .kept .1 .1 .1 .0 ∙ at-instances .instances .kept .1 .1 .1 .1 .1 .1 .0
 
   quantifier-returns-3 : quantifier-lts.Need-returns-3 quantifier-calls quantifier-at quantifier.Post
-  quantifier-returns-3 c = λ ρ v excluded d f next o q.
-      let s = (stood (c .before .before .before .before .before .before .before .before .before .before .before) ρ v excluded d f next o q) in
-      quantifier-whole (c .before .before .before .before .before .before .before .before .before .before .before .before .before .before .before .before .before .before .before .before .args .table .now) (c .before .before .before .before .before .before .before .before .before .before .before .before .before .before .before .before .before .before .before .before .args .words .now) (c .before .before .before .before .before .before .before .before .before .before .before .before .before .before .before .before .before .before .before .before .args .log .now) (c .before .before .before .before .before .before .before .before .before .before .before .before .before .before .before .before .before .before .before .before .args .kind) (c .before .before .before .before .before .before .before .before .before .before .before .before .before .before .before .before .before .before .before .before .args .level) (c .before .before .before .before .before .before .before .before .before .before .before .before .before .before .before .before .before .before .before .before .args .scope) (c .before .before .before .before .before .before .before .before .before .before .before .before .before .before .before .before .before .before .before .before .args .at) (c .before .before .before .before .before .before .before .before .before .before .before .before .before .before .before .before .before .value .result) (c .before .before .before .before .before .before .before .before .before .before .before .before .before .before .before .before .before .value .ensures) v excluded d f next q (c .before .before .before .before .before .before .before .before .before .before .before .before .before .before .before .before .before .before .before .before .args .environment) ρ o (length (c .before .before .before .before .before .before .before .before .before .before .before .before .before .before .before .before .before .before .before .before .args .scratch .now) / 17) (c .before .before .before .before .before .before .before .before .before .before .before .before .prepared .given .0 .1 .1 .0) (length (c .before .before .before .before .before .before .before .before .before .before .before .before .before .before .before .prepare .last .1 .1 .1 .1 .1 .0) / 17 - (c .before .before .before .before .before .before .before .before .before .before .before .before .prepared .given .0 .1 .1 .0)) _ _ (ap (λ (n : ℕ). n / 17 - (c .before .before .before .before .before .before .before .before .before .before .before .before .prepared .given .0 .1 .1 .0)) (c .before .before .before .before .before .before .before .before .before .before .before .before .before .before .before .prepare .kept .1 .1 .1 .1 .1 .0)) (s .counted) (s .fits) (c .before .before .before .before .before .before .before .before .instances .kept .1 .1 .1 .1 .1 .1 .0)
-      (c .before .conclude .ensures (concluding (c .before .before .before .before .before .before .before .before .before .before .before .before .before .before .before .before .before .before .before .before .args .table .now) (c .before .before .before .before .before .before .before .before .before .before .before .before .before .before .before .before .before .before .before .before .args .words .now) (c .before .before .before .before .before .before .before .before .before .before .before .before .before .before .before .before .before .before .before .before .args .log .now) (c .before .before .before .before .before .before .before .before .before .before .before .before .before .before .before .before .before .before .before .before .args .kind) (c .before .before .before .before .before .before .before .before .before .before .before .before .before .before .before .before .before .before .before .before .args .level) (c .before .before .before .before .before .before .before .before .before .before .before .before .before .before .before .before .before .before .before .before .args .scope) (c .before .before .before .before .before .before .before .before .before .before .before .before .before .before .before .before .before .before .before .before .args .at) (c .before .before .before .before .before .before .before .before .before .before .before .before .before .before .before .before .before .value .result) (c .before .before .before .before .before .before .before .before .before .before .before .before .before .before .before .before .before .value .ensures) v excluded d f next q (c .before .before .before .before .before .before .before .before .before .before .before .before .before .before .before .before .before .before .before .before .args .environment) ρ o (c .before .before .before .before .before .before .before .before .before .before .before .before .before .before .before .prepare .last .1 .1 .1 .1 .1 .0) (c .before .before .before .before .before .before .before .before .instances .last .1 .1 .1 .1 .1 .0) (c .before .before .before .before .before .before .before .before .instances .last .1 .1 .1 .1 .1 .1 .0) (c .before .before .before .before .before .before .before .before .before .before .before .before .prepared .given .0 .0) (c .before .before .before .before .before .before .before .before .before .before .before .before .prepared .given .0 .1 .0) (c .before .before .before .before .before .before .before .before .before .before .before .before .prepared .given .0 .1 .1 .0) (length (c .before .before .before .before .before .before .before .before .before .before .before .before .before .before .before .prepare .last .1 .1 .1 .1 .1 .0) / 17 - (c .before .before .before .before .before .before .before .before .before .before .before .before .prepared .given .0 .1 .1 .0)) (c .before .before .before .before .before .before .before .before .before .before .before .before .prepared .given .0 .1 .1 .1 .0) (c .before .before .before .before .before .before .before .before .instances .result) (s .below) (c .before .before .before .before .before .before .before .before .instances .ensures .1) (s .found) (s .behind) (worked (c .before .before .before .before .before .before .before .before) ρ v excluded d f next o q) (c .before .before .before .before .if1 .left)))
-      ((worked (c .before .before .before .before .before .before .before .before) ρ v excluded d f next o q) .behind (c .before .before .before .before .if1 .left))
+  quantifier-returns-3 c =
+      let at-if1 = c .before .before .before .before in
+      let if1 = at-if1 .if1 in
+      let at-instances = at-if1 .before .before .before .before in
+      let instances = at-instances .instances in
+      let then = at-instances .before .before .before in
+      let at-prepared = then .before in
+      let prepared = at-prepared .prepared in
+      let at-prepare = at-prepared .before .before .before in
+      let prepare = at-prepare .prepare in
+      let at-value = at-prepare .before .before in
+      let value = at-value .value in
+      let a = at-value .before .before .before .args in
+      let the-length = length (prepare .last .1 .1 .1 .1 .1 .0) / 17 - (prepared .given .0 .1 .1 .0) in
+      λ ρ v excluded d f next o q. let s = (stood then ρ v excluded d f next o q) in quantifier-whole (a .table .now)
+      (a .words .now) (a .log .now) (a .kind) (a .level) (a .scope) (a .at) (value .result) (value .ensures) v excluded
+      d f next q (a .environment) ρ o (length (a .scratch .now) / 17) (prepared .given .0 .1 .1 .0) the-length _ _
+      (ap (λ (n : ℕ). n / 17 - (prepared .given .0 .1 .1 .0)) (prepare .kept .1 .1 .1 .1 .1 .0)) (s .counted) (s .fits)
+      (instances .kept .1 .1 .1 .1 .1 .1 .0)
+      (c .before .conclude .ensures
+      (concluding (a .table .now) (a .words .now) (a .log .now) (a .kind) (a .level) (a .scope) (a .at) (value .result)
+      (value .ensures) v excluded d f next q (a .environment) ρ o (prepare .last .1 .1 .1 .1 .1 .0)
+      (instances .last .1 .1 .1 .1 .1 .0) (instances .last .1 .1 .1 .1 .1 .1 .0) (prepared .given .0 .0)
+      (prepared .given .0 .1 .0) (prepared .given .0 .1 .1 .0) the-length (prepared .given .0 .1 .1 .1 .0)
+      (instances .result) (s .below) (instances .ensures .1) (s .found) (s .behind)
+      (worked at-instances ρ v excluded d f next o q) (if1 .left)))
+      ((worked at-instances ρ v excluded d f next o q) .behind (if1 .left))
 
 pub +children+formula+instances+quantifier-spec : {M : Type 1} → statement M
 +children+formula+instances+quantifier-spec =

@@ -63,7 +63,11 @@ returns-2 : tie.Need-returns-2 Inv-loop μ-loop
 returns-2 c = ask-few (c .before .before .args .table .now) (eq-eqb _ 0 (c .before .if1 .left)) (lt-leb 1 _ (c .if2 .taken))
 
 returns-3 : tie.Need-returns-3 Inv-loop μ-loop
-returns-3 c = ask-many (c .before .before .before .args .table .now) (eq-eqb _ 0 (c .before .before .if1 .left)) (le-leb 1 _ (c .before .if2 .left)) (lt-leb _ 256 (c .if3 .taken))
+returns-3 c =
+    let at-if1 = c .before .before in
+    let a = at-if1 .before .args in
+    ask-many (a .table .now) (eq-eqb _ 0 (at-if1 .if1 .left)) (le-leb 1 _ (c .before .if2 .left))
+    (lt-leb _ 256 (c .if3 .taken))
 
 loop-holds : tie.Need-loop-holds Inv-loop μ-loop
 loop-holds c = (

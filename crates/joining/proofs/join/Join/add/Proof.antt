@@ -15,8 +15,11 @@ enum-known-answer c = search needs
 
 returns : tie.Need-returns
 returns c =
-    let e : same (c .before .before .before .answer .given .0 .0) (c .before .before .before .before .before .args .self .kind) ≡ true = c .if1 .taken in
-    λ a. A.add-vanishing (c .before .before .before .answer .given .0 .0) (A.retold (c .before .before .before .answer .given .1) a) e
+    let at-answer = c .before .before .before in
+    let answer = at-answer .answer in
+    let a-2 = at-answer .before .before .args in
+    let e : same (answer .given .0 .0) (a-2 .self .kind) ≡ true = c .if1 .taken in
+    λ a. A.add-vanishing (answer .given .0 .0) (A.retold (answer .given .1) a) e
 
 enum-told-2 : tie.Need-enum-told-2
 enum-told-2 c = search needs
@@ -25,15 +28,22 @@ enum-known-answer-2 : tie.Need-enum-known-answer-2
 enum-known-answer-2 c = search needs
 
 keep-requires : tie.Need-keep-requires
-keep-requires c κs = (c .before .before .before .before .pre .0, A.retold (c .before .before .answer2 .given .1) (c .before .before .before .before .pre .1))
+keep-requires c κs =
+    let at-answer2 = c .before .before in
+    let at-pre = at-answer2 .before .before in
+    let pre = at-pre .pre in
+    (pre .0, A.retold (at-answer2 .answer2 .given .1) (pre .1))
 
 returns-2 : tie.Need-returns-2
 returns-2 c = λ a. A.add-short (A.retold (c .enum-told .given .1) a)
 
 returns-3 : tie.Need-returns-3
 returns-3 c =
-    let e : same (c .before .before .before .answer .given .0 .0) (c .before .before .before .before .before .args .self .kind) ≡ false = c .if1 .left in
-    λ a. A.add-deciding (c .before .before .before .answer .given .0 .0) (A.retold (c .before .before .before .answer .given .1) a) e
+    let at-answer = c .before .before .before in
+    let answer = at-answer .answer in
+    let a-2 = at-answer .before .before .args in
+    let e : same (answer .given .0 .0) (a-2 .self .kind) ≡ false = c .if1 .left in
+    λ a. A.add-deciding (answer .given .0 .0) (A.retold (answer .given .1) a) e
 
 returns-4 : tie.Need-returns-4
 returns-4 c = λ a. A.add-long (A.retold (c .enum-told2 .given .1) a)

@@ -48,17 +48,25 @@ same-length c = search needs
 
 returns-6 : tie.Need-returns-6
 returns-6 c =
-    let o = undecided (c .before .before .before .before .before .before .before .before .before .before) in
-    let none = c .before .before .before .before .before .before .before .before .if4 .left in
-    let one = c .before .before .before .before .before .before .if5 .left in
-    let h = c .before .before .head in
-    λ b ts need places s.
-    F.finish-part s (o .0) (o .1) (o .2) none one _ (h .kept .0) (omega (arith, s .within, c .before .before .before .before .if6 .taken)) (h .ensures)
+    let at-head = c .before .before in
+    let at-if6 = at-head .before .before in
+    let at-if5 = at-if6 .before .before in
+    let at-if4 = at-if5 .before .before in
+    let then = at-if4 .before .before in
+    let o = undecided then in
+    let none = at-if4 .if4 .left in
+    let one = at-if5 .if5 .left in
+    let h = at-head .head in
+    λ b ts need places s. F.finish-part s (o .0) (o .1) (o .2) none one _ (h .kept .0)
+    (omega (arith, s .within, at-if6 .if6 .taken)) (h .ensures)
 
 returns-7 : tie.Need-returns-7
 returns-7 c =
-    let o = undecided (c .before .before .before .before .before .before) in
-    λ b ts need places s. F.finish-over s (o .0) (o .1) (o .2) (c .before .before .before .before .if4 .left) (c .before .before .if5 .left) (c .if6 .left)
+    let at-if5 = c .before .before in
+    let at-if4 = at-if5 .before .before in
+    let then = at-if4 .before .before in
+    let o = undecided then in
+    λ b ts need places s. F.finish-over s (o .0) (o .1) (o .2) (at-if4 .if4 .left) (at-if5 .if5 .left) (c .if6 .left)
 
 pub finish-spec : {M : Type 1} → statement M
 finish-spec =

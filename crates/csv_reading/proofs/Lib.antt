@@ -1,0 +1,4 @@
+pub mod FieldLaws
+pub mod WholeFields
+pub mod RecordLaws
+pub mod RowsLaws

@@ -1,0 +1,2 @@
+// The dual of a policy, in words.
+pub mod dual_words;

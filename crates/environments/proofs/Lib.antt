@@ -1,0 +1,9 @@
+-- Laws that several proofs of this crate, and of those above it, cite.
+pub mod Filling
+pub mod CopyLaws
+pub mod Sums
+pub mod TermLaws
+pub mod LookupLaws
+pub mod FitLaws
+pub mod WayLaws
+pub mod RowLaws

@@ -1,0 +1,5 @@
+-- Laws that several proofs of this crate cite.
+pub mod InstanceLaws
+pub mod KeyLaws
+pub mod SeenLaws
+pub mod ClosedLaws

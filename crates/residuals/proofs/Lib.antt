@@ -1,0 +1,5 @@
+-- Laws that several proofs of this crate cite.
+pub mod ReduceSettling
+pub mod ReduceChains
+pub mod ReduceWalking
+pub mod ReduceCall

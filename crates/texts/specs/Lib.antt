@@ -1,4 +1,0 @@
-pub mod Number
-pub mod Field
-pub mod Record
-pub mod Rows

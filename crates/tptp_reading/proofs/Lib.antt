@@ -1,0 +1,16 @@
+pub mod StateLaws
+pub mod KnownLaws
+pub mod LeafSettling
+pub mod AheadTrees
+pub mod RoomLaws
+pub mod OperandLaws
+pub mod PolicyLaws
+pub mod LayingLaws
+pub mod JoinLaws
+pub mod ChildrenLaws
+pub mod StopLaws
+pub mod ChainLaws
+pub mod SomeLaws
+pub mod MoreLaws
+pub mod RestrictionLaws
+pub mod QuantifierLaws

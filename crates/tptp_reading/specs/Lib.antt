@@ -1,0 +1,4 @@
+pub mod Told
+pub mod Known
+pub mod Formula
+pub mod Policy

@@ -1,0 +1,82 @@
+-- `tptp_tokens::terms::variable` meets its contract.
+use native.Mathlib.Omega.{arith}
+use Prim.Native.Nat.{_+_}
+use mathlib.Core.Path.{sym, subst, ap, _∙_}
+use lib.ListN.{length, set, length-set}
+use lib.IntN.{pos}
+use Rattle.model.specs.Words.{Words}
+use Rattle.model.specs.TptpReading.{natural}
+use Rattle.tptp_tokens.specs.Numbers.{Naturals}
+use Rattle.tptp_tokens.specs.Steps.{Value}
+use Rattle.tptp_tokens.specs.Terms.{TermStands, readVariable}
+use Rattle.tptp_tokens.proofs.TokenLaws.{halt}
+use Rattle.tptp_tokens.proofs.TermLaws.{variable-at}
+use borrow.Author.Needs.{needs}
+use Rattle.tptp_tokens.proofs.terms.variable.Statement.{statement}
+use Rattle.tptp_tokens.proofs.terms.variable.Tie as tie
+
+natural-requires : tie.Need-natural-requires
+natural-requires c κs = search needs
+
+enum-known-found : tie.Need-enum-known-found
+enum-known-found c = search needs
+
+enum-known-found-2 : tie.Need-enum-known-found-2
+enum-known-found-2 c = search needs
+
+mul-own : tie.Need-mul-own
+mul-own c = search needs
+
+slice-set-of-own : tie.Need-slice-set-of-own
+slice-set-of-own c = search needs
+
+add-put : tie.Need-add-put
+add-put c = search needs
+
+put-requires : tie.Need-put-requires
+put-requires c κs =
+    let k = c .before .before in
+    let a = k .before .before .before .before .args in
+    let n = subst (Naturals (a .text .now) (a .at)) (k .found2 .given .1) (k .before .before .natural .ensures) in
+    (omega (arith, length-set (a .own .now) (a .k) (pos 1), k .before .before .before .before .pre .1), n .2)
+
+returns : tie.Need-returns
+returns c =
+    let k = c .before in
+    let a = k .before .before .before .before .args in
+    halt natural _ (a .text .now) (a .at) _ _
+    (subst (Naturals (a .text .now) (a .at)) (k .found .given .1) (k .before .before .natural .ensures))
+
+same-length : tie.Need-same-length
+same-length c =
+    let k = c .before .before .before .before in
+    let a = k .before .before .before .before .args in
+    ap length (c .before .put .ensures)
+    ∙ length-set (set (a .own .now) (a .k) (pos 1)) (a .k + 1) _
+    ∙ length-set (a .own .now) (a .k) (pos 1)
+
+returns-2 : tie.Need-returns-2
+returns-2 c =
+    let k = c .before .before .before .before in
+    let a = k .before .before .before .before .args in
+    subst
+    (λ (own : Words). Value readVariable (TermStands (a .k) (a .own .now) own) (a .text .now) (a .at)
+    (k .found2 .given .0 .0)) (sym (c .before .put .ensures))
+    (variable-at (a .text .now) (a .at) (a .k) (a .own .now) _ (k .found2 .given .0 .1 .0)
+    (k .before .before .before .before .pre .1)
+    (subst (Naturals (a .text .now) (a .at)) (k .found2 .given .1) (k .before .before .natural .ensures)))
+
+pub variable-spec : {M : Type 1} → statement M
+variable-spec =
+    tie.close
+    (tie.spec
+    natural-requires
+    enum-known-found
+    enum-known-found-2
+    mul-own
+    slice-set-of-own
+    add-put
+    put-requires
+    returns
+    same-length
+    returns-2)

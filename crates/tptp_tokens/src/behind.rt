@@ -1,0 +1,68 @@
+// Tokens and terms behind what was read before: a refusal is passed on.
+use crate::terms::term;
+use crate::terms::terms;
+use crate::tokens::Step;
+use crate::tokens::expect;
+use crate::tokens::opening;
+use crate::tokens::token;
+ghost use mathlib.Core.List.{[], _∷_};
+ghost use Prim.Native.Nat.{_+_, _≤_};
+ghost use lib.ListN.{length};
+ghost use Rattle.model.specs.TptpReading as R;
+ghost use Rattle.tptp_tokens.specs.Steps.{Steps, Valued, Within, Behind};
+ghost use Rattle.tptp_tokens.specs.Terms as T;
+
+// A token of one byte.
+pub fn then_expect(text: &[u8], before: Step, c: u8) -> Step
+    requires { ⌜ Within (now text) before ⌝ }
+    ensures { λ r. ⌜ Behind (Steps (R.token (c ∷ [])) (now (text .entry))) before r × Within (now (text .entry)) r ⌝ }
+{
+    let Step::At(at) = before else {
+        return before;
+    };
+    expect(text, at, c)
+}
+
+// A token of these bytes.
+pub fn then_token(text: &[u8], before: Step, word: &[u8]) -> Step
+    requires { ⌜ Within (now text) before ⌝ }
+    ensures { λ r. ⌜ Behind (Steps (R.token (now (word .entry))) (now (text .entry))) before r × Within (now (text .entry)) r ⌝ }
+{
+    let Step::At(at) = before else {
+        return before;
+    };
+    token(text, at, word)
+}
+
+// An opening parenthesis, with room for so many more.
+pub fn then_opening(text: &[u8], before: Step, room: usize) -> Step
+    requires { ⌜ Within (now text) before ⌝ }
+    ensures { λ r. ⌜ Behind (Steps (R.opening room) (now (text .entry))) before r × Within (now (text .entry)) r ⌝ }
+{
+    let Step::At(at) = before else {
+        return before;
+    };
+    opening(text, at, room)
+}
+
+// A term, whose words go to an index.
+pub fn then_term(text: &[u8], before: Step, own: &mut [i32], k: usize) -> Step
+    requires { ⌜ Within (now text) before × (k + 2 ≤ length (now own)) ⌝ }
+    ensures { λ r. ⌜ Behind (Valued R.term (T.TermStands k (now (own .entry)) (now (own .exit))) (now (text .entry))) before r × Within (now (text .entry)) r ⌝ }
+{
+    let Step::At(at) = before else {
+        return before;
+    };
+    term(text, at, own, k)
+}
+
+// The terms of an atom.
+pub fn then_terms(text: &[u8], before: Step, own: &mut [i32]) -> Step
+    requires { ⌜ Within (now text) before × (15 ≤ length (now own)) ⌝ }
+    ensures { λ r. ⌜ Behind (Valued R.terms (T.TermsStand (now (own .entry)) (now (own .exit))) (now (text .entry))) before r × Within (now (text .entry)) r ⌝ }
+{
+    let Step::At(at) = before else {
+        return before;
+    };
+    terms(text, at, own)
+}
