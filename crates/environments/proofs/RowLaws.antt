@@ -104,7 +104,11 @@ module _ (log : Words) (p : ℕ) (ts : List Term) (e : Environment) where
         }
 
         -- one, for which there is a place
-        pub far-one : (f : Environment) → found log p ts e row ≡ f ∷ [] → 17 * (base + made) + 17 ≤ length scratch → {after : Words} → after ≡ put scratch (base + made) f → SoFar (row + 1) base (made + 1) before after
+        pub far-one :
+            (f : Environment) →
+            found log p ts e row ≡ f ∷ [] →
+            17 * (base + made) + 17 ≤ length scratch →
+            {after : Words} → after ≡ put scratch (base + made) f → SoFar (row + 1) base (made + 1) before after
         far-one f one room {after} is = record {
           done = s .done ++ f ∷ [];
           split =

@@ -52,7 +52,14 @@ pub fn at_most(d: i32, x: i32, y: i32) -> bool
 // The comparison at an index: the number of its first term, with d added, is at most that of its second.
 pub fn compare(environment: Environment, words: &[i32], at: usize) -> bool
     requires { ⌜ (at + 6 < 2 ^ 64) × ((table : W.Words) → all (inScope table (now words) 16) (places (at + 2) 2) ≡ true) ⌝ }
-    ensures { λ r. ⌜ ((e : M.Environment) (table : W.Words) → Holds environment e → r ≡ sumAtMost (W.word (now (words .entry)) (at + 1)) (M.numberIn (M.look e (termAt table (now (words .entry)) (at + 2)))) (M.numberIn (M.look e (termAt table (now (words .entry)) (at + 4))))) ⌝ }
+    ensures { λ r. ⌜
+        ((e : M.Environment) (table : W.Words) →
+        Holds environment e →
+        r ≡ sumAtMost
+        (W.word (now (words .entry)) (at + 1))
+        (M.numberIn (M.look e (termAt table (now (words .entry)) (at + 2))))
+        (M.numberIn (M.look e (termAt table (now (words .entry)) (at + 4)))))
+        ⌝ }
 {
     let numbers = environment.numbers;
     let d = word(words, at + 1);

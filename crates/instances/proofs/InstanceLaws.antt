@@ -1,4 +1,5 @@
--- Laws of the search for instances: words compared one by one, a tuple looked for among tuples, and the walk along a list, whose tuples so far and those that are left to find come to the fresh ones of the whole list.
+-- Laws of the search for instances: words compared one by one, a tuple looked for among tuples, and the walk along a list,
+-- whose tuples so far and those that are left to find come to the fresh ones of the whole list.
 use Prim.Native.Nat.{ℕ, suc, _+_, _*_, _-_, _≤_, _<_}
 use native.Mathlib.Omega.{arith}
 use native.Mathlib.Numerals.{add-one}

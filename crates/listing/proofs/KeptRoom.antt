@@ -49,7 +49,10 @@ module _ (test : Environment → Bool) (es : List Environment) (i base made : �
       (ap (placeAt after) (add-zero (base + made)) ∙ here)))
       (outside-front scratch after (base + made) 1 (outside-put scratch (placeOf (environmentOf es i)) after (base + made) long room is) (17 * (base + made)) (omega arith))
 
-module _ (table log : Words) (scope : ℕ) (t : Tree) (leaf : Leaf t) (es : List Environment) (i : ℕ) (room : Room) (made : ℕ) (before scratch : Words) (s : Mapping (kept (keepsOf table (rows log) t)) es i (room .base) made before scratch) (few : made ≤ room .limit - room .used) (h : Holding room before es) where
+module _
+    (table log : Words) (scope : ℕ) (t : Tree) (leaf : Leaf t) (es : List Environment) (i : ℕ) (room : Room) (made : ℕ)
+    (before scratch : Words) (s : Mapping (kept (keepsOf table (rows log) t)) es i (room .base) made before scratch)
+    (few : made ≤ room .limit - room .used) (h : Holding room before es) where
   abbrev test : Environment → Bool
   test = keepsOf table (rows log) t
 

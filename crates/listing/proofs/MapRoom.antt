@@ -26,7 +26,9 @@ module _ {made : List Environment} {base left : ℕ} {before after : Words} wher
   pub adds-places : {r : Added} {n : ℕ} → r ≡ A.Places n → Adds made base left before after r → Filled made base left before after n
   adds-places e adds = subst (Came made base left before after) e (adds .came)
 
-module _ (f : Environment → List Environment) (es : List Environment) (i : ℕ) (room : Room) (made : ℕ) (before scratch : Words) (s : Mapping f es i (room .base) made before scratch) (few : made ≤ room .limit - room .used) (h : Holding room before es) where
+module _
+    (f : Environment → List Environment) (es : List Environment) (i : ℕ) (room : Room) (made : ℕ) (before scratch : Words)
+    (s : Mapping f es i (room .base) made before scratch) (few : made ≤ room .limit - room .used) (h : Holding room before es) where
   -- the places ran out at the i-th environment
   pub map-ran-out :
       i < room .count →

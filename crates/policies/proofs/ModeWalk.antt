@@ -86,7 +86,11 @@ Other (Tag.quantifier b) = Unit {0}
 Other Tag.some = ⊥
 Other Tag.unused = Unit {0}
 
-compare-range : (table words : Words) (scope at : ℕ) → inScope table words scope (at + 2) ≡ true → inScope table words scope (at + 4) ≡ true → all (inScope table words scope) (places (at + 2) 2) ≡ true
+compare-range :
+    (table words : Words) (scope at : ℕ) →
+    inScope table words scope (at + 2) ≡ true →
+    inScope table words scope (at + 4) ≡ true →
+    all (inScope table words scope) (places (at + 2) 2) ≡ true
 unfolding all
 compare-range table words scope at h k = rw (two-places at) (rw (h, k))
 
@@ -110,7 +114,12 @@ module _ (table words : Words) (above scope at : ℕ) (few : predicates table �
       )
 
   -- a comparison
-  pub here-compare : (b : Bool) → Tag.compare b ≡ tagOf (word words at) → Here table words restriction above scope at → length words < 2 ^ 64 → (at + 6 < 2 ^ 64) × ((t : Words) → all (inScope t words 16) (places (at + 2) 2) ≡ true)
+  pub here-compare :
+      (b : Bool) →
+      Tag.compare b ≡ tagOf (word words at) →
+      Here table words restriction above scope at →
+      length words < 2 ^ 64 →
+      (at + 6 < 2 ^ 64) × ((t : Words) → all (inScope t words 16) (places (at + 2) 2) ≡ true)
   here-compare b e (c, next, node) long =
       let (d, x, y, is) = has table words restriction above scope at (Tag.compare b) e c next node in
       let node′ = subst (λ (t : Tree). Restricts t next) is node in
@@ -120,7 +129,11 @@ module _ (table words : Words) (above scope at : ℕ) (few : predicates table �
       )
 
   -- the children of a join
-  pub here-join : (b : Bool) → Tag.join b ≡ tagOf (word words at) → Here table words restriction above scope at → HereAll table words restriction (above + 1) scope (value words (at + 1)) (at + 2) × (2 ≤ value words (at + 1))
+  pub here-join :
+      (b : Bool) →
+      Tag.join b ≡ tagOf (word words at) →
+      Here table words restriction above scope at →
+      HereAll table words restriction (above + 1) scope (value words (at + 1)) (at + 2) × (2 ≤ value words (at + 1))
   unfolding value Formed under
   here-join b e (c, next, node) =
       let (ts, is) = has table words restriction above scope at (Tag.join b) e c next node in

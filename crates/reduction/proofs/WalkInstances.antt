@@ -156,8 +156,11 @@ module _ (table words log : Words) (b : Bool) (level scope v body from k used : 
               Answers placesLeft (need table (rows log) f (ρ ++ getD found i [])) (reduce table (rows log) f (ρ ++ getD found i [])) (rest out (j .words)) part (r .answer)
               × ((r .answer ≡ Short → ⊥) → r .next ≡ end)
           child-walk ρ found f end o s node =
-              let walked = child (ρ ++ getD found i []) f end (instance-outer ρ found o s) node in (
-                subst (λ (p : ℕ). Answers p (need table (rows log) f (ρ ++ getD found i [])) (reduce table (rows log) f (ρ ++ getD found i [])) (rest out (j .words)) part (r .answer)) lent-places (walked .answers),
+              let σ = ρ ++ getD found i [] in
+              let walked = child σ f end (instance-outer ρ found o s) node in (
+                subst
+                    (λ (p : ℕ). Answers p (need table (rows log) f σ) (reduce table (rows log) f σ) (rest out (j .words)) part (r .answer))
+                    lent-places (walked .answers),
                 walked .behind,
               )
 
@@ -175,7 +178,9 @@ module _ (table words log : Words) (b : Bool) (level scope v body from k used : 
                 let τ = getD found i [] in
                 let (state, ends, fine) = inv ρ found f end o s node in
                 let (answers, behind) = child-walk ρ found f end o s node in
-                let state′ : Joining b (append (bodies table log f ρ (take i found)) (cons (reduce table (rows log) f (ρ ++ τ)) nil)) (max (needs table log f ρ (take i found)) (need table (rows log) f (ρ ++ τ))) placesLeft after j′
+                let state′ :
+                Joining b (append (bodies table log f ρ (take i found)) (cons (reduce table (rows log) f (ρ ++ τ)) nil))
+                (max (needs table log f ρ (take i found)) (need table (rows log) f (ρ ++ τ))) placesLeft after j′
                 = add (adding state answers (reduce-wide table (rows log) f (ρ ++ τ))) in
                 let more : take i found ++ (τ ∷ []) ≡ take (i + 1) found
                 = sym (rw (add-one i) (take-suc found i [] (omega (arith, s .many)))) in

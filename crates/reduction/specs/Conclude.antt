@@ -53,5 +53,7 @@ lastPart {table} a =
     (cons (quantifier (a .b) (a .v) (a .excluded ++ a .tuples) (put (a .c) (a .ρ)) (put (a .f) (a .ρ))) nil)
 
 -- r answers with the join of the bodies and the last part
-abbrev pub concluded : {table words scratch out : Words} {held : Environment} {scope at body next from k : ℕ} {j : Join} → Concluding table words scratch out held scope at body next from k j → Words → Reduced → Type 0
+abbrev pub concluded :
+    {table words scratch out : Words} {held : Environment} {scope at body next from k : ℕ} {j : Join} →
+    Concluding table words scratch out held scope at body next from k j → Words → Reduced → Type 0
 concluded {out = out} a after r = Answers (a .places) (a .need) (joined (a .b) (append (a .ts) (lastPart a))) out after r

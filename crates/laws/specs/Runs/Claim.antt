@@ -221,12 +221,14 @@ module _ (table log : Words) (logged : askLog table log ≡ passed tt) where
     unfolding held proviso
     run-is [] policy tree last e h c t = let same : last ≡ tree = passed-same (sym h ∙ e) in rw same (λ x. x, λ x. x)
     run-is (call ∷ calls) policy tree last e h c t =
+        let later = after table log policy call in
+        let rest = and-right (not (accepted (leaves table log policy call .answer)) || clear table log (call .part)) _ c in
         ⊎-elim
         (λ a.
         Iff·trans
-        (run-is calls (after table log policy call) (residual tree call) last (after-policy policy tree call e a) h (and-right (not (accepted (leaves table log policy call .answer)) || clear table log (call .part)) _ c) t)
+        (run-is calls later (residual tree call) last (after-policy policy tree call e a) h rest t)
         (reduced-is policy tree call e (clear-part _ _ a (and-left _ _ c)) t))
-        (λ a. run-is calls (after table log policy call) tree last (rw (after-refused policy tree call e a) e) h (and-right (not (accepted (leaves table log policy call .answer)) || clear table log (call .part)) _ c) t)
+        (λ a. run-is calls later tree last (rw (after-refused policy tree call e a) e) h rest t)
         (decide (accepted (leaves table log policy call .answer)))
 
   module _ (first : Words) (tree : Tree) (e : askPolicy table first ≡ passed tree) where

@@ -138,9 +138,11 @@ enter-requires c κs =
 
 copy-place-requires : tie.Need-copy-place-requires Inv-loop μ-loop
 copy-place-requires c κs =
-    let few = let at-loop = c .before .before .before .before .before .before .before .before .before .before .before .before .before .before .before .before in at-loop .loop .inv .1 .few in
-    let long = let at-loop = c .before .before .before .before .before .before .before .before .before .before .before .before .before .before .before .before in at-loop .loop .inv .1 .long in
-    let room = let at-loop = c .before .before .before .before .before .before .before .before .before .before .before .before .before .before .before .before in at-loop .before .before .before .before .before .before .before .before .before .before .pre .1 in
+    let few = c .before .before .before .before .before .before .before .before .before .before .before .before .before .before .before .before .loop .inv .1 .few in
+    let long = c .before .before .before .before .before .before .before .before .before .before .before .before .before .before .before .before .loop .inv .1 .long in
+    let room =
+    let at-loop = c .before .before .before .before .before .before .before .before .before .before .before .before .before .before .before .before in
+    at-loop .before .before .before .before .before .before .before .before .before .before .pre .1 in
     (omega (arith, few), omega (arith, long, room))
 
 add-found : tie.Need-add-found Inv-loop μ-loop

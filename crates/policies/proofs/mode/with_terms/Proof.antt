@@ -88,7 +88,11 @@ loop-again c =
     let a = l .before .args in
     let i = l .loop .i in
     let at = a .first + 2 * i in
-    let next : (table : Words) → withTerms (setOf (a .bound)) (termsAt table (a .words .now) (a .first) (a .n)) ≡ withTerms (setOf (l .loop .set)) (termAt table (a .words .now) at ∷ termsFrom table (a .words .now) (a .first) (a .n) (i + 1)) =
+    let next :
+    (table : Words) →
+    withTerms (setOf (a .bound)) (termsAt table (a .words .now) (a .first) (a .n))
+    ≡ withTerms (setOf (l .loop .set))
+    (termAt table (a .words .now) at ∷ termsFrom table (a .words .now) (a .first) (a .n) (i + 1)) =
     λ table. l .loop .inv .2 table ∙ ap (withTerms (setOf (l .loop .set)))
     (terms-next table (a .words .now) (a .first) (a .n) i (at-loop-test .loop-test .taken)) in
     ⊎-elim

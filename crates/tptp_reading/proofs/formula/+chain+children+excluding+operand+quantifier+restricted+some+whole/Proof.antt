@@ -1259,7 +1259,9 @@ module _ (t : ℕ) where
 
   quantifier-add-lay : quantifier-lts.Need-add-lay quantifier-calls quantifier-at quantifier.Post
   quantifier-add-lay c =
-      let z = c .before .before .before .before .before .before .before .before .before .before .before .before .before .before .before .before .before .before .before .before .before .before .before .before .before .before .before .before .before .before .before .before .before .before .before .before in
+      let back-1 = c .before .before .before .before .before .before .before .before .before .before .before .before in
+      let back-2 = back-1 .before .before .before .before .before .before .before .before .before .before .before .before in
+      let z = back-2 .before .before .before .before .before .before .before .before .before .before .before .before in
       omega (arith, z .pre .1 .0 .ready .counted)
 
   quantifier-lay-requires-2 : quantifier-lts.Need-lay-requires-2 quantifier-calls quantifier-at quantifier.Post
@@ -1267,7 +1269,10 @@ module _ (t : ℕ) where
 
   quantifier-add-lay-2 : quantifier-lts.Need-add-lay-2 quantifier-calls quantifier-at quantifier.Post
   quantifier-add-lay-2 c =
-      let z = c .before .before .before .before .before .before .before .before .before .before .before .before .before .before .before .before .before .before .before .before .before .before .before .before .before .before .before .before .before .before .before .before .before .before .before .before .before .before .before in
+      let back-1 = c .before .before .before .before .before .before .before .before .before .before .before .before in
+      let back-2 = back-1 .before .before .before .before .before .before .before .before .before .before .before .before in
+      let back-3 = back-2 .before .before .before .before .before .before .before .before .before .before .before .before in
+      let z = back-3 .before .before .before in
       omega (arith, z .pre .1 .0 .ready .counted)
 
   quantifier-lay-requires-3 : quantifier-lts.Need-lay-requires-3 quantifier-calls quantifier-at quantifier.Post
