@@ -21,14 +21,14 @@ use Rattle.laws.specs.Answer.{answers}
 use Rattle.laws.specs.Dual.{dual-size}
 use Rattle.laws.specs.Calls.Policy.{accepted-asked}
 use Rattle.laws.specs.Reading.Encoded.{read-length}
-use Rattle.preorder.specs.Grown.{Tupled}
+use Rattle.trees.specs.Grown.{Tupled}
 use Rattle.checks.specs.Accepts.{Accepts}
 use Rattle.checks.proofs.Calls.{policy-was-refused, policy-was-passed}
 use Rattle.auditor.proofs.DualFormed.{accepted-written}
 
 module _ (table policy old buffer : Words) where
   -- an answer, and the words of the buffer, are those of the call
-  abbrev pub Dualled : Answer → Type 0
+  abbrev pub Dualled : (a : Answer) → Type 0
   Dualled a = AnswersAs (dualCall table policy (length old) .answer) a × (buffer ≡ dualCall table policy (length old) .buffer)
 
   abbrev pub Cleared : Type 0

@@ -5,8 +5,8 @@ use Rattle.model.specs.Answer.{passed}
 use Rattle.model.specs.Calls.{askPolicy}
 use Rattle.model.specs.Tree.{Tree, encode}
 use Rattle.laws.specs.Calls.Policy.{accepted-rules}
-use Rattle.preorder.specs.Grown.{Tupled}
-use Rattle.preorder.specs.Forming.{formed-tupled}
+use Rattle.trees.specs.Grown.{Tupled}
+use Rattle.trees.proofs.Forming.{formed-tupled}
 
 -- what is asked of the words of a policy that passed questions 1 to 7, and of its tree
 pub accepted-written : (table words : Words) (tree : Tree) → askPolicy table words ≡ passed tree → Tupled tree × (encode tree ≡ words)

@@ -1,19 +1,14 @@
 // The public calls of the auditor. Each makes every check itself and answers as model's definition of it says.
-mod log_text;
-mod policy_text;
-
 ghost use mathlib.Core.Path.{_≡_};
 ghost use lib.ListN.{length};
 ghost use Rattle.model.specs.Answer.{count, AnswersAs};
 ghost use Rattle.model.specs.Calls as C;
 ghost use Rattle.auditor.specs.Reduce.{Reduces};
-ghost use Rattle.auditor.specs.TextWriting as W;
-use clearing::clear;
-use clearing::clear_bytes;
 use model::Answer;
 use model::Refusal;
 use residuals::residual::residual;
-use text::writing::Put;
+use words::clearing::clear;
+use words::clearing::clear_bytes;
 
 // Check a policy over a table: questions 1 to 7. Accepted, the count is the greatest level.
 pub fn check_policy(table: &[i32], policy: &[i32]) -> Answer
@@ -61,16 +56,6 @@ fn counted(answer: Answer) -> usize
     }
 }
 
-// The answer about a text that was written, or found too little room.
-fn written(put: Put) -> Answer
-    ensures { λ r. ⌜ r ≡ W.written put ⌝ }
-{
-    match put {
-        Put::Full => Answer::Refused(Refusal::Room, 0),
-        Put::At(bytes) => Answer::Accepted(bytes),
-    }
-}
-
 // Write the residual of a policy over a log: questions 1 to 12. Accepted, the count is its length.
 pub fn reduce(
     table: &[i32],
@@ -98,7 +83,7 @@ pub fn read_log(table: &[i32], text: &[u8], buffer: &mut [i32]) -> Answer
         now (buffer .exit) ≡ C.readLogCall (now (table .entry)) (now (text .entry)) (length (now (buffer .entry))) .buffer
         ⌝ }
 {
-    let answer = log_text::read(table, text, buffer);
+    let answer = log_texts::read(table, text, buffer);
     clear(buffer, 8 * counted(answer));
     answer
 }
@@ -112,7 +97,7 @@ pub fn write_log(table: &[i32], log: &[i32], buffer: &mut [u8]) -> Answer
         now (buffer .exit) ≡ C.writeLogCall (now (table .entry)) (now (log .entry)) (length (now (buffer .entry))) .buffer
         ⌝ }
 {
-    let answer = log_text::write(table, log, buffer);
+    let answer = log_texts::write(table, log, buffer);
     clear_bytes(buffer, counted(answer));
     answer
 }
@@ -127,7 +112,7 @@ pub fn read_policy(table: &[i32], text: &[u8], buffer: &mut [i32]) -> Answer
         now (buffer .exit) ≡ C.readPolicyCall (now (table .entry)) (now (text .entry)) (length (now (buffer .entry))) .buffer
         ⌝ }
 {
-    let answer = policy_text::read(table, text, buffer);
+    let answer = policy_texts::read(table, text, buffer);
     clear(buffer, counted(answer));
     answer
 }
@@ -141,7 +126,7 @@ pub fn write_policy(table: &[i32], policy: &[i32], buffer: &mut [u8]) -> Answer
         now (buffer .exit) ≡ C.writePolicyCall (now (table .entry)) (now (policy .entry)) (length (now (buffer .entry))) .buffer
         ⌝ }
 {
-    let answer = policy_text::write(table, policy, buffer);
+    let answer = policy_texts::write(table, policy, buffer);
     clear_bytes(buffer, counted(answer));
     answer
 }

@@ -5,5 +5,5 @@ use Rattle.model.specs.Answer.{passed}
 use Rattle.model.specs.Tree.{Tree}
 use Rattle.model.specs.Calls.{askPolicy}
 
-abbrev pub Accepts : Words → Words → Type 0
+abbrev pub Accepts : (table policy : Words) → Type 0
 Accepts table policy = (tree : Tree) × (askPolicy table policy ≡ passed tree)

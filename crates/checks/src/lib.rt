@@ -1,7 +1,5 @@
 // The checks of a policy and of a log, which the calls make first.
-ghost use Prim.Native.Nat.{_≤_};
 ghost use mathlib.Core.Path.{_≡_};
-ghost use lib.ListN.{length};
 ghost use Rattle.model.specs.Answer.{AnswersAs};
 ghost use Rattle.model.specs.Log.{askLog};
 ghost use Rattle.model.specs.Calls as C;
@@ -18,11 +16,11 @@ pub fn check_policy(table: &[i32], policy: &[i32]) -> Answer
     match first {
         Checked::Refused(refusal, place) => Answer::Refused(refusal, place),
         Checked::Passed => {
-            let second = policies::policy::read_policy(table, policy);
+            let second = policies::policy::ask_policy(table, policy);
             match second {
                 Walked::Refused(refusal, place) => Answer::Refused(refusal, place),
                 Walked::Read(_, level) => {
-                    let third = policies::mode::check_modes(table, policy);
+                    let third = modes::mode::check_modes(table, policy);
                     match third {
                         Checked::Refused(refusal, place) => Answer::Refused(refusal, place),
                         Checked::Passed => Answer::Accepted(level),
@@ -35,7 +33,6 @@ pub fn check_policy(table: &[i32], policy: &[i32]) -> Answer
 
 // Questions 8 to 10 of a log.
 pub fn check_rows(table: &[i32], log: &[i32]) -> Checked
-    requires { ⌜ length (now table) ≤ 768 ⌝ }
     ensures { λ r. ⌜ outcome r ≡ askLog (now (table .entry)) (now (log .entry)) ⌝ }
 {
     let mut links = [0; 20480];

@@ -22,7 +22,7 @@ use Rattle.csv_reading.specs.declared.field.Field.{Field}
 use Rattle.text.specs.Reading.{signed, Sized}
 
 -- a quote stands at an index; past the end of a text stands none
-abbrev pub isQuote : Text → ℕ → Bool
+abbrev pub isQuote : (text : Text) (i : ℕ) → Bool
 isQuote text i = eqb (getD text i 0) quote
 
 -- bytes in front of the first field of the records that come of a rest
@@ -42,7 +42,7 @@ behind p (b ∷ t) = follow (moveBehind b) b p (λ next. readFrom next (suc p) t
 
 module _ (text : Text) where
   -- the reading from a state and an index on
-  abbrev pub reading : State → ℕ → Outcome Records
+  abbrev pub reading : (s : State) (i : ℕ) → Outcome Records
   reading s i = readFrom s i (drop i text)
 
   -- what comes of what was found behind a field
@@ -56,7 +56,7 @@ module _ (text : Text) where
     passed (addRecord rs)
 
   -- where the reading goes on lies behind an index, unless that is the text's end, and in the text
-  abbrev pub Onward : ℕ → End → Type 0
+  abbrev pub Onward : (i : ℕ) (end : End) → Type 0
   Onward i (Bad p) = Unit {0}
   Onward i (Comma next) = (i < next) × (next ≤ length text)
   Onward i (Line next) = (min (i + 1) (length text) ≤ next) × (next ≤ length text)
@@ -79,7 +79,7 @@ module _ (text : Text) where
     pub some : (next ≡ i + 1 → ⊥) → (t : Text) × (bytes ≡ getD text i 0 ∷ t)
 
   -- such a rest, or a place where no allowed text goes on so
-  abbrev pub QuotedTo : ℕ → Closed → Type 0
+  abbrev pub QuotedTo : (i : ℕ) (closed : Closed) → Type 0
   QuotedTo i (BadAt p) = reading quoting i ≡ refused Csv p
   QuotedTo i (At next) = Rest i next
 

@@ -26,7 +26,7 @@ pub record Put (field : Field) (k : ℕ) (row row′ : Words) (r : Bool) : Type 
   pub kept : r ≡ false → row′ ≡ row
 
 -- the answer to question 14 and the row, of fields whose numbers stand at the front of the row
-abbrev pub RowAsked : Words → Words → ℕ → Words → Bool → Type 0
+abbrev pub RowAsked : (table row : Words) (k : ℕ) (row′ : Words) (r : Bool) → Type 0
 RowAsked table row k row′ r =
     (fields : List Text) →
     length fields ≡ k →
@@ -43,6 +43,6 @@ pub record Reads (table : Words) (text : Text) (i : ℕ) (row : Words) (next : �
   pub asked : spelled ≡ spellsRow table fields
   pub spelt : spelled ≡ true → row ≡ rowOf fields
 
-abbrev pub RecordAt : Words → Text → ℕ → Words → Line → Type 0
+abbrev pub RecordAt : (table : Words) (text : Text) (i : ℕ) (row : Words) (line : Line) → Type 0
 RecordAt table text i row (Bad p) = reading text start i ≡ refused Csv p
 RecordAt table text i row (Read next spelled) = Reads table text i row next spelled

@@ -23,7 +23,7 @@ pub record Placed (table : Words) (text : Text) (i count : ℕ) (rows rows′ : 
   pub stands : 8 * count + 8 ≤ length rows → take (8 * count + 8) rows′ ≡ take (8 * count) rows ++ row
 
 -- so many records spell rows before the first that does not: one more, if all do
-abbrev pub goodBefore : ℕ → ℕ → Bool → ℕ
+abbrev pub goodBefore : (good count : ℕ) (spelled : Bool) → ℕ
 goodBefore good count spelled = cond (spelled && leb count good) (suc count) good
 
 -- questions 13 and 14: the log's words
@@ -39,6 +39,6 @@ pub record Stand (table : Words) (text : Text) (rows : Words) (n : ℕ) : Type 0
   pub long : length log ≡ 8 * n
   pub stands : 8 * n ≤ length rows → take (8 * n) rows ≡ log
 
-abbrev pub RowsRead : Words → Text → Words → Rows → Type 0
+abbrev pub RowsRead : (table : Words) (text : Text) (rows : Words) (r : Rows) → Type 0
 RowsRead table text rows (Refused q p) = askText table text ≡ refused q p
 RowsRead table text rows (Read n) = Stand table text rows n

@@ -2,11 +2,10 @@
 use crate::field;
 use crate::field::End;
 use crate::field::Field;
-use clearing::clear;
 use logs::log;
 use tables::table;
-use tables::words;
 use text::word::put;
+use words::clearing::clear;
 ghost use mathlib.Core.Path.{_≡_};
 ghost use mathlib.Core.Bool.{true};
 ghost use Prim.Native.Nat.{_≤_, _<_};

@@ -18,10 +18,9 @@ use Rattle.model.specs.Bytes.{Text, comma, cr, lf}
 use Rattle.model.specs.Csv.{bare, spellField, spellRecord, spell}
 use Rattle.model.specs.Decimal.{decimal}
 use Rattle.model.specs.LogText.{logLines, logText}
-use Rattle.laws.specs.Table.{accepted}
 use Rattle.laws.specs.Log as log-laws
 use Rattle.laws.specs.Log.{rowAt-length}
-use Rattle.laws.specs.LogText.Back.{good-arity, used-short}
+use Rattle.laws.specs.LogText.Back.{used-short}
 use Rattle.text.specs.declared.writing.Put.{Put}
 use Rattle.text.specs.declared.writing.Put.the-variants.{At}
 use Rattle.text.specs.Put.{Wrote, Puts}
@@ -87,11 +86,7 @@ end-wrote out at c l next h e f n =
     out₁ (At (at + 1)) (byte-wrote out at c cr (omega arith) e) (at + 1) refl long)
     (set out₁ (at + 1) l) (At (at + 1 + 1)) (byte-wrote out₁ (at + 1) l lf (omega arith) f) (length-set out₁ (at + 1) l))
 
--- the predicate of a good row
-pub predicate-few : (table row : Words) → askTable table ≡ passed tt → goodRow table row ≡ true → value row 0 < 256
-predicate-few table row ok g = omega (arith, good-arity table ok row g .0, accepted table ok .few)
-
--- its arity, as it is found, and its line
+-- the arity of a good row, as it is found, and its line
 module _ (table row : Words) (v a : ℕ) (predicate : v ≡ value row 0) (found : a ≡ arity table v) where
   same-arity : a ≡ arity table (value row 0)
   same-arity = found ∙ ap (arity table) predicate
@@ -104,7 +99,7 @@ module _ (table row : Words) (v a : ℕ) (predicate : v ≡ value row 0) (found 
   line-parts = ap (λ (n : ℕ). fieldsOf row (2 + n) ++ cr ∷ lf ∷ []) (sym same-arity)
 
 -- the words of a row, as they are lent, are the row
-abbrev pub lentRow : Words → ℕ → Words
+abbrev pub lentRow : (log : Words) (r : ℕ) → Words
 lentRow log r = take (8 * r + 8 - 8 * r) (drop (8 * r) log)
 
 lent-row : (log : Words) (r : ℕ) → lentRow log r ≡ rowAt log r

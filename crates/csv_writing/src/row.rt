@@ -1,6 +1,5 @@
 // Rows of a log, written as lines of a text: a row's fields with commas between them, and CR LF behind.
 use tables::table;
-use tables::words;
 use text::bytes;
 use text::writing;
 use text::writing::Put;

@@ -18,9 +18,10 @@ use Rattle.policies.specs.Node.{asTag, There, Sized}
 use Rattle.policies.specs.declared.node.Tag.{Tag}
 use Rattle.policies.specs.declared.node.Tag.the-variants.{Plain, Atom, Compare, Join, Quantifier, Some, Unused}
 use Rattle.policies.proofs.node.Tag.{the-type}
-use Rattle.preorder.specs.Grown.{Grown, Tree-at}
-use Rattle.preorder.specs.Rows.{Row, row-first, row-one, row-children, glue, mine, children, tree-tag, tree-own}
-use Rattle.preorder.specs.Ahead.{Ahead, ahead, ahead-there}
+use Rattle.trees.specs.Grown.{Grown, Tree-at}
+use Rattle.trees.proofs.Rows.{Row, row-first, row-one, row-children, glue, children, tree-tag, tree-own}
+use Rattle.trees.specs.Own.{mine}
+use Rattle.trees.proofs.Ahead.{Ahead, ahead, ahead-there}
 use Rattle.duals.specs.Dual.{kept}
 
 -- a tag whose node keeps its own words and no more
@@ -127,7 +128,7 @@ module _ (words : Words) (at : ℕ) (tag : Tag) (told : asTag tag ≡ T.tagOf (w
 
   module _ (own : ℕ) (o : Sized words (asTag tag) at own) where
     pub node-fits : Tree-at words at → at + own ≤ length words
-    node-fits there = rw (o [] L.Role.formula 0) (node-there there [] L.Role.formula 0)
+    node-fits there = rw (o L.Role.formula 0) (node-there there L.Role.formula 0)
 
     own-mine : (t : Tree) (next : ℕ) → Grown words at t next → own ≡ suc (length (mine t))
     own-mine t next g = tree-own words at next t g (asTag tag) told own o

@@ -4,7 +4,8 @@ use mathlib.Core.List.{_++_}
 use lib.ListN.{length, take, drop}
 use lib.Seq.{take-length}
 use Rattle.model.specs.Words.{Words}
-use Rattle.preorder.specs.Laying.{laid, laid-front}
+use Rattle.words.specs.Laying.{laid}
+use Rattle.words.proofs.LayingLaws.{laid-front}
 
 -- words copied to the front
 pub copied-front :

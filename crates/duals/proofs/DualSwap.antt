@@ -16,9 +16,9 @@ use Rattle.model.specs.Calls.{zeros}
 use Rattle.laws.specs.Dual.{dual-size}
 use Rattle.laws.specs.Words.Standing.{Stands, stands-whole, code}
 use Rattle.laws.specs.Reading.Parts.{root}
-use Rattle.preorder.specs.Grown.{Tupled, Grown, Tree-at}
-use Rattle.preorder.specs.Rows.{Row, row-one, row-none, row-few, glue, glue-words, glue-count}
-use Rattle.preorder.specs.Ahead.{Ahead, ahead, ahead-is, ahead-tree, ahead-tag, ahead-word}
+use Rattle.trees.specs.Grown.{Tupled, Grown, Tree-at}
+use Rattle.trees.proofs.Rows.{Row, row-one, row-none, row-few, glue, glue-words, glue-count}
+use Rattle.trees.proofs.Ahead.{Ahead, ahead, ahead-is, ahead-tree, ahead-tag, ahead-word}
 use Rattle.duals.specs.Dual.{kept, formulas, paired}
 use Rattle.duals.proofs.DualTrees.{row-inner, row-kept, glue-dual, inner, dual-words, tree-formulas}
 
@@ -32,10 +32,10 @@ pub record Halfway (words tail : Words) (tree : Tree) (left at : ℕ) (buffer : 
   pub duals : encode (dual tree) ≡ done ++ encodeAll (dualAll rest)
 
 -- the words of a tree
-abbrev pub Written : Words → Type 0
+abbrev pub Written : (words : Words) → Type 0
 Written words = (tree : Tree) × Tupled tree × (encode tree ≡ words)
 
-abbrev pub Swapping : Words → Words → ℕ → ℕ → Words → Type 0
+abbrev pub Swapping : (words tail : Words) (left at : ℕ) (buffer : Words) → Type 0
 Swapping words tail left at buffer = (tree : Tree) → Tupled tree → encode tree ≡ words → Halfway words tail tree left at buffer
 
 -- the buffer is no shorter than the words at its front

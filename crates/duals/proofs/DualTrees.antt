@@ -10,8 +10,8 @@ use Rattle.model.specs.Tree.{Tree, Trees, plain, atom, compare, join, quantifie
 use Rattle.model.specs.Dual.{dual, dualAll}
 use Rattle.laws.specs.Words.Standing.{Stands, stands-left, stands-right, two-stand, code}
 use Rattle.laws.specs.Reading.Parts.{root}
-use Rattle.preorder.specs.Grown.{Tupled, TupledAll, Grown}
-use Rattle.preorder.specs.Rows.{Row, glue, glue-tupled, row-split}
+use Rattle.trees.specs.Grown.{Tupled, TupledAll, Grown}
+use Rattle.trees.proofs.Rows.{Row, glue, glue-tupled, row-split}
 use Rattle.duals.specs.Dual.{kept, formulas, paired}
 
 pub glue-dual : (ts us : Trees) → dualAll (glue ts us) ≡ glue (dualAll ts) (dualAll us)

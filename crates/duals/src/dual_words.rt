@@ -1,11 +1,10 @@
 // The words of the dual of a policy. Words are in preorder, so that trees are walked with no stack: a count of the trees
 // that are still to be passed does.
-use clearing::clear;
 use policies::node;
 use policies::node::Tag;
-use preorder::putting::copy_words;
-use preorder::walk::behind;
-use tables::words;
+use trees::walk::behind;
+use words::clearing::clear;
+use words::copying::copy_words;
 ghost use mathlib.Core.Path.{_≡_};
 ghost use mathlib.Core.List.{_++_};
 ghost use Prim.Native.Nat.{ℕ, suc, _+_, _-_, _≤_, _<_};
@@ -18,7 +17,7 @@ ghost use Rattle.model.specs.Calls.{zeros};
 ghost use Rattle.model.specs.Dual as M;
 ghost use Rattle.laws.specs.Words.Standing.{code};
 ghost use Rattle.policies.specs.Node.{asTag};
-ghost use Rattle.preorder.specs.Grown as G;
+ghost use Rattle.trees.specs.Grown as G;
 ghost use Rattle.duals.specs.Dual as D;
 
 // How many formulas follow the words that the dual of a node keeps.

@@ -9,7 +9,7 @@ use lib.Seq.{paste, paste-suc, drop-paste, getD-drop, drop-drop}
 
 -- words copied towards the front
 module _ {A : Type 0} (d : List A) (at from : ℕ) (ahead : at ≤ from) where
-  abbrev pub copied : ℕ → List A
+  abbrev pub copied : (i : ℕ) → List A
   copied i = paste d at (drop from d) i
 
   -- what is read next is as it was

@@ -8,9 +8,6 @@ use mathlib.Core.List.{List, [], _∷_, append-nil}
 use lib.ListN.{length, getD, take, drop, length-drop}
 use lib.Seq.{drop-cons, getD-drop, getD-take, length-take-le}
 use lib.IntN.{ℤ, pos}
-use mir.Syntax.{w32}
-use mir.Val.{SFits, ofZ}
-use borrow.Author.Tests.{eq-eqb, ne-eqb}
 use Rattle.model.specs.Words.{Words, word, value, equal}
 use Rattle.model.specs.Lists.{gather}
 use Rattle.model.specs.Log.{rowAt, arguments}
@@ -18,14 +15,13 @@ use Rattle.model.specs.Tree.{Term, variable}
 use Rattle.model.specs.Reading.{termAt}
 use Rattle.model.specs.Listing.{Slot, bound, free, Environment, bind, numberIn, look, meet, fit}
 use Rattle.laws.specs.Words.Tests.{clash}
-use Rattle.policies.specs.Mode.{termsAt}
-use Rattle.policies.proofs.ModeTerms.{term-constant, term-variable, termsFrom, terms-first, terms-next, terms-last}
-use Rattle.tables.proofs.Signed.{same-bits}
+use Rattle.policies.specs.Standing.{termsAt}
+use Rattle.policies.proofs.TermLaws.{term-constant, term-variable, termsFrom, terms-first, terms-next, terms-last}
 use Rattle.environments.specs.declared.environment.Environment.{Environment as Held}
 use Rattle.environments.specs.Environment.{isBound, Holds}
 use Rattle.environments.specs.declared.matching.Matched.{Matched}
 use Rattle.environments.specs.Matching.{Fitted}
-use Rattle.environments.specs.Places.{held-number, held-mark}
+use Rattle.environments.proofs.Places.{held-number, held-mark}
 
 -- one term more against one argument more
 module _ (t : Term) (ts : List Term) (a : ℤ) (rest : List ℤ) (e : Environment) where
@@ -70,45 +66,45 @@ argument-next log row i h k =
     drop-cons (drop 2 cut) i (pos 0) (rw (length-drop 2 cut) (omega arith))
     ∙ ap₂ (λ (a : ℤ) (n : ℕ). a ∷ drop n (drop 2 cut)) at (sym (add-one i))
 
-module _ (table words : Words) (first n : ℕ) (log : Words) (row : ℕ) where
+module _ (words : Words) (first n : ℕ) (log : Words) (row : ℕ) where
   -- what the terms from number i on make of the arguments from number i on
   abbrev fitFrom : ℕ → Environment → List Environment
-  fitFrom i e = fit (termsFrom table words first n i) (drop i (arguments (rowAt log row))) e
+  fitFrom i e = fit (termsFrom words first n i) (drop i (arguments (rowAt log row))) e
 
-  fit-first : (e : Environment) → fit (termsAt table words first n) (arguments (rowAt log row)) e ≡ fitFrom 0 e
-  fit-first e = ap (λ (ts : List Term). fit ts (arguments (rowAt log row)) e) (terms-first table words first n)
+  fit-first : (e : Environment) → fit (termsAt words first n) (arguments (rowAt log row)) e ≡ fitFrom 0 e
+  fit-first e = ap (λ (ts : List Term). fit ts (arguments (rowAt log row)) e) (terms-first words first n)
 
   fit-last : (e : Environment) (i : ℕ) → n ≤ i → fitFrom i e ≡ e ∷ []
   unfolding fit
-  fit-last e i h = ap (λ (ts : List Term). fit ts (drop i (arguments (rowAt log row))) e) (terms-last table words first n i h)
+  fit-last e i h = ap (λ (ts : List Term). fit ts (drop i (arguments (rowAt log row))) e) (terms-last words first n i h)
 
 -- the walk along a row: what it makes of the first environment is what is left to make of the one that it has come to
-abbrev pub Going : Words → ℕ → ℕ → Words → ℕ → Held → Held → ℕ → Type 0
+abbrev pub Going : (words : Words) (first n : ℕ) (log : Words) (row : ℕ) (start held : Held) (i : ℕ) → Type 0
 Going words first n log row start held i =
-    (e : Environment) (table : Words) →
+    (e : Environment) →
     Holds start e →
     (f : Environment)
     × Holds held f
-    × (fit (termsAt table words first n) (arguments (rowAt log row)) e ≡ fitFrom table words first n log row i f)
+    × (fit (termsAt words first n) (arguments (rowAt log row)) e ≡ fitFrom words first n log row i f)
 
 -- what a row came to
-abbrev pub Came : Words → ℕ → ℕ → Words → ℕ → Held → Matched → Type 0
+abbrev pub Came : (words : Words) (first n : ℕ) (log : Words) (row : ℕ) (start : Held) (r : Matched) → Type 0
 Came words first n log row start r =
-    (e : Environment) (table : Words) →
+    (e : Environment) →
     Holds start e →
-    Fitted (fit (termsAt table words first n) (arguments (rowAt log row)) e) r
+    Fitted (fit (termsAt words first n) (arguments (rowAt log row)) e) r
 
 pub going-first : (words : Words) (first n : ℕ) (log : Words) (row : ℕ) (start : Held) → Going words first n log row start start 0
-going-first words first n log row start e table h = (e, h, fit-first table words first n log row e)
+going-first words first n log row start e h = (e, h, fit-first words first n log row e)
 
 pub going-last :
     (words : Words) (first n : ℕ) (log : Words) (row : ℕ) (start held : Held) (i : ℕ) →
     n ≤ i →
     Going words first n log row start held i →
     Came words first n log row start (record { fits = true; environment = held })
-going-last words first n log row start held i l g e table h =
-    let (f, k, q) = g e table h in
-    record { one = λ t. (f, q ∙ fit-last table words first n log row f i l, k); none = λ t. absurd (true≢false t) }
+going-last words first n log row start held i l g e h =
+    let (f, k, q) = g e h in
+    record { one = λ t. (f, q ∙ fit-last words first n log row f i l, k); none = λ t. absurd (true≢false t) }
 
 -- one turn of the walk
 pub record Turn : Type 0 where
@@ -133,20 +129,20 @@ module _ (w : Turn) where
   abbrev against : ℤ
   against = getD (w .log) (8 * w .row + 2 + w .i) (pos 0)
 
-  abbrev left-to-make : Words → ℕ → Environment → List Environment
-  left-to-make table i f = fitFrom table (w .words) (w .first) (w .n) (w .log) (w .row) i f
+  abbrev left-to-make : ℕ → Environment → List Environment
+  left-to-make i f = fitFrom (w .words) (w .first) (w .n) (w .log) (w .row) i f
 
   fit-next :
-      (table : Words) (f : Environment) →
-      left-to-make table (w .i) f
-      ≡ fit (termAt table (w .words) place ∷ termsFrom table (w .words) (w .first) (w .n) (w .i + 1)) (against ∷ drop (w .i + 1) (arguments (rowAt (w .log) (w .row)))) f
-  fit-next table f =
+      (f : Environment) →
+      left-to-make (w .i) f
+      ≡ fit (termAt (w .words) place ∷ termsFrom (w .words) (w .first) (w .n) (w .i + 1)) (against ∷ drop (w .i + 1) (arguments (rowAt (w .log) (w .row)))) f
+  fit-next f =
       ap₂ (λ (ts : List Term) (l : List ℤ). fit ts l f)
-      (terms-next table (w .words) (w .first) (w .n) (w .i) (w .more))
+      (terms-next (w .words) (w .first) (w .n) (w .i) (w .more))
       (argument-next (w .log) (w .row) (w .i) (w .whole) (omega (arith, w .more, w .six)))
 
   -- the walk goes on with an environment, or the row is left
-  abbrev pub OnWith : Held → Type 0
+  abbrev pub OnWith : (held : Held) → Type 0
   OnWith held = Going (w .words) (w .first) (w .n) (w .log) (w .row) (w .start) held (w .i + 1)
 
   abbrev pub Left : Type 0
@@ -155,30 +151,30 @@ module _ (w : Turn) where
   goes-on :
       (next : Held) (change : Environment → Environment) →
       ((f : Environment) → Holds (w .held) f → Holds next (change f)) →
-      ((f : Environment) (table : Words) → Holds (w .held) f → left-to-make table (w .i) f ≡ left-to-make table (w .i + 1) (change f)) →
+      ((f : Environment) → Holds (w .held) f → left-to-make (w .i) f ≡ left-to-make (w .i + 1) (change f)) →
       OnWith next
-  goes-on next change hold step e table h =
-      let (f, k, q) = w .going e table h in
-      (change f, hold f k, q ∙ step f table k)
+  goes-on next change hold step e h =
+      let (f, k, q) = w .going e h in
+      (change f, hold f k, q ∙ step f k)
 
-  is-left : ((f : Environment) (table : Words) → Holds (w .held) f → left-to-make table (w .i) f ≡ []) → Left
-  is-left stop r left e table h =
-      let (f, k, q) = w .going e table h in
-      record { one = λ t. clash t left; none = λ t. q ∙ stop f table k }
+  is-left : ((f : Environment) → Holds (w .held) f → left-to-make (w .i) f ≡ []) → Left
+  is-left stop r left e h =
+      let (f, k, q) = w .going e h in
+      record { one = λ t. clash t left; none = λ t. q ∙ stop f k }
 
-  -- the next term has a number, whatever the table: it is the argument, or another
-  module _ (k : ℤ) (known : (f : Environment) (table : Words) → Holds (w .held) f → look f (termAt table (w .words) place) ≡ bound k) where
+  -- the next term has a number: it is the argument, or another
+  module _ (k : ℤ) (known : (f : Environment) → Holds (w .held) f → look f (termAt (w .words) place) ≡ bound k) where
     same-on : equal k against ≡ true → OnWith (w .held)
-    same-on s = goes-on (w .held) (λ f. f) (λ f h. h) (λ f table h. fit-next table f ∙ fit-same _ _ _ _ f k (known f table h) s)
+    same-on s = goes-on (w .held) (λ f. f) (λ f h. h) (λ f h. fit-next f ∙ fit-same _ _ _ _ f k (known f h) s)
 
     other-left : equal k against ≡ false → Left
-    other-left s = is-left (λ f table h. fit-next table f ∙ fit-other _ _ _ _ f k (known f table h) s)
+    other-left s = is-left (λ f h. fit-next f ∙ fit-other _ _ _ _ f k (known f h) s)
 
   -- a constant
   module _ (q : equal (word (w .words) place) (pos 0) ≡ true) (k : ℤ) (is : k ≡ word (w .words) (place + 1)) where
-    constant-known : (f : Environment) (table : Words) → Holds (w .held) f → look f (termAt table (w .words) place) ≡ bound k
+    constant-known : (f : Environment) → Holds (w .held) f → look f (termAt (w .words) place) ≡ bound k
     unfolding look
-    constant-known f table h = ap (look f) (term-constant table (w .words) place q) ∙ ap bound (sym is)
+    constant-known f h = ap (look f) (term-constant (w .words) place q) ∙ ap bound (sym is)
 
     pub constant-on : equal k against ≡ true → OnWith (w .held)
     constant-on s = same-on k constant-known s
@@ -188,15 +184,15 @@ module _ (w : Turn) where
 
   -- a variable
   module _ (q : equal (word (w .words) place) (pos 0) ≡ false) (x : ℕ) (is : x ≡ value (w .words) (place + 1)) (small : x < 16) where
-    next-variable : (table : Words) → termAt table (w .words) place ≡ variable x
-    next-variable table = term-variable table (w .words) place q ∙ ap variable (sym is)
+    next-variable : termAt (w .words) place ≡ variable x
+    next-variable = term-variable (w .words) place q ∙ ap variable (sym is)
 
     -- it is bound
     module _ (m : getD (w .held .marks) x false ≡ true) where
-      variable-known : (f : Environment) (table : Words) → Holds (w .held) f → look f (termAt table (w .words) place) ≡ bound (getD (w .held .numbers) x (pos 0))
+      variable-known : (f : Environment) → Holds (w .held) f → look f (termAt (w .words) place) ≡ bound (getD (w .held .numbers) x (pos 0))
       unfolding look
-      variable-known f table h =
-          ap (look f) (next-variable table) ∙ marked (f x) (sym (held-mark h x small) ∙ m) ∙ ap bound (sym (held-number h x small))
+      variable-known f h =
+          ap (look f) next-variable ∙ marked (f x) (sym (held-mark h x small) ∙ m) ∙ ap bound (sym (held-number h x small))
 
       pub variable-on : equal (getD (w .held .numbers) x (pos 0)) against ≡ true → OnWith (w .held)
       variable-on s = same-on (getD (w .held .numbers) x (pos 0)) variable-known s
@@ -207,13 +203,5 @@ module _ (w : Turn) where
     -- it is free, and is bound to the argument
     pub variable-bound : (next : Held) → ((f : Environment) → Holds (w .held) f → Holds next (bind f x against)) → getD (w .held .marks) x false ≡ false → OnWith next
     variable-bound next hold m =
-        goes-on next (λ f. bind f x against) hold (λ f table h.
-        fit-next table f ∙ fit-free _ _ _ _ f x (next-variable table) (unmarked (f x) (sym (held-mark h x small) ∙ m)))
-
--- two words with the same bits are equal, and else not
-module _ (x y : ℤ) (h : SFits w32 x) (k : SFits w32 y) where
-  pub bits-equal : ofZ w32 x ≡ ofZ w32 y → equal x y ≡ true
-  bits-equal q = sym (same-bits x y h k) ∙ eq-eqb _ _ q
-
-  pub bits-unequal : (ofZ w32 x ≡ ofZ w32 y → ⊥) → equal x y ≡ false
-  bits-unequal q = sym (same-bits x y h k) ∙ ne-eqb _ _ q
+        goes-on next (λ f. bind f x against) hold (λ f h.
+        fit-next f ∙ fit-free _ _ _ _ f x next-variable (unmarked (f x) (sym (held-mark h x small) ∙ m)))

@@ -16,8 +16,9 @@ use Rattle.logs.proofs.Chains.{First, walk-end, walk-step, link-small}
 use Rattle.logs.proofs.Rows.{row-first}
 use Rattle.environments.specs.declared.rows.Added.the-variants as A
 use Rattle.environments.specs.Environment.{put}
-use Rattle.environments.specs.Listed.{Listed, listed-none, listed-put, laid-front}
-use Rattle.environments.specs.Places.{place-length}
+use Rattle.environments.specs.Listed.{Listed}
+use Rattle.environments.proofs.ListedLaws.{listed-none, listed-put, laid-front}
+use Rattle.environments.proofs.Places.{place-length}
 use Rattle.environments.specs.Environment.{placeOf}
 use Rattle.environments.specs.Ways.{found}
 use Rattle.environments.specs.Rows.{Filled}

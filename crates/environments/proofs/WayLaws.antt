@@ -19,15 +19,15 @@ use Rattle.model.specs.Reading.{places, inScope, termAt}
 use Rattle.model.specs.Listing.{bound, Environment, look, fit, matches}
 use Rattle.laws.specs.Words.Tests.{decide, clash, equal-true}
 use Rattle.laws.specs.Lists.Span.{span-mem}
-use Rattle.policies.specs.Mode.{termsAt}
-use Rattle.policies.proofs.ModeTerms.{place-holds, variable-small, term-constant, term-variable, termsFrom, terms-first, terms-next}
+use Rattle.policies.specs.Standing.{termsAt}
+use Rattle.policies.proofs.TermLaws.{place-holds, variable-small, term-constant, term-variable, termsFrom, terms-first, terms-next}
 use Rattle.logs.specs.Chain.{chain}
-use Rattle.logs.specs.Key.{trueKey, firstSpread, firstKey, behind, TrueRows}
+use Rattle.logs.specs.Key.{trueKey, firstSpread, firstKey, behind, Linked}
 use Rattle.logs.proofs.Keys.{true-key, spread-small}
 use Rattle.logs.proofs.Rows.{row-first}
 use Rattle.environments.specs.declared.environment.Environment.{Environment as Held}
 use Rattle.environments.specs.Environment.{Holds}
-use Rattle.environments.specs.Places.{numbers-length, held-number, held-mark}
+use Rattle.environments.proofs.Places.{numbers-length, held-number, held-mark}
 use Rattle.environments.specs.Ways.{found, Leads}
 use Rattle.environments.proofs.FitLaws.{fit-other, marked, argument-next}
 
@@ -137,43 +137,42 @@ behind-long : (n : ℕ) (links : List ℕ) → length (behind n links) ≡ lengt
 unfolding behind
 behind-long n links = length-drop n links
 
-module _ (words log : Words) (links : List ℕ) (t : TrueRows log links) (p first n : ℕ) (held : Held) where
-  pub leads-wide : p < 256 → Leads words log (behind 0 links) 257 p p first n held × (0 ≤ length links)
-  unfolding behind
+module _ (words log : Words) (links : List ℕ) (t : Linked log links) (p first n : ℕ) (held : Held) where
+  pub leads-wide : p < 256 → Leads words log (behind 20480 links) 257 p p first n held × (20480 ≤ length links)
   leads-wide few = (
     record {
       key = trueKey log;
       chained = t .byPredicate;
       inside = omega arith;
-      whole = λ e table h. wide-whole log p (termsAt table words first n) e few;
+      whole = λ e h. wide-whole log p (termsAt words first n) e few;
     },
-    omega arith,
+    omega (arith, t .byPredicate .within, behind-long 20480 links),
   )
 
   -- the first term
-  first-term : 1 ≤ n → (table : Words) → termsAt table words first n ≡ termAt table words first ∷ termsFrom table words first n 1
-  first-term some table =
-      terms-first table words first n
-      ∙ terms-next table words first n 0 (omega arith)
-      ∙ ap (λ (i : ℕ). termAt table words i ∷ termsFrom table words first n 1) (add-zero first)
+  first-term : 1 ≤ n → termsAt words first n ≡ termAt words first ∷ termsFrom words first n 1
+  first-term some =
+      terms-first words first n
+      ∙ terms-next words first n 0 (omega arith)
+      ∙ ap (λ (i : ℕ). termAt words i ∷ termsFrom words first n 1) (add-zero first)
 
   leads-narrow :
       1 ≤ n →
       (z : ℤ) →
-      ((e : Environment) (table : Words) → Holds held e → look e (termAt table words first) ≡ bound z) →
+      ((e : Environment) → Holds held e → look e (termAt words first) ≡ bound z) →
       (k : ℕ) →
       k ≡ firstSpread p z →
-      Leads words log (behind 4353 links) 4097 k p first n held × (4353 ≤ length links)
+      Leads words log (behind 24833 links) 4097 k p first n held × (24833 ≤ length links)
   leads-narrow some z known k is = (
     record {
       key = firstKey log;
       chained = t .byFirst;
       inside = omega (arith, spread-small p z, is);
-      whole = λ e table h.
-          narrow-whole log p (termsAt table words first n) e _ _ z (first-term some table) (known e table h)
-          ∙ ap (λ (j : ℕ). gather (found log p (termsAt table words first n) e) (chain (firstKey log) j 0 (rowCount log))) (sym is);
+      whole = λ e h.
+          narrow-whole log p (termsAt words first n) e _ _ z (first-term some) (known e h)
+          ∙ ap (λ (j : ℕ). gather (found log p (termsAt words first n) e) (chain (firstKey log) j 0 (rowCount log))) (sym is);
     },
-    omega (arith, t .byFirst .within, behind-long 4353 links),
+    omega (arith, t .byFirst .within, behind-long 24833 links),
   )
 
   pub leads-constant :
@@ -181,9 +180,9 @@ module _ (words log : Words) (links : List ℕ) (t : TrueRows log links) (p firs
       equal (word words first) (pos 0) ≡ true →
       (k : ℕ) →
       k ≡ firstSpread p (word words (first + 1)) →
-      Leads words log (behind 4353 links) 4097 k p first n held × (4353 ≤ length links)
+      Leads words log (behind 24833 links) 4097 k p first n held × (24833 ≤ length links)
   unfolding look
-  leads-constant some q = leads-narrow some (word words (first + 1)) (λ e table h. ap (look e) (term-constant table words first q))
+  leads-constant some q = leads-narrow some (word words (first + 1)) (λ e h. ap (look e) (term-constant words first q))
 
   pub leads-variable :
       (x : ℕ) →
@@ -194,11 +193,11 @@ module _ (words log : Words) (links : List ℕ) (t : TrueRows log links) (p firs
       getD (held .marks) x false ≡ true →
       (k : ℕ) →
       k ≡ firstSpread p (word (held .numbers) x) →
-      Leads words log (behind 4353 links) 4097 k p first n held × (4353 ≤ length links)
+      Leads words log (behind 24833 links) 4097 k p first n held × (24833 ≤ length links)
   unfolding look word
   leads-variable x some q is small mark =
-      leads-narrow some (getD (held .numbers) x (pos 0)) (λ e table h.
-      ap (look e) (term-variable table words first q ∙ ap variable (sym is))
+      leads-narrow some (getD (held .numbers) x (pos 0)) (λ e h.
+      ap (look e) (term-variable words first q ∙ ap variable (sym is))
       ∙ marked (e x) (sym (held-mark h x small) ∙ mark)
       ∙ ap bound (sym (held-number h x small)))
 
@@ -206,12 +205,12 @@ module _ (words log : Words) (links : List ℕ) (t : TrueRows log links) (p firs
 pub small-first :
     (words : Words) (first n : ℕ) →
     1 ≤ n →
-    ((table : Words) → all (inScope table words 16) (places first n) ≡ true) →
+    all (inScope words 16) (places first n) ≡ true →
     equal (word words first) (pos 0) ≡ false →
     value words (first + 1) < 16
 small-first words first n some scoped q =
-    variable-small [] words first 16
-    (subst (λ (i : ℕ). inScope [] words 16 i ≡ true) (add-zero first) (place-holds (inScope [] words 16) first n 0 (scoped []) (omega arith)))
+    variable-small words first 16
+    (subst (λ (i : ℕ). inScope words 16 i ≡ true) (add-zero first) (place-holds (inScope words 16) first n 0 scoped (omega arith)))
     q
 
 -- the code's environment has sixteen numbers

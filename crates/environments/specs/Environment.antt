@@ -3,10 +3,10 @@ use Prim.Native.Nat.{ℕ, zero, suc, _+_, _*_, _/_, _%_}
 use mathlib.Core.Path.{_≡_}
 use mathlib.Core.Bool.{Bool, true, false, cond}
 use mathlib.Core.List.{List, [], _∷_, _++_, map}
-use lib.ListN.{getD, take, drop}
+use lib.ListN.{take, drop}
 use lib.Dec.{eqb}
 use lib.IntN.{ℤ, pos}
-use Rattle.model.specs.Words.{Words, word, value, scopeLimit, placeWords}
+use Rattle.model.specs.Words.{Words, scopeLimit, placeWords}
 use Rattle.model.specs.Lists.{span}
 use Rattle.model.specs.Listing.{Slot, bound, free, Environment, numberIn}
 use Rattle.environments.specs.declared.environment.Environment.{Environment as Held}
@@ -33,19 +33,16 @@ unfoldable pub placeOf : Environment → Words
 placeOf e = numbersOf e ++ pos (bits (marksOf e)) ∷ []
 
 -- the words of a place of scratch, and scratch with an environment put into a place
-abbrev pub placeAt : Words → ℕ → Words
+abbrev pub placeAt : (scratch : Words) (place : ℕ) → Words
 placeAt scratch place = take placeWords (drop (placeWords * place) scratch)
 
-abbrev pub put : Words → ℕ → Environment → Words
+abbrev pub put : (scratch : Words) (place : ℕ) (e : Environment) → Words
 put scratch place e = take (placeWords * place) scratch ++ (placeOf e ++ drop (placeWords * place + placeWords) scratch)
 
--- the first n bits of a number as marks, and the environment that the words of a place stand for
+-- the first n bits of a number as marks
 unfoldable pub unbits : ℕ → ℕ → List Bool
 unbits zero w = []
 unbits (suc n) w = eqb (w % 2) 1 ∷ unbits n (w / 2)
-
-unfoldable pub environmentAt : Words → Environment
-environmentAt ws x = cond (getD (unbits scopeLimit (value ws scopeLimit)) x false) (bound (word ws x)) free
 
 -- what the code's environment holds
 pub record Holds (held : Held) (e : Environment) : Type 0 where

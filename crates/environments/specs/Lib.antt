@@ -1,5 +1,4 @@
 pub mod Environment
-pub mod Places
 pub mod Listed
 pub mod Lists
 pub mod Matching

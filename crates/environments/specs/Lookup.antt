@@ -15,7 +15,7 @@ use Rattle.environments.specs.declared.environment.Environment.{Environm
 use Rattle.environments.specs.Environment.{Holds}
 
 -- r is the value of the atom at an index
-abbrev pub Values : Words → Words → Words → Held → ℕ → Value → Type 0
+abbrev pub Values : (table words log : Words) (held : Held) (at : ℕ) (r : Value) → Type 0
 Values table words log held at r =
     (e : Environment) →
     Holds held e →

@@ -15,7 +15,7 @@ pub record Filled (made : List Environment) (base left : ℕ) (before after : Wo
   pub few : n ≤ left
   pub listed : Listed after base made
 
-abbrev pub Came : List Environment → ℕ → ℕ → Words → Words → Added → Type 0
+abbrev pub Came : (made : List Environment) (base left : ℕ) (before after : Words) (added : Added) → Type 0
 Came made base left before after A.Short = left < length made
 Came made base left before after (A.Places n) = Filled made base left before after n
 

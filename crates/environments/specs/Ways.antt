@@ -9,7 +9,7 @@ use Rattle.model.specs.Lists.{gather}
 use Rattle.model.specs.Log.{rowCount, rowAt, rows, arguments}
 use Rattle.model.specs.Tree.{Term}
 use Rattle.model.specs.Listing.{Environment, fit, matches}
-use Rattle.policies.specs.Mode.{termsAt}
+use Rattle.policies.specs.Standing.{termsAt}
 use Rattle.logs.specs.Chain.{chain, Chained}
 use Rattle.environments.specs.declared.environment.Environment.{Environment as Held}
 use Rattle.environments.specs.Environment.{Holds}
@@ -24,7 +24,7 @@ pub record Leads (words log : Words) (links : List ℕ) (keys k p first n : ℕ)
   pub chained : Chained key keys (rowCount log) links
   pub inside : k < keys
   pub whole :
-      (e : Environment) (table : Words) →
+      (e : Environment) →
       Holds held e →
-      matches (rows log) p (termsAt table words first n) e
-      ≡ gather (found log p (termsAt table words first n) e) (chain key k 0 (rowCount log))
+      matches (rows log) p (termsAt words first n) e
+      ≡ gather (found log p (termsAt words first n) e) (chain key k 0 (rowCount log))

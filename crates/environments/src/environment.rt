@@ -1,5 +1,4 @@
 // Environments: sixteen numbers and a mark for each, by value, and their places of scratch.
-use tables::words;
 ghost use mathlib.Core.Path.{_≡_};
 ghost use mathlib.Core.List.{[]};
 ghost use Prim.Native.Nat.{_+_, _*_, _≤_, _<_};

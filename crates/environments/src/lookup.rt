@@ -3,13 +3,12 @@ use crate::environment::Environment;
 use crate::terms;
 use logs::value;
 use logs::value::Value;
-use tables::words;
 ghost use mathlib.Core.Path.{_≡_};
 ghost use Rattle.model.specs.Answer.{passed};
 ghost use Rattle.model.specs.Log.{rowCount, askLog};
 ghost use Rattle.logs.specs.Chain.{Chained};
 ghost use Rattle.logs.specs.Key.{rowKey, atomKeys};
-ghost use Rattle.policies.specs.Mode.{HereAtom};
+ghost use Rattle.policies.specs.Standing.{HereAtom};
 ghost use Rattle.environments.specs.Lookup.{Values};
 
 // The value of the ground atom at an index.
@@ -24,7 +23,7 @@ pub fn value_at(
     requires { ⌜
         (askLog (now table) (now log) ≡ passed tt)
         × Chained (rowKey (now log)) atomKeys (rowCount (now log)) (now atoms)
-        × HereAtom (now table) (now words) at
+        × HereAtom (now words) at
         ⌝ }
     ensures { λ r. ⌜ Values (now (table .entry)) (now (words .entry)) (now (log .entry)) environment at r ⌝ }
 {

@@ -1,17 +1,15 @@
 // Rows of the log matched against the terms of an atom.
 use crate::environment::Environment;
 use crate::terms;
-use tables::words;
 ghost use mathlib.Core.Path.{_≡_};
 ghost use mathlib.Core.Bool.{true, false};
 ghost use Prim.Native.Nat.{_+_, _*_, _^_, _≤_, _<_};
 ghost use lib.ListN.{length};
-ghost use Rattle.model.specs.Words as W;
 ghost use Rattle.model.specs.Lists.{all};
 ghost use Rattle.model.specs.Log.{rowAt, arguments};
 ghost use Rattle.model.specs.Reading.{places, inScope};
 ghost use Rattle.model.specs.Listing as M;
-ghost use Rattle.policies.specs.Mode.{termsAt};
+ghost use Rattle.policies.specs.Standing.{termsAt};
 ghost use Rattle.environments.specs.Environment.{Holds};
 ghost use Rattle.environments.specs.Matching.{Fitted};
 
@@ -40,8 +38,8 @@ pub fn fit_row(
     log: &[i32],
     row: usize,
 ) -> Matched
-    requires { ⌜ (n ≤ 6) × (first + 2 * n < 2 ^ 64) × (8 * row + 8 ≤ length (now log)) × ((table : W.Words) → all (inScope table (now words) 16) (places first n) ≡ true) ⌝ }
-    ensures { λ r. ⌜ ((e : M.Environment) (table : W.Words) → Holds environment e → Fitted (M.fit (termsAt table (now (words .entry)) first n) (arguments (rowAt (now (log .entry)) row)) e) r) ⌝ }
+    requires { ⌜ (n ≤ 6) × (first + 2 * n < 2 ^ 64) × (8 * row + 8 ≤ length (now log)) × (all (inScope (now words) 16) (places first n) ≡ true) ⌝ }
+    ensures { λ r. ⌜ ((e : M.Environment) → Holds environment e → Fitted (M.fit (termsAt (now (words .entry)) first n) (arguments (rowAt (now (log .entry)) row)) e) r) ⌝ }
 {
     let mut bound = environment;
     let mut i = 0;

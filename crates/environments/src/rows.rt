@@ -2,7 +2,7 @@
 use crate::environment::Environment;
 use crate::matching;
 use logs::key;
-use tables::words;
+use logs::links;
 ghost use mathlib.Core.Path.{_≡_};
 ghost use mathlib.Core.Bool.{true};
 ghost use mathlib.Core.List.{List};
@@ -13,8 +13,8 @@ ghost use Rattle.model.specs.Lists.{all};
 ghost use Rattle.model.specs.Log.{rows};
 ghost use Rattle.model.specs.Reading.{places, inScope};
 ghost use Rattle.model.specs.Listing as M;
-ghost use Rattle.logs.specs.Key.{TrueRows, behind};
-ghost use Rattle.policies.specs.Mode.{termsAt};
+ghost use Rattle.logs.specs.Key.{Linked, behind};
+ghost use Rattle.policies.specs.Standing.{termsAt};
 ghost use Rattle.environments.specs.Environment.{Holds};
 ghost use Rattle.environments.specs.Ways.{Leads};
 ghost use Rattle.environments.specs.Rows.{Adds};
@@ -36,7 +36,7 @@ pub struct Way {
 fn lead(environment: Environment, words: &[i32], first: usize, n: usize, predicate: usize) -> Way
     requires { ⌜
         (first + 2 * n < 2 ^ 64)
-        × ((table : W.Words) → all (inScope table (now words) 16) (places first n) ≡ true)
+        × (all (inScope (now words) 16) (places first n) ≡ true)
         × (predicate < 256)
         × ((e : M.Environment) × Holds environment e)
         × (1 ≤ n)
@@ -44,14 +44,14 @@ fn lead(environment: Environment, words: &[i32], first: usize, n: usize, predica
         ⌝ }
     ensures { λ r. ⌜
         ((log : W.Words) (links : List ℕ) →
-        TrueRows log links →
+        Linked log links →
         Leads (now (words .entry)) log (behind (r .from) links) (r .keys) (r .key) predicate first n environment
         × (r .from ≤ length links))
         ⌝ }
 {
     if words::is(words, first, 0) {
         return Way {
-            from: key::PREDICATE_LINKS,
+            from: links::FIRST_FROM,
             keys: key::FIRST_KEYS,
             key: key::of_first(predicate, words, first + 1),
         };
@@ -59,14 +59,14 @@ fn lead(environment: Environment, words: &[i32], first: usize, n: usize, predica
     let x = words::value(words, first + 1);
     if !environment.marks[x] {
         return Way {
-            from: 0,
+            from: links::PREDICATE_FROM,
             keys: key::PREDICATE_KEYS,
             key: predicate,
         };
     }
     let numbers = environment.numbers;
     Way {
-        from: key::PREDICATE_LINKS,
+        from: links::FIRST_FROM,
         keys: key::FIRST_KEYS,
         key: key::of_first(predicate, &numbers, x),
     }
@@ -91,16 +91,16 @@ fn walk_rows(
     requires { ⌜
         (n ≤ 6)
         × (first + 2 * n < 2 ^ 64)
-        × ((table : W.Words) → all (inScope table (now words) 16) (places first n) ≡ true)
+        × (all (inScope (now words) 16) (places first n) ≡ true)
         × Leads (now words) (now log) (now links) keys key predicate first n environment
         × (17 * (base + left) ≤ length (now scratch))
         × ((e : M.Environment) × Holds environment e)
         ⌝ }
     ensures { λ r. ⌜
-        ((e : M.Environment) (table : W.Words) →
+        ((e : M.Environment) →
         Holds environment e →
         Adds
-        (M.matches (rows (now (log .entry))) predicate (termsAt table (now (words .entry)) first n) e)
+        (M.matches (rows (now (log .entry))) predicate (termsAt (now (words .entry)) first n) e)
         base
         left
         (now (scratch .entry))
@@ -138,7 +138,7 @@ pub fn match_rows(
     first: usize,
     n: usize,
     log: &[i32],
-    trues: &[u16],
+    links: &[u16],
     predicate: usize,
     scratch: &mut [i32],
     base: usize,
@@ -147,8 +147,8 @@ pub fn match_rows(
     requires { ⌜
         (n ≤ 6)
         × (first + 2 * n < 2 ^ 64)
-        × ((table : W.Words) → all (inScope table (now words) 16) (places first n) ≡ true)
-        × TrueRows (now log) (now trues)
+        × (all (inScope (now words) 16) (places first n) ≡ true)
+        × Linked (now log) (now links)
         × (predicate < 256)
         × (17 * (base + left) ≤ length (now scratch))
         × ((e : M.Environment) × Holds environment e)
@@ -156,10 +156,10 @@ pub fn match_rows(
         × (first + 2 * n ≤ length (now words))
         ⌝ }
     ensures { λ r. ⌜
-        ((e : M.Environment) (table : W.Words) →
+        ((e : M.Environment) →
         Holds environment e →
         Adds
-        (M.matches (rows (now (log .entry))) predicate (termsAt table (now (words .entry)) first n) e)
+        (M.matches (rows (now (log .entry))) predicate (termsAt (now (words .entry)) first n) e)
         base
         left
         (now (scratch .entry))
@@ -175,7 +175,7 @@ pub fn match_rows(
         first,
         n,
         log,
-        &trues[from..],
+        &links[from..],
         way.keys,
         way.key,
         predicate,

@@ -1,6 +1,5 @@
 // The numbers of terms in an environment, and comparisons of them.
 use crate::environment::Environment;
-use tables::words;
 ghost use mathlib.Core.Path.{_≡_};
 ghost use mathlib.Core.Bool.{true};
 ghost use mathlib.Core.List.{_++_};
@@ -12,7 +11,7 @@ ghost use Rattle.model.specs.Lists.{all};
 ghost use Rattle.model.specs.Reading.{places, termAt, inScope};
 ghost use Rattle.model.specs.Truth.{sumAtMost};
 ghost use Rattle.model.specs.Listing as M;
-ghost use Rattle.policies.specs.Mode.{termsAt};
+ghost use Rattle.policies.specs.Standing.{termsAt};
 ghost use Rattle.environments.specs.Environment.{Holds, numbersOf};
 
 // The word at an index; past the end of a slice stands 0.
@@ -27,12 +26,12 @@ pub fn number(numbers: &[i32], words: &[i32], at: usize) -> i32
     requires { ⌜
         (length (now numbers) ≡ 16)
         × (at + 1 < 2 ^ 64)
-        × ((table : W.Words) → inScope table (now words) 16 at ≡ true)
+        × (inScope (now words) 16 at ≡ true)
         ⌝ }
     ensures { λ r. ⌜
-        ((e : M.Environment) (table : W.Words) →
+        ((e : M.Environment) →
         now (numbers .entry) ≡ numbersOf e →
-        r ≡ M.numberIn (M.look e (termAt table (now (words .entry)) at)))
+        r ≡ M.numberIn (M.look e (termAt (now (words .entry)) at)))
         ⌝ }
 {
     if words::is(words, at, 0) {
@@ -51,14 +50,14 @@ pub fn at_most(d: i32, x: i32, y: i32) -> bool
 
 // The comparison at an index: the number of its first term, with d added, is at most that of its second.
 pub fn compare(environment: Environment, words: &[i32], at: usize) -> bool
-    requires { ⌜ (at + 6 < 2 ^ 64) × ((table : W.Words) → all (inScope table (now words) 16) (places (at + 2) 2) ≡ true) ⌝ }
+    requires { ⌜ (at + 6 < 2 ^ 64) × (all (inScope (now words) 16) (places (at + 2) 2) ≡ true) ⌝ }
     ensures { λ r. ⌜
-        ((e : M.Environment) (table : W.Words) →
+        ((e : M.Environment) →
         Holds environment e →
         r ≡ sumAtMost
         (W.word (now (words .entry)) (at + 1))
-        (M.numberIn (M.look e (termAt table (now (words .entry)) (at + 2))))
-        (M.numberIn (M.look e (termAt table (now (words .entry)) (at + 4)))))
+        (M.numberIn (M.look e (termAt (now (words .entry)) (at + 2))))
+        (M.numberIn (M.look e (termAt (now (words .entry)) (at + 4)))))
         ⌝ }
 {
     let numbers = environment.numbers;
@@ -74,13 +73,13 @@ pub fn arguments(numbers: &[i32], words: &[i32], first: usize, n: usize, argumen
         (length (now numbers) ≡ 16)
         × (n ≤ 6)
         × (first + 2 * n < 2 ^ 64)
-        × ((table : W.Words) → all (inScope table (now words) 16) (places first n) ≡ true)
+        × (all (inScope (now words) 16) (places first n) ≡ true)
         × (now arguments ≡ replicate 6 (pos 0))
         ⌝ }
     ensures { λ _. ⌜
-        ((e : M.Environment) (table : W.Words) →
+        ((e : M.Environment) →
         now (numbers .entry) ≡ numbersOf e →
-        now (arguments .exit) ≡ M.numbersIn e (termsAt table (now (words .entry)) first n) ++ replicate (6 - n) (pos 0))
+        now (arguments .exit) ≡ M.numbersIn e (termsAt (now (words .entry)) first n) ++ replicate (6 - n) (pos 0))
         ⌝ }
 {
     let mut i = 0;

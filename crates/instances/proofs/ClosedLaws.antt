@@ -23,27 +23,20 @@ use Rattle.policies.specs.declared.node.Tag.{Tag as Read}
 use Rattle.policies.specs.declared.node.Tag.the-variants.{Plain, Atom, Compare, Join, Quantifier, Some, Unused}
 use Rattle.policies.specs.Node.{asTag, Sized}
 use Rattle.policies.proofs.node.Tag.{the-type}
-use Rattle.preorder.specs.Grown.{Grown, below}
-use Rattle.preorder.specs.Rows.{Row, row-one, row-none, glue, children}
-use Rattle.preorder.specs.Ahead.{Ahead, ahead, ahead-is, ahead-tree, ahead-tag, ahead-word, ahead-row, ahead-count, ahead-fits, own-some}
-use Rattle.preorder.specs.Forming.{node-grown}
+use Rattle.trees.specs.Grown.{Grown, below}
+use Rattle.trees.proofs.Rows.{Row, row-one, row-none, glue, children}
+use Rattle.trees.proofs.Ahead.{Ahead, ahead, ahead-is, ahead-tree, ahead-tag, ahead-word, ahead-row, ahead-count, ahead-fits, own-some}
+use Rattle.trees.proofs.Forming.{node-grown}
 use Rattle.environments.specs.Standing.{RestrictionAt}
-use Rattle.instances.specs.Closing.{completeAt, KnownAt, TellsClosed}
+use Rattle.instances.specs.Closing.{completeAt, TellsClosed}
 
--- the record of an atom's predicate is read within the table; and what is no atom asks nothing
-module _ (table words : Words) (at : ℕ) (tag : Read) where
-  pub known-fits : (b : Bool) (p : ℕ) → tag ≡ Atom b → KnownAt table words (asTag tag) at → p ≡ value words (at + 1) → 3 * p + 2 < length table
-  unfolding KnownAt predicates
-  known-fits b p is known e = let in-table = subst (λ (k : Read). KnownAt table words (asTag k) at) is known in omega (arith, in-table, e)
-
-  pub complete-atom :
-      (b : Bool) (p : ℕ) (r : Bool) → tag ≡ Atom b → p ≡ value words (at + 1) → r ≡ equal (word table (3 * p + 2)) (pos 1) →
-      r ≡ completeAt table words (asTag tag) at
-  unfolding completeAt complete
-  complete-atom b p r is e q =
-      q
-      ∙ ap (λ (k : ℕ). equal (word table (3 * k + 2)) (pos 1)) e
-      ∙ sym (ap (λ (k : Read). completeAt table words (asTag k) at) is)
+-- an atom asks its predicate; and what is no atom asks nothing
+pub complete-atom :
+    (table words : Words) (at : ℕ) (tag : Read) (b : Bool) (p : ℕ) (r : Bool) → tag ≡ Atom b → p ≡ value words (at + 1) → r ≡ complete table p →
+    r ≡ completeAt table words (asTag tag) at
+unfolding completeAt
+complete-atom table words at tag b p r is e q =
+    q ∙ ap (complete table) e ∙ sym (ap (λ (k : Read). completeAt table words (asTag k) at) is)
 
 pub complete-other :
     (table words : Words) (at : ℕ) (tag : Read) → OneOf (0 ∷ 2 ∷ 3 ∷ 4 ∷ 5 ∷ 6 ∷ []) (D.tagOf the-type tag) →
@@ -57,46 +50,46 @@ complete-other table words at (Quantifier b) k = refl
 complete-other table words at Some k = refl
 complete-other table words at Unused k = refl
 
--- the predicates are in the table, and there is no quantifier
+-- there is no quantifier in a tree
 unfoldable mutual
-  pub Named : Tree → Words → Type 0
-  Named (plain b) table = Unit {0}
-  Named (atom b p ts) table = p < predicates table
-  Named (compare b d x y) table = Unit {0}
-  Named (join b ts) table = NamedAll ts table
-  Named (quantifier b v excluded c f) table = ⊥
-  Named (some c) table = Named c table
+  pub Bare : Tree → Type 0
+  Bare (plain b) = Unit {0}
+  Bare (atom b p ts) = Unit {0}
+  Bare (compare b d x y) = Unit {0}
+  Bare (join b ts) = BareAll ts
+  Bare (quantifier b v excluded c f) = ⊥
+  Bare (some c) = Bare c
 
-  pub NamedAll : Trees → Words → Type 0
-  NamedAll nil table = Unit {0}
-  NamedAll (cons t ts) table = Named t table × NamedAll ts table
+  pub BareAll : Trees → Type 0
+  BareAll nil = Unit {0}
+  BareAll (cons t ts) = Bare t × BareAll ts
 
 -- so it is in a restriction
 mutual
-  unfolding Formed Named
+  unfolding Formed Bare
 
-  formed-named : (t : Tree) (table : Words) (scope : ℕ) → Formed t table false scope → Named t table
-  formed-named (plain b) table scope h = tt
-  formed-named (atom b p ts) table scope h = h .0
-  formed-named (compare b d x y) table scope h = tt
-  formed-named (join b ts) table scope h = formed-all ts table scope (h .1)
-  formed-named (quantifier b v excluded c f) table scope h = false≢true (h .0)
-  formed-named (some c) table scope h = formed-named c table (scope + 1) (h .2)
+  formed-bare : (t : Tree) (table : Words) (scope : ℕ) → Formed t table false scope → Bare t
+  formed-bare (plain b) table scope h = tt
+  formed-bare (atom b p ts) table scope h = tt
+  formed-bare (compare b d x y) table scope h = tt
+  formed-bare (join b ts) table scope h = formed-all ts table scope (h .1)
+  formed-bare (quantifier b v excluded c f) table scope h = false≢true (h .0)
+  formed-bare (some c) table scope h = formed-bare c table (scope + 1) (h .2)
 
-  formed-all : (ts : Trees) (table : Words) (scope : ℕ) → FormedAll ts table false scope → NamedAll ts table
+  formed-all : (ts : Trees) (table : Words) (scope : ℕ) → FormedAll ts table false scope → BareAll ts
   formed-all nil table scope h = tt
-  formed-all (cons t ts) table scope h = (formed-named t table scope (h .0), formed-all ts table scope (h .1))
+  formed-all (cons t ts) table scope h = (formed-bare t table scope (h .0), formed-all ts table scope (h .1))
 
-node-named :
-    (table words : Words) (above scope at : ℕ) (c : Tree) (next : ℕ) → Node table words restriction above scope at c next → Named c table
+node-bare :
+    (table words : Words) (above scope at : ℕ) (c : Tree) (next : ℕ) → Node table words restriction above scope at c next → Bare c
 unfolding isFormula
-node-named table words above scope at c next n = formed-named c table scope (n .formed)
+node-bare table words above scope at c next n = formed-bare c table scope (n .formed)
 
 -- trees, then trees
-glue-named : (ts us : Trees) (table : Words) → NamedAll ts table → NamedAll us table → NamedAll (glue ts us) table
-unfolding glue Named
-glue-named nil us table a b = b
-glue-named (cons t ts) us table a b = (a .0, glue-named ts us table (a .1) b)
+glue-bare : (ts us : Trees) → BareAll ts → BareAll us → BareAll (glue ts us)
+unfolding glue Bare
+glue-bare nil us a b = b
+glue-bare (cons t ts) us a b = (a .0, glue-bare ts us (a .1) b)
 
 and-assoc : (a b c : Bool) → (a && b) && c ≡ a && (b && c)
 and-assoc true b c = refl
@@ -112,30 +105,20 @@ glue-closed nil us table = refl
 glue-closed (cons t ts) us table =
     ap (λ (b : Bool). closed t table && b) (glue-closed ts us table) ∙ sym (and-assoc (closed t table) (closedAll ts table) (closedAll us table))
 
-children-named : (t : Tree) (table : Words) → Named t table → NamedAll (children t) table
-unfolding children Named
-children-named (plain b) table h = tt
-children-named (atom b p ts) table h = tt
-children-named (compare b d x y) table h = tt
-children-named (join b ts) table h = h
-children-named (quantifier b v excluded c f) table h = absurd h
-children-named (some c) table h = (h, tt)
+children-bare : (t : Tree) → Bare t → BareAll (children t)
+unfolding children Bare
+children-bare (plain b) h = tt
+children-bare (atom b p ts) h = tt
+children-bare (compare b d x y) h = tt
+children-bare (join b ts) h = h
+children-bare (quantifier b v excluded c f) h = absurd h
+children-bare (some c) h = (h, tt)
 
--- the node at an index: its predicate is in the table; and it is closed exactly if its predicate is complete and its children
--- are closed
+-- the node at an index is closed exactly if its predicate is complete and its children are closed
 module _ (table words : Words) (at next : ℕ) where
-  tree-known : (t : Tree) → Grown words at t next → Named t table → KnownAt table words (root t) at
-  unfolding KnownAt Named root encode value
-  tree-known (plain b) g h = tt
-  tree-known (atom b p ts) g h = let three = three-stand words _ _ _ _ (g .stands) in rw (three .1) h
-  tree-known (compare b d x y) g h = tt
-  tree-known (join b ts) g h = tt
-  tree-known (quantifier b v excluded c f) g h = tt
-  tree-known (some c) g h = tt
-
   tree-closed :
-      (t : Tree) → Grown words at t next → Named t table → closed t table ≡ completeAt table words (root t) at && closedAll (children t) table
-  unfolding completeAt closed Named root children encode value
+      (t : Tree) → Grown words at t next → Bare t → closed t table ≡ completeAt table words (root t) at && closedAll (children t) table
+  unfolding completeAt closed Bare root children encode value
   tree-closed (plain b) g h = refl
   tree-closed (atom b p ts) g h = let three = three-stand words _ _ _ _ (g .stands) in rw (three .1) (sym (and-one (complete table p)))
   tree-closed (compare b d x y) g h = refl
@@ -149,22 +132,22 @@ module _ (table words : Words) (at : ℕ) where
     pub rest : Trees
     pub row : Row words next rest end
     pub number : count rest ≡ left
-    pub named : NamedAll rest table
+    pub bare : BareAll rest
     pub same : closed c table ≡ closedAll rest table
 
-  abbrev pub Closing : ℕ → ℕ → Type 0
+  abbrev pub Closing : (left next : ℕ) → Type 0
   Closing left next =
       (above scope : ℕ) (c : Tree) (end : ℕ) → Node table words restriction above scope at c end → Partly c end left next
 
 module _ (table words : Words) (at : ℕ) where
   pub close-start : Closing table words at 1 at
-  unfolding count Named closed
+  unfolding count Bare closed
   close-start above scope c end n =
       record {
         rest = cons c nil;
         row = row-one words at end c (node-grown table words restriction above scope at c end n);
         number = refl;
-        named = (node-named table words above scope at c end n, tt);
+        bare = (node-bare table words above scope at c end n, tt);
         same = sym (and-one (closed c table));
       }
 
@@ -182,10 +165,10 @@ module _ (table words : Words) (at : ℕ) where
       first c end p = ahead words next left end (p .rest) (p .row) (p .number) h
 
       -- the next node, and those left behind it
-      first-named : (c : Tree) (end : ℕ) (p : Partly table words at c end left next) → NamedAll (cons (first c end p .first) (first c end p .others)) table
+      first-bare : (c : Tree) (end : ℕ) (p : Partly table words at c end left next) → BareAll (cons (first c end p .first) (first c end p .others))
       unfolding first
-      first-named c end p =
-          subst (λ (ts : Trees). NamedAll ts table) (ahead-is words next left end (p .rest) (p .row) (p .number) h) (p .named)
+      first-bare c end p =
+          subst (λ (ts : Trees). BareAll ts) (ahead-is words next left end (p .rest) (p .row) (p .number) h) (p .bare)
 
       first-closed :
           (c : Tree) (end : ℕ) (p : Partly table words at c end left next) →
@@ -197,23 +180,16 @@ module _ (table words : Words) (at : ℕ) where
       pub close-ahead : RestrictionAt table words at → (end : ℕ) × Ahead words next left end
       close-ahead (above, scope, few, (c, end, n)) = (end, first c end (w above scope c end n))
 
-      module _ (tag : Tag) (e : tag ≡ tagOf (word words next)) where
-        pub close-asks : RestrictionAt table words at → (next < length words) × KnownAt table words tag next
-        unfolding Named
-        close-asks (above, scope, few, (c, end, n)) =
-            let p = w above scope c end n in
-            let a = first c end p in (
-              ahead-word words next left end a,
-              rw (e ∙ ahead-tag words next left end a)
-                  (tree-known table words next _ (a .first) (ahead-tree words next left end a) (first-named c end p .0)),
-            )
+      pub close-asks : RestrictionAt table words at → next < length words
+      close-asks there = let (end, a) = close-ahead there in ahead-word words next left end a
 
+      module _ (tag : Tag) (e : tag ≡ tagOf (word words next)) where
         -- what the next node adds
         split :
             (c : Tree) (end : ℕ) (p : Partly table words at c end left next) →
             let a = first c end p in
             closed c table ≡ completeAt table words tag next && closedAll (glue (children (a .first)) (a .others)) table
-        unfolding closed Named
+        unfolding closed Bare
         split c end p =
             let a = first c end p in
             let here = completeAt table words tag next in
@@ -221,7 +197,7 @@ module _ (table words : Words) (at : ℕ) where
             let others = closedAll (a .others) table in
             first-closed c end p
             ∙ ap (λ (b : Bool). b && others)
-            (tree-closed table words next _ (a .first) (ahead-tree words next left end a) (first-named c end p .0)
+            (tree-closed table words next _ (a .first) (ahead-tree words next left end a) (first-bare c end p .0)
             ∙ ap (λ (k : Tag). completeAt table words k next && under) (sym (e ∙ ahead-tag words next left end a)))
             ∙ and-assoc here under others
             ∙ ap (λ (b : Bool). here && b) (sym (glue-closed (children (a .first)) (a .others) table))
@@ -240,15 +216,15 @@ module _ (table words : Words) (at : ℕ) where
               (ahead-fits words next left end a tag e more own m o, own-some words next left end a tag e more own m o)
 
           pub close-more : completeAt table words tag next ≡ true → Closing table words at (left - 1 + more) (next + own)
-          unfolding Named
+          unfolding Bare
           close-more q above scope c end n =
               let p = w above scope c end n in
               let a = first c end p in
-              let all = first-named c end p in
+              let all = first-bare c end p in
               record {
                 rest = glue (children (a .first)) (a .others);
                 row = ahead-row words next left end a tag e more own m o;
                 number = ahead-count words next left end a tag e more own m o;
-                named = glue-named (children (a .first)) (a .others) table (children-named (a .first) table (all .0)) (all .1);
+                bare = glue-bare (children (a .first)) (a .others) (children-bare (a .first) (all .0)) (all .1);
                 same = split c end p ∙ ap (λ (b : Bool). b && closedAll (glue (children (a .first)) (a .others)) table) q;
               }

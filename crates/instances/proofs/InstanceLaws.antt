@@ -1,73 +1,31 @@
--- Laws of the search for instances: words compared one by one, a tuple looked for among tuples, and the walk along a list,
+-- Laws of the search for instances: a tuple looked for among tuples, and the walk along a list,
 -- whose tuples so far and those that are left to find come to the fresh ones of the whole list.
 use Prim.Native.Nat.{ℕ, suc, _+_, _*_, _-_, _≤_, _<_}
 use native.Mathlib.Omega.{arith}
 use native.Mathlib.Numerals.{add-one}
 use mathlib.Core.Path.{_≡_, refl, sym, ap, ap₂, _∙_, subst}
-use mathlib.Core.Bool.{Bool, true, false, _&&_, _||_, cond}
+use mathlib.Core.Bool.{Bool, true, false, _||_, cond}
 use mathlib.Core.List.{List, [], _∷_, _++_, map, map-append, append-assoc, append-nil}
-use lib.ListN.{length, getD, take, drop, length-append, length-drop, drop-of-length-le}
+use lib.ListN.{length, take, drop, length-append, length-drop, drop-of-length-le}
 use lib.Seq.{drop-cons, drop-drop, length-take-le}
-use lib.IntN.{ℤ, pos}
-use Rattle.model.specs.Words.{Words, equal, equalAll, member}
+use lib.IntN.{ℤ}
+use Rattle.model.specs.Words.{Words, equalAll, member}
 use Rattle.model.specs.Lists.{span}
 use Rattle.model.specs.Listing.{free, Environment}
 use Rattle.model.specs.Reduction.{fresh, tuple}
 use Rattle.environments.specs.Environment.{placeOf, placeAt}
 use Rattle.laws.specs.Words.Tests.{member-append, or-left, or-right}
 use Rattle.laws.specs.Reading.Items.{tuples}
-use Rattle.environments.specs.Listed.{Listed, environmentOf, spaced, tuple-here, listed-none, listed-more, listed-kept, listed-at}
-use Rattle.environments.specs.Listed.{listed-tuples}
-use Rattle.environments.specs.Listed.{laid-length, laid-front, laid-here, laid-behind}
-use Rattle.instances.specs.Instances.{Chosen, tuples-spaced}
-
--- a part of words from number i on: its first word, and the part from the next on
-module _ (ws : Words) (at n : ℕ) where
-  abbrev pub partFrom : ℕ → Words
-  partFrom i = take (n - i) (drop (at + i) ws)
-
-  pub part-first : take n (drop at ws) ≡ partFrom 0
-  part-first =
-      let all : n ≡ n - 0 = omega arith in
-      let here : at ≡ at + 0 = omega arith in
-      ap₂ (λ (k j : ℕ). take k (drop j ws)) all here
-
-  pub part-next : (i : ℕ) → i < n → at + n ≤ length ws → partFrom i ≡ getD ws (at + i) (pos 0) ∷ partFrom (i + 1)
-  part-next i h l =
-      let more : n - i ≡ suc (n - (i + 1)) = omega arith in
-      let next : suc (at + i) ≡ at + (i + 1) = omega arith in
-      ap₂ (λ (k : ℕ) (p : Words). take k p) more (drop-cons ws (at + i) (pos 0) (omega arith))
-      ∙ ap (λ (j : ℕ). getD ws (at + i) (pos 0) ∷ take (n - (i + 1)) (drop j ws)) next
-
-  pub part-last : (i : ℕ) → n ≤ i → partFrom i ≡ []
-  part-last i h = let none : n - i ≡ 0 = omega arith in ap (λ (k : ℕ). take k (drop (at + i) ws)) none
-
--- two parts are equal, from number i on
-module _ (a : Words) (at : ℕ) (b : Words) (from n : ℕ) where
-  abbrev pub equalFrom : ℕ → Bool
-  equalFrom i = equalAll (partFrom a at n i) (partFrom b from n i)
-
-  pub equal-first : equalAll (take n (drop at a)) (take n (drop from b)) ≡ equalFrom 0
-  equal-first = ap₂ equalAll (part-first a at n) (part-first b from n)
-
-  module _ (i : ℕ) (h : i < n) (l : at + n ≤ length a) (k : from + n ≤ length b) where
-    equal-next : equalFrom i ≡ (equal (getD a (at + i) (pos 0)) (getD b (from + i) (pos 0)) && equalFrom (i + 1))
-    unfolding equalAll
-    equal-next = ap₂ equalAll (part-next a at n i h l) (part-next b from n i h k)
-
-    pub equal-on : equal (getD a (at + i) (pos 0)) (getD b (from + i) (pos 0)) ≡ true → equalFrom i ≡ equalFrom (i + 1)
-    equal-on q = equal-next ∙ ap (λ (x : Bool). x && equalFrom (i + 1)) q
-
-    pub equal-off : equal (getD a (at + i) (pos 0)) (getD b (from + i) (pos 0)) ≡ false → equalFrom i ≡ false
-    equal-off q = equal-next ∙ ap (λ (x : Bool). x && equalFrom (i + 1)) q
-
-  pub equal-last : (i : ℕ) → n ≤ i → equalFrom i ≡ true
-  unfolding equalAll
-  equal-last i h = ap₂ equalAll (part-last a at n i h) (part-last b from n i h)
+use Rattle.environments.specs.Listed.{Listed, spaced}
+use Rattle.environments.proofs.ListedLaws.{environmentOf, tuple-here, listed-none, listed-more, listed-kept, listed-at}
+use Rattle.environments.proofs.ListedLaws.{listed-tuples}
+use Rattle.environments.proofs.ListedLaws.{laid-length, laid-front, laid-here, laid-behind}
+use Rattle.instances.specs.Instances.{Chosen}
+use Rattle.instances.proofs.ChosenTuples.{tuples-spaced}
 
 -- a tuple is among tuples, from number i on
 module _ (τ : List ℤ) (b : Words) (v from step m : ℕ) where
-  abbrev pub amongFrom : ℕ → Bool
+  abbrev pub amongFrom : (i : ℕ) → Bool
   amongFrom i = member τ (map (λ j. take v (drop (from + step * j) b)) (span i (m - i)))
 
   pub among-first : member τ (spaced b v from step m) ≡ amongFrom 0
@@ -245,7 +203,7 @@ module _ (t : Turn) where
   next = take (t .v) (drop (17 * place + t .scope) (t .scratch))
 
   -- the walk goes on with so many found
-  abbrev pub OnWith : Words → ℕ → Type 0
+  abbrev pub OnWith : (scratch : Words) (found : ℕ) → Type 0
   OnWith scratch found = Going (t .words) (t .from) (t .m) (t .v) (t .scope) (t .before) scratch (t .first) (t .count) found (t .i + 1)
 
   -- the words behind the next place are as they were

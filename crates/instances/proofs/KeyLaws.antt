@@ -13,11 +13,12 @@ use lib.Dec.{eqb, ltb}
 use lib.IntN.{ℤ}
 use borrow.Author.Tests.{eqb-true, eqb-false, leb-true, le-leb, lt-leb}
 use Rattle.model.specs.Words.{Words, word, equalAll}
-use Rattle.tables.specs.Offset.{fromLeast}
+use Rattle.words.specs.Offset.{fromLeast}
 use Rattle.laws.specs.Words.Tests.{and-right, decide, equalAll-true}
 use Rattle.laws.specs.Lists.Span.{side}
 use Rattle.instances.specs.Keyed.{serves, added, keyFrom, keyOf, amongFirst, Last, Keyed}
-use Rattle.instances.proofs.InstanceLaws.{partFrom, part-first, part-next, part-last, or-none}
+use Rattle.instances.proofs.InstanceLaws.{or-none}
+use Rattle.words.proofs.PartLaws.{partFrom, part-first, part-next, part-last}
 
 -- the key of a part of words, from number i on
 module _ (ws : Words) (at n : ℕ) where

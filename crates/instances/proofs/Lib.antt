@@ -1,4 +1,5 @@
 -- Laws that several proofs of this crate cite.
+pub mod ChosenTuples
 pub mod InstanceLaws
 pub mod KeyLaws
 pub mod SeenLaws

@@ -14,7 +14,8 @@ use Rattle.model.specs.Words.{Words, equalAll, member}
 use Rattle.model.specs.Lists.{span}
 use Rattle.laws.specs.Lists.Span.{side, drop-take}
 use Rattle.environments.specs.Environment.{placeAt}
-use Rattle.environments.specs.Listed.{spaced, tuple-part}
+use Rattle.environments.specs.Listed.{spaced}
+use Rattle.environments.proofs.ListedLaws.{tuple-part}
 use Rattle.instances.specs.Keyed.{keyFrom, keyOf, entryAt, amongFirst, Keyed}
 use Rattle.instances.proofs.InstanceLaws.{Turn, place, next, OnWith, passed-over, one-more, copied-here, copied-front}
 use Rattle.instances.proofs.KeyLaws.{keyed-same, keyed-count, keyed-entered, among-same, among-both}
@@ -83,7 +84,7 @@ keyed-excluded words from m v scratch start heads links t =
 -- one turn of the choice
 module _ (t : Turn) where
   -- the entries, as they stand in scratch
-  abbrev pub entryIn : Words → ℕ → List ℤ
+  abbrev pub entryIn : (scratch : Words) (n : ℕ) → List ℤ
   entryIn scratch = entryAt (t .words) (t .from) (t .m) (t .v) scratch (17 * t .first + t .scope)
 
   -- what the search in the table says

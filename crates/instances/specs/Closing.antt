@@ -1,9 +1,9 @@
 -- Whether a restriction is closed, as its words tell it node by node.
-use Prim.Native.Nat.{ℕ, _+_, _<_}
+use Prim.Native.Nat.{ℕ, _+_}
 use mathlib.Core.Path.{_≡_}
 use mathlib.Core.Bool.{Bool, true}
 use Rattle.model.specs.Words.{Words, value}
-use Rattle.model.specs.Table.{predicates, complete}
+use Rattle.model.specs.Table.{complete}
 use Rattle.model.specs.Tag.{Tag}
 use Rattle.model.specs.Tree.{Tree}
 use Rattle.model.specs.Level.{restriction}
@@ -20,18 +20,8 @@ completeAt table words (Tag.quantifier b) at = true
 completeAt table words Tag.some at = true
 completeAt table words Tag.unused at = true
 
--- it is in the table, if the node is an atom
-unfoldable pub KnownAt : Words → Words → Tag → ℕ → Type 0
-KnownAt table words (Tag.plain b) at = Unit {0}
-KnownAt table words (Tag.atom b) at = value words (at + 1) < predicates table
-KnownAt table words (Tag.compare b) at = Unit {0}
-KnownAt table words (Tag.join b) at = Unit {0}
-KnownAt table words (Tag.quantifier b) at = Unit {0}
-KnownAt table words Tag.some at = Unit {0}
-KnownAt table words Tag.unused at = Unit {0}
-
 -- r says whether the restriction at an index is closed
-abbrev pub TellsClosed : Words → Words → ℕ → Bool → Type 0
+abbrev pub TellsClosed : (table words : Words) (at : ℕ) (r : Bool) → Type 0
 TellsClosed table words at r =
     (above scope : ℕ) (c : Tree) (next : ℕ) →
     Node table words restriction above scope at c next →

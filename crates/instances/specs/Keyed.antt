@@ -8,7 +8,7 @@ use lib.ListN.{length, getD, take, drop}
 use lib.Dec.{ltb, leb}
 use lib.IntN.{ℤ}
 use Rattle.model.specs.Words.{Words, equalAll}
-use Rattle.tables.specs.Offset.{fromLeast}
+use Rattle.words.specs.Offset.{fromLeast}
 
 -- so many keys, and as many entries at most
 abbrev pub keyCount : ℕ
@@ -26,7 +26,7 @@ unfoldable pub keyFrom : ℕ → List ℤ → ℕ
 keyFrom sum [] = sum / 2 ^ 19 % keyCount
 keyFrom sum (z ∷ zs) = keyFrom (added sum z) zs
 
-abbrev pub keyOf : List ℤ → ℕ
+abbrev pub keyOf : (τ : List ℤ) → ℕ
 keyOf τ = keyFrom 0 τ
 
 -- the tuple of an entry: the excluded ones, from an index of a policy's words on, come first; behind them the instances found, each

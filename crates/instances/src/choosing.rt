@@ -2,28 +2,14 @@
 use crate::seen;
 use environments::environment::Environment;
 use environments::lists::copy_place;
+use words::equal_words;
 ghost use mathlib.Core.Path.{_≡_};
 ghost use Prim.Native.Nat.{ℕ, _+_, _*_, _≤_, _<_};
 ghost use lib.ListN.{length, take, drop, replicate};
-ghost use Rattle.model.specs.Words.{equalAll, member};
+ghost use Rattle.model.specs.Words.{member};
 ghost use Rattle.environments.specs.Listed.{spaced};
 ghost use Rattle.instances.specs.Keyed.{serves};
 ghost use Rattle.instances.specs.Instances.{Chosen};
-
-// Whether n words of one slice from an index on are those of another from an index on.
-pub fn equal_words(a: &[i32], at: usize, b: &[i32], from: usize, n: usize) -> bool
-    requires { ⌜ (at + n ≤ length (now a)) × (from + n ≤ length (now b)) ⌝ }
-    ensures { λ r. ⌜ r ≡ equalAll (take n (drop at (now (a .entry)))) (take n (drop from (now (b .entry)))) ⌝ }
-{
-    let mut i = 0;
-    while i < n {
-        if a[at + i] != b[from + i] {
-            return false;
-        }
-        i += 1;
-    }
-    true
-}
 
 // Whether the tuple of v words at an index is one of m tuples, the first at `from`, each `step` words behind the one before.
 fn stands(a: &[i32], at: usize, b: &[i32], from: usize, step: usize, m: usize, v: usize) -> bool

@@ -1,22 +1,22 @@
 // Whether a restriction is closed: every atom of it has a complete predicate.
 use policies::node;
 use policies::node::Tag;
-use preorder::walk;
-use tables::words;
+use tables::table;
+use trees::walk;
 ghost use mathlib.Core.Path.{_≡_};
 ghost use Prim.Native.Nat.{_<_};
 ghost use lib.ListN.{length};
 ghost use Rattle.policies.specs.Node.{asTag};
 ghost use Rattle.environments.specs.Standing.{RestrictionAt};
-ghost use Rattle.instances.specs.Closing.{completeAt, KnownAt, TellsClosed};
+ghost use Rattle.instances.specs.Closing.{completeAt, TellsClosed};
 
 // The predicate of the node at an index is complete, if the node is an atom.
 fn complete(table: &[i32], words: &[i32], tag: Tag, at: usize) -> bool
-    requires { ⌜ (at < length (now words)) × KnownAt (now table) (now words) (asTag tag) at ⌝ }
+    requires { ⌜ at < length (now words) ⌝ }
     ensures { λ r. ⌜ r ≡ completeAt (now (table .entry)) (now (words .entry)) (asTag tag) at ⌝ }
 {
     match tag {
-        Tag::Atom(_) => words::is(table, 3 * words::value(words, at + 1) + 2, 1),
+        Tag::Atom(_) => table::complete(table, words::value(words, at + 1)),
         _ => true,
     }
 }

@@ -1,9 +1,8 @@
 // The tuples seen in the search for instances, found by key: the excluded ones are the first entries of a table, and the instances
 // found those behind them. A head is 1 more than the last entry of its key, a link 1 more than the entry before with the same key;
 // 0 is the end of a chain.
-use crate::choosing::equal_words;
 use environments::environment::Environment;
-use tables::words;
+use words::equal_words;
 ghost use mathlib.Core.Path.{_≡_};
 ghost use Prim.Native.Nat.{_+_, _*_, _-_, _≤_, _<_};
 ghost use lib.ListN.{length, getD, set, take, drop, replicate};

@@ -195,7 +195,7 @@ add-long {out} {j} a =
     (a .state .kept p q))
 
 -- the same child, where the answer is known
-abbrev pub retold : {out : Words} {j : Join} {answer r : Reduced} → answer ≡ r → Adding out j answer → Adding out j r
+abbrev pub retold : {out : Words} {j : Join} {answer r : Reduced} (e : answer ≡ r) (a : Adding out j answer) → Adding out j r
 retold e a =
     record {
       b = a .b;

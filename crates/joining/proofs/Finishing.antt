@@ -13,7 +13,8 @@ use Rattle.model.specs.Words.{Words}
 use Rattle.model.specs.Tree.{Tree, Trees, count, encode, encodeAll}
 use Rattle.model.specs.Joining as M
 use Rattle.laws.specs.Words.Tests.{clash}
-use Rattle.preorder.specs.Laying.{laid, laid-front}
+use Rattle.words.specs.Laying.{laid}
+use Rattle.words.proofs.LayingLaws.{laid-front}
 use Rattle.joining.specs.declared.answer.Reduced.{Reduced}
 use Rattle.joining.specs.declared.answer.Reduced.the-variants.{Short, Plain, Long, Part}
 use Rattle.joining.specs.declared.join.Join.{Join}

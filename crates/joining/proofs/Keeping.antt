@@ -14,9 +14,8 @@ use Rattle.model.specs.Words.{Words, word, value, equal}
 use Rattle.model.specs.Tree.{Trees, join, nil, cons, count, encode, encodeAll}
 use Rattle.model.specs.Joining as M
 use Rattle.laws.specs.Words.Tests.{clash}
-use Rattle.laws.specs.Reading.Back.{encode-nonempty}
-use Rattle.preorder.specs.Laying.{laid}
-use Rattle.preorder.specs.Rows.{count-few}
+use Rattle.laws.specs.Reading.Back.{encode-nonempty, count-few}
+use Rattle.words.specs.Laying.{laid}
 use Rattle.joining.specs.declared.answer.Reduced.the-variants.{Part}
 use Rattle.joining.specs.declared.join.Join.{Join}
 use Rattle.joining.specs.Join.{Stand, Adding, added}
@@ -92,7 +91,7 @@ module _ {out : Words} {j : Join} {k : ℕ} (a : Adding out j (Part k)) where
   abbrev with-parts : ℕ → ℕ → Join
   with-parts n w = record { kind = j .kind; short = false; decided = false; long = false; parts = n; words = w }
 
-  abbrev pub grown : Words → ℕ → ℕ → Type 0
+  abbrev pub grown : (after : Words) (n w : ℕ) → Type 0
   grown after n w = added a after (with-parts n w)
 
   module _ (p : j .short ≡ false) (q : j .decided ≡ false) (r : j .long ≡ false) where

@@ -16,13 +16,13 @@ use Rattle.joining.specs.Answer.{told, Answers}
 use Rattle.joining.specs.Join.{Joining, Wide, Adding}
 
 -- the words of a buffer from an index on, as they are lent, and the buffer with others in their place
-abbrev pub rest : Words → ℕ → Words
+abbrev pub rest : (out : Words) (w : ℕ) → Words
 rest out w = take (length out - w) (drop w out)
 
 pub rest-long : (out : Words) (w : ℕ) → length (rest out w) ≡ length out - w
 rest-long out w = length-take-le (length out - w) (drop w out) (omega (arith, length-drop w out))
 
-abbrev pub lent : Words → ℕ → Words → Words
+abbrev pub lent : (out : Words) (w : ℕ) (part : Words) → Words
 lent out w part = take w out ++ (part ++ drop (length out - w) (drop w out))
 
 module _ (out : Words) (w : ℕ) (part : Words) (within : w ≤ length out) (long : length part ≡ length (rest out w)) where
@@ -68,10 +68,8 @@ joining-on {b} {ts} {need} {places} {out} {j} after l f s =
 
 -- the child's answer, to be added
 abbrev pub adding :
-    {b : Bool} {ts : Trees} {need places n : ℕ} {out : Words} {j : Join} {t : Tree} {part : Words} {answer : Reduced} →
-    Joining b ts need places out j →
-    Answers places n t (rest out (j .words)) part answer →
-    Wide t →
+    {b : Bool} {ts : Trees} {need places n : ℕ} {out : Words} {j : Join} {t : Tree} {part : Words} {answer : Reduced}
+    (s : Joining b ts need places out j) (a : Answers places n t (rest out (j .words)) part answer) (w : Wide t) →
     Adding (lent out (j .words) part) j answer
 adding {b} {ts} {need} {places} {n} {out} {j} {t} {part} {answer} s a w =
     record {

@@ -1,5 +1,4 @@
 -- Laws that several proofs of this crate and of those above cite.
-pub mod Shifting
 pub mod Parts
 pub mod Telling
 pub mod Adding

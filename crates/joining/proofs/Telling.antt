@@ -14,7 +14,7 @@ use Rattle.joining.specs.Answer.{fitted, settled, told}
 use Rattle.joining.proofs.Parts.{Solid}
 
 -- what each answer means
-abbrev pub Means : Reduced → ℕ → Tree → Type 0
+abbrev pub Means : (r : Reduced) (room : ℕ) (t : Tree) → Type 0
 Means Short room t = ⊥
 Means (Plain a) room t = t ≡ plain a
 Means Long room t = Solid t × (room < length (encode t))

@@ -68,5 +68,5 @@ pub record Adding (out : Words) (j : Join) (answer : Reduced) : Type 0 where
   pub wide : Wide t
 
 -- the state with the child
-abbrev pub added : {out : Words} {j : Join} {answer : Reduced} → Adding out j answer → Words → Join → Type 0
-added a out j = Joining (a .b) (M.append (a .ts) (cons (a .t) nil)) (max (a .need) (a .n)) (a .places) out j
+abbrev pub added : {out : Words} {j : Join} {answer : Reduced} (a : Adding out j answer) (after : Words) (to : Join) → Type 0
+added a after to = Joining (a .b) (M.append (a .ts) (cons (a .t) nil)) (max (a .need) (a .n)) (a .places) after to

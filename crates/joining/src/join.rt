@@ -1,8 +1,7 @@
 // The join rule in a buffer: all-of, any-of and both quantifiers share it. The parts stand at the front of the buffer,
 // without a header, and the header is put in front of them at the end, where there are two parts or more.
 use crate::answer::Reduced;
-use crate::moving;
-use tables::words;
+use words::moving;
 ghost use mathlib.Core.Path.{_≡_};
 ghost use mathlib.Core.Bool.{Bool, cond};
 ghost use mathlib.Core.List.{_∷_};
@@ -12,7 +11,7 @@ ghost use lib.IntN.{pos};
 ghost use Rattle.model.specs.Words as W;
 ghost use Rattle.model.specs.Tree.{Trees, nil};
 ghost use Rattle.model.specs.Joining.{joined};
-ghost use Rattle.preorder.specs.Laying.{laid};
+ghost use Rattle.words.specs.Laying.{laid};
 ghost use Rattle.joining.specs.Answer.{Answers};
 ghost use Rattle.joining.specs.declared.answer.Reduced.the-variants as R;
 ghost use Rattle.joining.specs.Join.{Joining, Adding, added};

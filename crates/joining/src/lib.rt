@@ -1,4 +1,3 @@
 // The join rule in a buffer: answers of a walk, and the parts of a join with its header put in at the end.
 pub mod answer;
 pub mod join;
-pub mod moving;

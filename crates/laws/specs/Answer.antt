@@ -1,13 +1,15 @@
--- What it says that questions asked in order all pass: each of them passed; and what is promised of an answer.
-use Prim.Native.Nat.{ℕ}
-use mathlib.Core.Path.{_≡_, refl, ap}
+-- What it says that questions asked in order all pass: each of them passed; what is promised of an answer; loops that ask.
+use Prim.Native.Nat.{ℕ, _+_, _-_, _≤_, _<_}
+use mathlib.Core.Path.{_≡_, refl, ap, _∙_}
 use mathlib.Core.Bool.{Bool, true, false}
 use native.Mathlib.Omega.{arith}
 use mathlib.Core.List.{List, [], _∷_, List·Memᴰ, List·Memᴰ·head, List·Memᴰ·tail}
+use Rattle.model.specs.Lists.{span}
 use Rattle.model.specs.Answer.{number, place, count, AnswersAs, Outcome, refused, passed, ask, answer, _>>=_, inTurn}
 use Rattle.model.specs.declared.Refusal.{Refusal}
 use Rattle.model.specs.declared.Answer.{Answer}
 use Rattle.model.specs.declared.Answer.the-variants.{Accepted, Refused}
+use Rattle.laws.specs.Lists.Span.{span-step, span-end}
 
 -- an answer that is the fixed one has its number, place and count
 pub answers : {fixed r : Answer} → r ≡ fixed → AnswersAs fixed r
@@ -104,3 +106,17 @@ module _ {A : Type 0} where
   inTurn-intro questions [] h = refl
   inTurn-intro questions (x ∷ l) h =
       pass-then (λ _. inTurn questions l) (h x (List·Memᴰ·head refl)) (inTurn-intro questions l (λ y m. h y (List·Memᴰ·tail m)))
+
+-- questions asked at the numbers from p to n in turn: one step, and the end
+module _ (questions : ℕ → Outcome (Unit {0})) (p n : ℕ) where
+  pub turn-step : p < n → questions p ≡ passed tt → inTurn questions (span p (n - p)) ≡ inTurn questions (span (p + 1) (n - (p + 1)))
+  unfolding inTurn _>>=_
+  turn-step h e = ap (inTurn questions) (span-step p n h) ∙ rw e
+
+  pub turn-stop : {r : Refusal} {x : ℕ} → p < n → questions p ≡ refused r x → inTurn questions (span p (n - p)) ≡ refused r x
+  unfolding inTurn _>>=_
+  turn-stop h e = ap (inTurn questions) (span-step p n h) ∙ rw e
+
+  pub turn-end : n ≤ p → inTurn questions (span p (n - p)) ≡ passed tt
+  unfolding inTurn
+  turn-end h = ap (inTurn questions) (span-end p n h)

@@ -13,7 +13,7 @@ use Rattle.laws.specs.Words.Tests.{or-cases, or-false-left, or-false-rig
 use Rattle.laws.specs.Truth.{consistent}
 
 -- a property of each of the trees
-abbrev pub All : (Tree → Type 0) → Trees → Type 0
+abbrev pub All : (tree : Tree → Type 0) (trees : Trees) → Type 0
 All P nil = Unit {0}
 All P (cons t ts) = P t × All P ts
 

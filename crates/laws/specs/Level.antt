@@ -44,7 +44,7 @@ greatest-least (quantifier x v excluded c f) role above =
 greatest-least (some c) role above = let below = greatest-least c restriction (above + 1) in omega arith
 
 -- the roles of formulas
-abbrev pub Formal : Role → Type 0
+abbrev pub Formal : (role : Role) → Type 0
 Formal restriction = ⊥
 Formal formula = Unit {0}
 Formal (operand b) = Unit {0}
@@ -147,7 +147,7 @@ same-parts false ts = refl
 
 -- where the parts of a join by the rule stand: one level below its own place; or, where it is itself under a join of its
 -- kind, which takes its parts, at its own place
-abbrev pub Stand : Role → Bool → ℕ → ℕ → Type 0
+abbrev pub Stand : (role : Role) (b : Bool) (above a : ℕ) → Type 0
 Stand role b above a = (a ≡ above + 1) ⊎ ((role ≡ operand b) × (a ≡ above))
 
 plain-greatest : (n : ℕ) (role : Role) (above : ℕ) (x : Bool) → above + 1 ≤ n → greatest (plain x) role above ≤ n

@@ -8,7 +8,7 @@ use lib.ListN.{length}
 use lib.Dec.{leb, eqb}
 use borrow.Author.Tests.{leb-true, eqb-true}
 use Rattle.model.specs.declared.Refusal.the-variants.{Table}
-use Rattle.model.specs.Words.{Words, value}
+use Rattle.model.specs.Words.{Words, recordWords, predicateLimit, value}
 use Rattle.model.specs.Answer.{passed, ask}
 use Rattle.model.specs.Table.{predicates, arity, goodRecord, askTable}
 use Rattle.laws.specs.Words.Tests.{and-left, and-right}
@@ -18,31 +18,26 @@ use Rattle.laws.specs.Words.Standing.{within-value}
 
 -- an accepted table
 pub record Accepted (table : Words) : Type 0 where
-  pub whole : length table % 3 ≡ 0
+  pub whole : length table % recordWords ≡ 0
   pub some : 1 ≤ predicates table
-  pub few : predicates table ≤ 256
+  pub few : predicates table ≤ predicateLimit
   pub good : (p : ℕ) → p < predicates table → goodRecord table p ≡ true
 
 pub accepted : (table : Words) → askTable table ≡ passed tt → Accepted table
 unfolding askTable
 accepted table e =
     let (u, first, rest) =
-    then-passed (ask (eqb (length table % 3) 0 && leb 1 (predicates table) && leb (predicates table) 256) Table 0) _ e
+    then-passed (ask (eqb (length table % recordWords) 0 && leb 1 (predicates table) && leb (predicates table) predicateLimit) Table 0) _ e
     in
     let tests = ask-passed _ _ _ first in
     record {
       whole = eqb-true _ 0 (and-left _ _ (and-left _ _ tests));
-      some = leb-true 1 _ (and-right (eqb (length table % 3) 0) _ (and-left _ _ tests));
-      few = leb-true _ 256 (and-right (eqb (length table % 3) 0 && leb 1 (predicates table)) _ tests);
+      some = leb-true 1 _ (and-right (eqb (length table % recordWords) 0) _ (and-left _ _ tests));
+      few = leb-true _ predicateLimit (and-right (eqb (length table % recordWords) 0 && leb 1 (predicates table)) _ tests);
       good = λ p h.
           ask-passed _ _ _
           (inTurn-mem (λ q. ask (goodRecord table q) Table q) rest (mem-span 0 (predicates table) (omega arith) (omega (arith, zero-add (predicates table)))));
     }
-
--- its length
-pub short : (table : Words) → Accepted table → length table ≤ 768
-unfolding predicates
-short table a = let w = a .whole in let f = a .few in omega arith
 
 -- the arity of each of its predicates
 pub arity-range : (table : Words) → Accepted table → (p : ℕ) → p < predicates table → (1 ≤ arity table p) × (arity table p ≤ 6)

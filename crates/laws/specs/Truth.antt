@@ -18,10 +18,10 @@ use Rattle.laws.specs.Reading.Formed.{Formed, FormedAll}
 
 -- the two statements about a quantifier, of tuples of v numbers: each tuple is excluded, or has a false restriction or the
 -- body's truth; some tuple is not excluded and has a true restriction and the body's truth
-abbrev pub EachTuple : ℕ → List (List ℤ) → (List ℤ → Type 0) → (List ℤ → Type 0) → Type 0
+abbrev pub EachTuple : (v : ℕ) (excluded : List (List ℤ)) (C F : List ℤ → Type 0) → Type 0
 EachTuple v excluded C F = (τ : List ℤ) → length τ ≡ v → (member τ excluded ≡ true) ⊎ C τ ⊎ F τ
 
-abbrev pub SomeTuple : ℕ → List (List ℤ) → (List ℤ → Type 0) → (List ℤ → Type 0) → Type 0
+abbrev pub SomeTuple : (v : ℕ) (excluded : List (List ℤ)) (C F : List ℤ → Type 0) → Type 0
 SomeTuple v excluded C F = (τ : List ℤ) × (length τ ≡ v) × (member τ excluded ≡ false) × C τ × F τ
 
 tuple-clash :
@@ -167,7 +167,7 @@ module _ (table : Words) (s larger : Structure) (extends : Extends table s large
 
 -- two lists of trees say the same, tree by tree, each under its own numbers and for its own truth
 module _ (s : Structure) (truth : Bool) (ρ : List ℤ) (truth′ : Bool) (ρ′ : List ℤ) where
-  abbrev pub Alike : Trees → Trees → Type 0
+  abbrev pub Alike : (trees trees′ : Trees) → Type 0
   Alike nil nil = Unit {0}
   Alike nil (cons u us) = ⊥
   Alike (cons t ts) nil = ⊥

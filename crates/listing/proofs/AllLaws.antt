@@ -12,7 +12,7 @@ use Rattle.model.specs.Tree.{Tree, Trees, join, nil, cons}
 use Rattle.model.specs.Listing.{Environment, list, listAll, entries, entriesAll}
 use Rattle.listing.specs.declared.restriction.Room.{Room}
 use Rattle.listing.specs.declared.restriction.Made.the-variants as M
-use Rattle.listing.specs.Restrictions.{Roomy, Holding, Stood, MakesTree, counted}
+use Rattle.listing.specs.Restrictions.{Roomy, Holding, ListStands, MakesTree, counted}
 
 -- words up to a place, given those up to a later one
 pub fewer : (before after : Words) (k n : ℕ) → k ≤ n → take n after ≡ take n before → take k after ≡ take k before
@@ -79,7 +79,7 @@ module _ (table log : Words) (scope : ℕ) (ts : Trees) (es : List Environment) 
           AllFar table log scope ts us es room before (i + 1) to′ after
       unfolding listAll entriesAll
       all-step to′ x m =
-          let stood : Stood (list table (rows log) t scope (far .handed)) cost-of next to after to′ x = m .tells in
+          let stood : ListStands (list table (rows log) t scope (far .handed)) cost-of next to after to′ x = m .tells in
           let c1 = stood .counted in
           let c2 = stood .fits in
           let c3 = stood .limit in
@@ -158,7 +158,7 @@ module _ (table log : Words) (scope : ℕ) (ts : Trees) (es : List Environment) 
           let k = all-cost in
           record {
             tells =
-                subst (λ (t : Room). Stood (list table (rows log) (join true ts) scope es) (entries table (rows log) (join true ts) scope es) end room scratch t x) (sym e)
+                subst (λ (t : Room). ListStands (list table (rows log) (join true ts) scope es) (entries table (rows log) (join true ts) scope es) end room scratch t x) (sym e)
                 (record {
                   counted = omega arith;
                   fits = omega arith;

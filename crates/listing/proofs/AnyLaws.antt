@@ -11,9 +11,11 @@ use Rattle.model.specs.Tree.{Tree, Trees, join, nil, cons}
 use Rattle.model.specs.Listing.{Environment, list, listAny, entries, entriesAny}
 use Rattle.listing.specs.declared.restriction.Room.{Room}
 use Rattle.listing.specs.declared.restriction.Made.the-variants as M
-use Rattle.environments.specs.Listed.{Listed, listed-none, listed-kept}
-use Rattle.environments.specs.Lists.{Moved, listed-append, outside-front}
-use Rattle.listing.specs.Restrictions.{Roomy, Holding, Stood, MakesTree, behind, joined}
+use Rattle.environments.specs.Listed.{Listed}
+use Rattle.environments.proofs.ListedLaws.{listed-none, listed-kept}
+use Rattle.environments.specs.Lists.{Moved}
+use Rattle.environments.proofs.ListsLaws.{listed-append, outside-front}
+use Rattle.listing.specs.Restrictions.{Roomy, Holding, ListStands, MakesTree, behind, joined}
 use Rattle.listing.proofs.AllLaws.{fewer}
 
 -- the branches `ts` of which `rest` are left, in the room for the next one
@@ -90,7 +92,7 @@ module _ (table log : Words) (scope : ℕ) (ts : Trees) (es : List Environment) 
         abbrev made : List Environment
         made = list table (rows log) t scope es
 
-        stood : Stood made cost-of next branch after to x
+        stood : ListStands made cost-of next branch after to x
         stood = m .tells
 
         -- which can be moved down to the first free places
@@ -196,7 +198,7 @@ module _ (table log : Words) (scope : ℕ) (ts : Trees) (es : List Environment) 
           let k = any-cost in
           record {
             tells =
-                subst (λ (t : Room). Stood (list table (rows log) (join false ts) scope es) (entries table (rows log) (join false ts) scope es) end room scratch t x) (sym e)
+                subst (λ (t : Room). ListStands (list table (rows log) (join false ts) scope es) (entries table (rows log) (join false ts) scope es) end room scratch t x) (sym e)
                 (record {
                   counted = omega arith;
                   fits = omega arith;

@@ -12,8 +12,8 @@ use Rattle.model.specs.Tree.{Tree}
 use Rattle.laws.specs.Reading.Formed.{Formed}
 use Rattle.laws.specs.Reading.Nodes.{Node}
 use Rattle.laws.specs.Reading.Parts.{atom-parts}
-use Rattle.policies.specs.Mode.{Here}
-use Rattle.policies.proofs.ModeWalk.{has}
+use Rattle.policies.specs.Standing.{Here}
+use Rattle.policies.proofs.Standing.{has}
 use Rattle.listing.specs.Restrictions.{TermsThere}
 
 -- the atom at an index of a policy that was read has a term, and its terms are there

@@ -24,9 +24,9 @@ use Rattle.logs.specs.declared.value.Value.{Value}
 use Rattle.policies.specs.declared.node.Tag.{Tag}
 use Rattle.policies.specs.declared.node.Tag.the-variants.{Plain, Atom, Compare, Join, Quantifier, Some, Unused}
 use Rattle.policies.specs.Node.{asTag}
-use Rattle.policies.specs.Mode.{HereAtom}
+use Rattle.policies.specs.Standing.{HereAtom}
 use Rattle.policies.proofs.node.Tag.{the-type}
-use Rattle.policies.proofs.ModeWalk.{has, here-atom, here-compare}
+use Rattle.policies.proofs.Standing.{has, here-atom, here-compare}
 use Rattle.environments.specs.declared.environment.Environment.{Environment as Held}
 use Rattle.environments.specs.Environment.{Holds}
 use Rattle.environments.specs.Lookup.{Values}
@@ -37,12 +37,12 @@ use Rattle.environments.proofs.TermLaws.{sum-same}
 -- what the walk of an atom asks, and that of a comparison
 module _
     (table words : Words) (at : ℕ) (tag : Tag) (told : asTag tag ≡ T.tagOf (word words at))
-    (few : predicates table ≤ predicateLimit) (here : RestrictionAt table words at) (long : length words < 2 ^ 64) where
-  pub keeping-atom : (b : Bool) → tag ≡ Atom b → HereAtom table words at
-  keeping-atom b is = here-atom table words (here .0) (here .1) at few (here .2) b (ap asTag (sym is) ∙ told) (here .3) long
+    (here : RestrictionAt table words at) (long : length words < 2 ^ 64) where
+  pub keeping-atom : predicates table ≤ predicateLimit → (b : Bool) → tag ≡ Atom b → HereAtom words at
+  keeping-atom few b is = here-atom table words (here .0) (here .1) at few (here .2) b (ap asTag (sym is) ∙ told) (here .3) long
 
-  pub keeping-compare : (b : Bool) → tag ≡ Compare b → (at + 6 < 2 ^ 64) × ((t : Words) → all (inScope t words 16) (places (at + 2) 2) ≡ true)
-  keeping-compare b is = here-compare table words (here .0) (here .1) at few (here .2) b (ap asTag (sym is) ∙ told) (here .3) long
+  pub keeping-compare : (b : Bool) → tag ≡ Compare b → (at + 6 < 2 ^ 64) × (all (inScope words 16) (places (at + 2) 2) ≡ true)
+  keeping-compare b is = here-compare table words (here .0) (here .1) at (here .2) b (ap asTag (sym is) ∙ told) (here .3) long
 
 -- the answer, by the value found
 pub answer : (found v : Value) → found ≡ v → isFalse (asValue found) ≡ isFalse (asValue v)
@@ -74,16 +74,16 @@ module _ (table words log : Words) (held : Held) (at : ℕ) where
     pub keeps-compare :
         (b r : Bool) →
         tag ≡ Compare b →
-        ((e : Environment) (table : Words) →
+        ((e : Environment) →
         Holds held e →
-        r ≡ sumAtMost (word words (at + 1)) (numberIn (look e (termAt table words (at + 2)))) (numberIn (look e (termAt table words (at + 4))))) →
+        r ≡ sumAtMost (word words (at + 1)) (numberIn (look e (termAt words (at + 2)))) (numberIn (look e (termAt words (at + 4))))) →
         TellsKept table words log held at (same b r)
     unfolding keepsOf
     keeps-compare b r is known e above scope c next holds node =
         let (d, x, y, tree) = has table words restriction above scope at (T.Tag.compare b) (ap asTag (sym is) ∙ told) c next node in
         let a = compare-parts table words restriction above scope at next b d x y (subst (λ (t : Tree). Node table words restriction above scope at t next) tree node) in
         let number : Term → ℤ = λ t. numberIn (look e t) in
-        ap (same b) (known e table holds ∙ sum-same (a .number) (ap number (a .left .term)) (ap number (a .right .term)))
+        ap (same b) (known e holds ∙ sum-same (a .number) (ap number (a .left .term)) (ap number (a .right .term)))
         ∙ sym (ap (λ (t : Tree). keepsOf table (rows log) t e) tree)
 
   -- every other tag

@@ -14,10 +14,12 @@ use Rattle.model.specs.Listing.{Environment, list, entries}
 use Rattle.listing.specs.declared.restriction.Room.{Room}
 use Rattle.listing.specs.declared.restriction.Made.the-variants as M
 use Rattle.environments.specs.Environment.{placeOf, placeAt, put}
-use Rattle.environments.specs.Places.{place-length}
-use Rattle.environments.specs.Listed.{Listed, environmentOf, listed-none, listed-more}
-use Rattle.environments.specs.Lists.{outside-put, stands-put, outside-front}
-use Rattle.listing.specs.Keeping.{Leaf, keepsOf, list-leaf, entries-leaf}
+use Rattle.environments.proofs.Places.{place-length}
+use Rattle.environments.specs.Listed.{Listed}
+use Rattle.environments.proofs.ListedLaws.{environmentOf, listed-none, listed-more}
+use Rattle.environments.proofs.ListsLaws.{outside-put, stands-put, outside-front}
+use Rattle.listing.specs.Keeping.{Leaf, keepsOf}
+use Rattle.listing.proofs.Leaves.{list-leaf, entries-leaf}
 use Rattle.listing.specs.Restrictions.{Roomy, Holding, MakesTree, filled}
 use Rattle.listing.proofs.MapLaws.{Mapping, map-step, map-short}
 use Rattle.listing.proofs.MapRoom.{map-stood, makes-same}

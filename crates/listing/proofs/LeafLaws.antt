@@ -10,11 +10,11 @@ use Rattle.model.specs.Lists.{keep, gather}
 use Rattle.model.specs.Tag.{Tag, tagOf}
 use Rattle.model.specs.Tree.{Tree, Trees, plain, atom, compare, join, quantifier, some, nil, encode, encodeAll}
 use Rattle.model.specs.Reading.{own}
-use Rattle.model.specs.Level as L
 use Rattle.model.specs.Listing.{Environment}
 use Rattle.policies.specs.Node.{There, Sized}
-use Rattle.preorder.specs.Grown.{Grown}
-use Rattle.preorder.specs.Rows.{mine, children, tree-words, tree-tag, tree-size, tree-own}
+use Rattle.trees.specs.Grown.{Grown}
+use Rattle.trees.specs.Own.{mine}
+use Rattle.trees.proofs.Rows.{children, tree-words, tree-tag, tree-size, tree-own}
 use Rattle.listing.specs.Keeping.{Leaf}
 
 -- no tree stands below a leaf
@@ -34,9 +34,9 @@ module _ (words : Words) (at next : ℕ) (c : Tree) (g : Grown words at c next) 
 
   -- its own words are there
   pub tree-there : There words tag at
-  tree-there table role scope =
-      let n : own table words tag role scope at .size ≡ suc (length (mine c)) =
-      ap (λ (k : Tag). own table words k role scope at .size) (e ∙ tree-tag words at next c g) ∙ tree-size words at next c g table role scope in
+  tree-there role scope =
+      let n : own words tag role scope at .size ≡ suc (length (mine c)) =
+      ap (λ (k : Tag). own words k role scope at .size) (e ∙ tree-tag words at next c g) ∙ tree-size words at next c g role scope in
       omega (arith, all-words, g .stands .ends, g .stands .fits)
 
   -- and end where the leaf ends
@@ -48,7 +48,7 @@ module _ (words : Words) (at next : ℕ) (c : Tree) (g : Grown words at c next) 
       omega (arith, all-words, g .stands .ends)
 
 -- what is kept of an environment: itself, or nothing
-abbrev pub kept : (Environment → Bool) → Environment → List Environment
+abbrev pub kept : (test : Environment → Bool) (e : Environment) → List Environment
 kept test e = cond (test e) (e ∷ []) []
 
 pub keep-gather : (test : Environment → Bool) (es : List Environment) → gather (kept test) es ≡ keep test es

@@ -1,4 +1,5 @@
 -- Laws that several proofs of this crate cite.
+pub mod Leaves
 pub mod MapLaws
 pub mod MapRoom
 pub mod AllLaws
@@ -9,3 +10,4 @@ pub mod LeafLaws
 pub mod AtomLaws
 pub mod KeptRoom
 pub mod WalkLaws
+pub mod JoinLaws

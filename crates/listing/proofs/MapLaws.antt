@@ -10,8 +10,9 @@ use Rattle.model.specs.Words.{Words}
 use Rattle.model.specs.Lists.{gather}
 use Rattle.model.specs.Listing.{Environment, free}
 use Rattle.environments.specs.Environment.{placeOf, placeAt}
-use Rattle.environments.specs.Listed.{Listed, environmentOf, gather-snoc, listed-kept, listed-at}
-use Rattle.environments.specs.Lists.{gather-append, listed-append}
+use Rattle.environments.specs.Listed.{Listed}
+use Rattle.environments.proofs.ListedLaws.{environmentOf, gather-snoc, listed-kept, listed-at}
+use Rattle.environments.proofs.ListsLaws.{gather-append, listed-append}
 
 module _ (f : Environment → List Environment) (es : List Environment) where
   -- what the environments before the i-th gave stands from `base` on, and the words before are kept

@@ -13,9 +13,9 @@ use Rattle.listing.specs.declared.restriction.Made.{Made}
 use Rattle.listing.specs.declared.restriction.Made.the-variants as M
 use Rattle.environments.specs.declared.rows.Added.{Added}
 use Rattle.environments.specs.declared.rows.Added.the-variants as A
-use Rattle.environments.specs.Listed.{environmentOf}
+use Rattle.environments.proofs.ListedLaws.{environmentOf}
 use Rattle.environments.specs.Rows.{Came, Filled, Adds}
-use Rattle.listing.specs.Restrictions.{Roomy, Holding, Stood, Makes, filled}
+use Rattle.listing.specs.Restrictions.{Roomy, Holding, ListStands, Makes, filled}
 use Rattle.listing.proofs.MapLaws.{Mapping, map-short, map-end}
 
 -- what an answer says, once it is known which
@@ -66,7 +66,7 @@ module _
       let b = roomy .within in
       record {
         tells =
-            subst (λ (t : Room). Stood (gather f es) (length (gather f es)) next room scratch t x) (sym e)
+            subst (λ (t : Room). ListStands (gather f es) (length (gather f es)) next room scratch t x) (sym e)
             (record {
               counted = ap (λ (k : ℕ). room .used + k) (sym count);
               fits = omega arith;

@@ -10,8 +10,9 @@ use Rattle.model.specs.Tree.{Tree, some}
 use Rattle.model.specs.Listing.{Environment, release, list, entries}
 use Rattle.listing.specs.declared.restriction.Room.{Room}
 use Rattle.listing.specs.declared.restriction.Made.the-variants as M
-use Rattle.environments.specs.Lists.{Released, outside-front}
-use Rattle.listing.specs.Restrictions.{Roomy, Holding, Stood, MakesTree, counted}
+use Rattle.environments.specs.Lists.{Released}
+use Rattle.environments.proofs.ListsLaws.{outside-front}
+use Rattle.listing.specs.Restrictions.{Roomy, Holding, ListStands, MakesTree, counted}
 
 module _ (table log : Words) (scope : ℕ) (c : Tree) (es : List Environment) (room : Room) (before after : Words) (next : ℕ) where
   abbrev made : List Environment
@@ -28,7 +29,7 @@ module _ (table log : Words) (scope : ℕ) (c : Tree) (es : List Environment) (r
       record { tells = omega arith; long = m .long; front = m .front }
 
   module _ (to : Room) (x : ℕ) (m : MakesTree table log c (scope + 1) next es room before after (M.List to x)) where
-    stood : Stood made cost next room after to x
+    stood : ListStands made cost next room after to x
     stood = m .tells
 
     -- the child's list is within scratch
@@ -79,7 +80,7 @@ module _ (table log : Words) (scope : ℕ) (c : Tree) (es : List Environment) (r
           let k = some-cost in
           record {
             tells =
-                subst (λ (t : Room). Stood (list table (rows log) (some c) scope es) (entries table (rows log) (some c) scope es) next room last t x) (sym e)
+                subst (λ (t : Room). ListStands (list table (rows log) (some c) scope es) (entries table (rows log) (some c) scope es) next room last t x) (sym e)
                 (record {
                   counted = omega arith;
                   fits = omega arith;

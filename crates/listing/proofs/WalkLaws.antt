@@ -16,15 +16,15 @@ use Rattle.model.specs.Level.{restriction, under}
 use Rattle.model.specs.Listing.{Environment, matches, list, entries}
 use Rattle.laws.specs.Reading.Nodes.{Node, Nodes}
 use Rattle.laws.specs.Reading.Parts.{atom-parts, join-parts, some-parts, first-parts, rest-parts}
-use Rattle.policies.specs.Mode.{Here, HereAll}
-use Rattle.policies.proofs.ModeAtoms.{atom-words}
-use Rattle.policies.proofs.ModeWalk.{has}
-use Rattle.policies.proofs.ModeLoops.{first-left, none-left}
+use Rattle.policies.specs.Standing.{Here, HereAll}
+use Rattle.policies.proofs.Standing.{atom-words}
+use Rattle.policies.proofs.Standing.{has}
+use Rattle.policies.proofs.Standing.{first-left, none-left}
 use Rattle.listing.specs.declared.restriction.Room.{Room}
 use Rattle.listing.specs.declared.restriction.Made.{Made}
 use Rattle.listing.specs.declared.restriction.Made.the-variants as M
 use Rattle.environments.specs.Lists.{Moved}
-use Rattle.listing.specs.Keeping.{LeafTag, leaf-here}
+use Rattle.listing.proofs.Leaves.{LeafTag, leaf-here}
 use Rattle.listing.specs.Restrictions.{Roomy, Holding, Makes, MakesAtom, MakesTree, MakesNode, MakesJoin, MakesSome, MakesKept}
 use Rattle.listing.specs.Restrictions.{matched, counted, behind, joined}
 use Rattle.listing.proofs.MapRoom.{makes-same}
@@ -36,7 +36,7 @@ module _ (table words log : Words) (above scope : ℕ) where
   Stand at ts end = Nodes table words restriction above scope at ts end
 
   -- what the call of the walk says of the child at an index
-  abbrev pub Child : ℕ → Room → Words → Words → Made → Type 0
+  abbrev pub Child : (next : ℕ) (room : Room) (before after : Words) (r : Made) → Type 0
   Child next room before after r =
       (es : List Environment) → Holding room before es → MakesNode table words log above scope next es room before after r
 
@@ -52,13 +52,13 @@ module _ (table words log : Words) (above scope : ℕ) where
 
   module _ (n at : ℕ) (room : Room) (before : Words) where
     -- i children of an all-of have been passed
-    abbrev pub AllSoFar : ℕ → ℕ → Room → Words → Type 0
+    abbrev pub AllSoFar : (i next : ℕ) (to : Room) (scratch : Words) → Type 0
     AllSoFar i next to scratch =
         (es : List Environment) → Holding room before es → (ts : Trees) (end : ℕ) → Stand at ts end → count ts ≡ n →
         (rest : Trees) × Stand next rest end × (count rest + i ≡ n) × AllFar table log scope ts rest es room before i to scratch
 
     -- i branches of an any-of have been passed
-    abbrev pub AnySoFar : ℕ → ℕ → Room → Words → Type 0
+    abbrev pub AnySoFar : (i next : ℕ) (branch : Room) (scratch : Words) → Type 0
     AnySoFar i next branch scratch =
         (es : List Environment) → Holding room before es → (ts : Trees) (end : ℕ) → Stand at ts end → count ts ≡ n →
         (rest : Trees) × Stand next rest end × (count rest + i ≡ n) × AnyFar table log scope ts rest es room before branch scratch
@@ -202,12 +202,12 @@ module _ (table words log : Words) (above scope at : ℕ) (es : List Environment
   abbrev Restricts : Tree → ℕ → Type 0
   Restricts c next = Node table words restriction above scope at c next
 
-  pub from-atom : Tag.atom true ≡ tagOf (word words at) → MakesAtom table words log at es room before after r → Comes
+  pub from-atom : Tag.atom true ≡ tagOf (word words at) → MakesAtom words log at es room before after r → Comes
   unfolding list entries
   from-atom e m c next node =
       let (p, ts, is) = has table words restriction above scope at (Tag.atom true) e c next node in
-      let a = atom-words table words scope at next p ts (atom-parts table words restriction above scope at next true p ts (subst (λ (t : Tree). Restricts t next) is node)) in
-      let same : matched table words log at es ≡ gather (matches (rows log) p ts) es =
+      let a = atom-words words scope at next p ts (atom-parts table words restriction above scope at next true p ts (subst (λ (t : Tree). Restricts t next) is node)) in
+      let same : matched words log at es ≡ gather (matches (rows log) p ts) es =
       ap₂ (λ (q : ℕ) (us : List Term). gather (matches (rows log) q us) es) (a .predicate) (a .terms) in
       subst (λ (t : Tree). MakesTree table log t scope next es room before after r) (sym is)
       (subst (λ (k : ℕ). Makes (gather (matches (rows log) p ts) es) (length (gather (matches (rows log) p ts) es)) k room before after r) (a .ends)

@@ -14,7 +14,7 @@ ghost use Rattle.model.specs.Log.{rowCount, askLog};
 ghost use Rattle.logs.specs.Chain.{Chained};
 ghost use Rattle.logs.specs.Key.{rowKey, atomKeys};
 ghost use Rattle.policies.specs.Node.{asTag};
-ghost use Rattle.policies.specs.Mode.{HereAtom};
+ghost use Rattle.policies.specs.Standing.{HereAtom};
 ghost use Rattle.environments.specs.Standing.{RestrictionAt};
 ghost use Rattle.listing.specs.Keeping.{TellsFalse, TellsKept};
 
@@ -23,18 +23,18 @@ fn is_false(
     table: &[i32],
     words: &[i32],
     log: &[i32],
-    atoms: &[u16],
+    links: &[u16],
     environment: Environment,
     at: usize,
 ) -> bool
     requires { ⌜
         (askLog (now table) (now log) ≡ passed tt)
-        × Chained (rowKey (now log)) atomKeys (rowCount (now log)) (now atoms)
-        × HereAtom (now table) (now words) at
+        × Chained (rowKey (now log)) atomKeys (rowCount (now log)) (now links)
+        × HereAtom (now words) at
         ⌝ }
     ensures { λ r. ⌜ TellsFalse (now (table .entry)) (now (words .entry)) (now (log .entry)) environment at r ⌝ }
 {
-    let found = lookup::value_at(table, words, log, atoms, environment, at);
+    let found = lookup::value_at(table, words, log, links, environment, at);
     match found {
         Value::True => false,
         Value::False => true,
@@ -47,7 +47,7 @@ pub fn keeps(
     table: &[i32],
     words: &[i32],
     log: &[i32],
-    atoms: &[u16],
+    links: &[u16],
     environment: Environment,
     tag: Tag,
     at: usize,
@@ -55,7 +55,7 @@ pub fn keeps(
     requires { ⌜
         (predicates (now table) ≤ predicateLimit)
         × (askLog (now table) (now log) ≡ passed tt)
-        × Chained (rowKey (now log)) atomKeys (rowCount (now log)) (now atoms)
+        × Chained (rowKey (now log)) atomKeys (rowCount (now log)) (now links)
         × (asTag tag ≡ tagOf (word (now words) at))
         × RestrictionAt (now table) (now words) at
         ⌝ }
@@ -64,7 +64,7 @@ pub fn keeps(
     match tag {
         Tag::Plain(b) => b,
         Tag::Compare(b) => b == terms::compare(environment, words, at),
-        Tag::Atom(_) => is_false(table, words, log, atoms, environment, at),
+        Tag::Atom(_) => is_false(table, words, log, links, environment, at),
         _ => false,
     }
 }

@@ -6,17 +6,16 @@ use environments::rows;
 use environments::rows::Added;
 use policies::node;
 use policies::node::Tag;
-use tables::words;
 ghost use mathlib.Core.Path.{_≡_};
 ghost use mathlib.Core.Bool.{true, false};
 ghost use mathlib.Core.List.{List};
 ghost use Prim.Native.Nat.{_+_, _*_, _≤_, _<_};
 ghost use Rattle.model.specs.Words as W;
 ghost use Rattle.model.specs.Listing as M;
-ghost use Rattle.logs.specs.Key.{TrueRows, behind};
+ghost use Rattle.logs.specs.Key.{Linked};
 ghost use Rattle.model.specs.Tag as T;
 ghost use Rattle.model.specs.Level as L;
-ghost use Rattle.policies.specs.Mode.{Here, HereAll};
+ghost use Rattle.policies.specs.Standing.{Here, HereAll, HereAtom};
 ghost use Rattle.policies.specs.Node.{asTag};
 ghost use Rattle.environments.specs.Standing.{RestrictionAt};
 ghost use Rattle.listing.specs.Restrictions as R;
@@ -99,22 +98,22 @@ pub enum Made {
 fn list_atom(
     words: &[i32],
     log: &[i32],
-    trues: &[u16],
+    links: &[u16],
     scratch: &mut [i32],
     room: Room,
     at: usize,
 ) -> Made
     requires { ⌜
-        TrueRows (now log) (now trues)
-        × R.AtomAt (now words) at
+        Linked (now log) (now links)
+        × HereAtom (now words) at
         × R.Roomy room (now scratch)
         × ((es : List M.Environment) × R.Holding room (now scratch) es)
         × R.TermsThere (now words) at
         ⌝ }
     ensures { λ r. ⌜
-        ((es : List M.Environment) (table : W.Words) →
+        ((es : List M.Environment) →
         R.Holding room (now (scratch .entry)) es →
-        R.MakesAtom table (now (words .entry)) (now (log .entry)) at es room (now (scratch .entry)) (now (scratch .exit)) r)
+        R.MakesAtom (now (words .entry)) (now (log .entry)) at es room (now (scratch .entry)) (now (scratch .exit)) r)
         ⌝ }
 {
     let predicate = words::value(words, at + 1);
@@ -131,7 +130,7 @@ fn list_atom(
             at + 3,
             n,
             log,
-            trues,
+            links,
             predicate,
             scratch,
             base + made,
@@ -151,14 +150,14 @@ fn list_kept(
     table: &[i32],
     words: &[i32],
     log: &[i32],
-    atoms: &[u16],
+    links: &[u16],
     scratch: &mut [i32],
     room: Room,
     tag: Tag,
     at: usize,
 ) -> Made
     requires { ⌜
-        R.Looks (now table) (now log) (now atoms)
+        R.Chains (now table) (now log) (now links)
         × RestrictionAt (now table) (now words) at
         × (asTag tag ≡ T.tagOf (W.word (now words) at))
         × R.Roomy room (now scratch)
@@ -177,7 +176,7 @@ fn list_kept(
         let source = room.from + i;
         let environment = Environment::read(scratch, source);
         i += 1;
-        if !keeping::keeps(table, words, log, atoms, environment, tag, at) {
+        if !keeping::keeps(table, words, log, links, environment, tag, at) {
             continue;
         }
         if left <= made {
@@ -190,22 +189,55 @@ fn list_kept(
     Made::List(room.filled(made), at + own)
 }
 
-// The children of an all-of: each child's list is handed to the next, and the last one's is the all-of's too.
-fn list_all(
+// The room for the next child of an all-of (true), which is handed the list that was made, or for the next branch of an any-of, once that
+// list stands behind those of the branches before.
+fn pass_on(every: bool, scratch: &mut [i32], handed: Room, to: Room) -> Room
+    requires { ⌜ R.Passing every handed to (now scratch) ⌝ }
+    ensures { λ r. ⌜ R.Passed every handed to (now (scratch .entry)) (now (scratch .exit)) r ⌝ }
+{
+    if every {
+        return to;
+    }
+    lists::move_list(scratch, to.from, to.count, handed.base);
+    handed.behind(to)
+}
+
+// The list of an all-of (true) or any-of, once no child is left: the last child's, counted once more, or those of all branches.
+fn close(every: bool, room: Room, handed: Room, next: usize) -> Made
+    requires { ⌜ (handed .used ≤ handed .limit) × (room .base ≤ handed .base) ⌝ }
+    ensures { λ r. ⌜ R.Closes every room handed next r ⌝ }
+{
+    let left = handed.limit - handed.used;
+    if every {
+        if left < handed.count {
+            return Made::Short;
+        }
+        return Made::List(handed.counted(), next);
+    }
+    let made = handed.base - room.base;
+    if left < made {
+        return Made::Short;
+    }
+    Made::List(handed.joined(room.base, made), next)
+}
+
+// The children of an all-of (true), each of which is handed the list of the one before it, or the branches of an any-of, which are all
+// handed the same.
+fn list_join(
     table: &[i32],
     words: &[i32],
     log: &[i32],
-    atoms: &[u16],
-    trues: &[u16],
+    links: &[u16],
     scratch: &mut [i32],
     room: Room,
     above: usize,
     scope: usize,
+    every: bool,
     n: usize,
     at: usize,
 ) -> Made
     requires { ⌜
-        R.Chains (now table) (now log) (now atoms) (now trues)
+        R.Chains (now table) (now log) (now links)
         × (above ≤ 64)
         × (scope ≤ 16)
         × (1 ≤ n)
@@ -216,7 +248,7 @@ fn list_all(
     ensures { λ r. ⌜
         ((es : List M.Environment) →
         R.Holding room (now (scratch .entry)) es →
-        R.MakesJoin true (now (table .entry)) (now (words .entry)) (now (log .entry)) above scope n at es room (now (scratch .entry)) (now (scratch .exit)) r)
+        R.MakesJoin every (now (table .entry)) (now (words .entry)) (now (log .entry)) above scope n at es room (now (scratch .entry)) (now (scratch .exit)) r)
         ⌝ }
 {
     let mut handed = room;
@@ -227,8 +259,7 @@ fn list_all(
             table,
             words,
             log,
-            atoms,
-            trues,
+            links,
             scratch,
             handed,
             above,
@@ -238,74 +269,11 @@ fn list_all(
         let Made::List(to, behind) = child else {
             return Made::Short;
         };
-        handed = to;
+        handed = pass_on(every, scratch, handed, to);
         next = behind;
         i += 1;
     }
-    if handed.limit - handed.used < handed.count {
-        return Made::Short;
-    }
-    Made::List(handed.counted(), next)
-}
-
-// The branches of an any-of: each is handed the same list, and their lists are moved one behind another.
-fn list_any(
-    table: &[i32],
-    words: &[i32],
-    log: &[i32],
-    atoms: &[u16],
-    trues: &[u16],
-    scratch: &mut [i32],
-    room: Room,
-    above: usize,
-    scope: usize,
-    n: usize,
-    at: usize,
-) -> Made
-    requires { ⌜
-        R.Chains (now table) (now log) (now atoms) (now trues)
-        × (above ≤ 64)
-        × (scope ≤ 16)
-        × (1 ≤ n)
-        × HereAll (now table) (now words) L.Role.restriction above scope n at
-        × R.Roomy room (now scratch)
-        × ((es : List M.Environment) × R.Holding room (now scratch) es)
-        ⌝ }
-    ensures { λ r. ⌜
-        ((es : List M.Environment) →
-        R.Holding room (now (scratch .entry)) es →
-        R.MakesJoin false (now (table .entry)) (now (words .entry)) (now (log .entry)) above scope n at es room (now (scratch .entry)) (now (scratch .exit)) r)
-        ⌝ }
-{
-    let mut branch = room;
-    let mut next = at;
-    let mut i = 0;
-    while i < n {
-        let child = list(
-            table,
-            words,
-            log,
-            atoms,
-            trues,
-            scratch,
-            branch,
-            above,
-            scope,
-            next,
-        );
-        let Made::List(to, behind) = child else {
-            return Made::Short;
-        };
-        lists::move_list(scratch, to.from, to.count, branch.base);
-        branch = branch.behind(to);
-        next = behind;
-        i += 1;
-    }
-    let made = branch.base - room.base;
-    if branch.limit - branch.used < made {
-        return Made::Short;
-    }
-    Made::List(branch.joined(room.base, made), next)
+    close(every, room, handed, next)
 }
 
 // "Some": its variable is dropped in each environment of its child's list.
@@ -313,8 +281,7 @@ fn list_some(
     table: &[i32],
     words: &[i32],
     log: &[i32],
-    atoms: &[u16],
-    trues: &[u16],
+    links: &[u16],
     scratch: &mut [i32],
     room: Room,
     above: usize,
@@ -322,7 +289,7 @@ fn list_some(
     at: usize,
 ) -> Made
     requires { ⌜
-        R.Chains (now table) (now log) (now atoms) (now trues)
+        R.Chains (now table) (now log) (now links)
         × (above < 64)
         × (scope < 16)
         × Here (now table) (now words) L.Role.restriction (above + 1) (scope + 1) (at + 1)
@@ -339,8 +306,7 @@ fn list_some(
         table,
         words,
         log,
-        atoms,
-        trues,
+        links,
         scratch,
         room,
         above + 1,
@@ -362,8 +328,7 @@ pub fn list(
     table: &[i32],
     words: &[i32],
     log: &[i32],
-    atoms: &[u16],
-    trues: &[u16],
+    links: &[u16],
     scratch: &mut [i32],
     room: Room,
     above: usize,
@@ -371,7 +336,7 @@ pub fn list(
     at: usize,
 ) -> Made
     requires { ⌜
-        R.Chains (now table) (now log) (now atoms) (now trues)
+        R.Chains (now table) (now log) (now links)
         × (above ≤ 64)
         × (scope ≤ 16)
         × Here (now table) (now words) L.Role.restriction above scope at
@@ -388,55 +353,28 @@ pub fn list(
     match tag {
         Tag::Join(every) => {
             let n = words::value(words, at + 1);
-            if every {
-                list_all(
-                    table,
-                    words,
-                    log,
-                    atoms,
-                    trues,
-                    scratch,
-                    room,
-                    above + 1,
-                    scope,
-                    n,
-                    at + 2,
-                )
-            } else {
-                list_any(
-                    table,
-                    words,
-                    log,
-                    atoms,
-                    trues,
-                    scratch,
-                    room,
-                    above + 1,
-                    scope,
-                    n,
-                    at + 2,
-                )
-            }
+            list_join(
+                table,
+                words,
+                log,
+                links,
+                scratch,
+                room,
+                above + 1,
+                scope,
+                every,
+                n,
+                at + 2,
+            )
         }
-        Tag::Some => list_some(
-            table,
-            words,
-            log,
-            atoms,
-            trues,
-            scratch,
-            room,
-            above,
-            scope,
-            at,
-        ),
+        Tag::Some => list_some(table, words, log, links, scratch, room, above, scope, at),
         Tag::Atom(holds) => {
             if holds {
-                list_atom(words, log, trues, scratch, room, at)
+                list_atom(words, log, links, scratch, room, at)
             } else {
-                list_kept(table, words, log, atoms, scratch, room, tag, at)
+                list_kept(table, words, log, links, scratch, room, tag, at)
             }
         }
-        _ => list_kept(table, words, log, atoms, scratch, room, tag, at),
+        _ => list_kept(table, words, log, links, scratch, room, tag, at),
     }
 }

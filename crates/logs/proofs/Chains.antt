@@ -1,7 +1,7 @@
 -- Chains of rows by a key: the first row of a chain and the rest, by induction on the rows left; and one step of filling.
 use Prim.Native.Nat.{ℕ, zero, suc, _+_, _-_, _≤_, _<_}
 use native.Mathlib.Omega.{arith}
-use mathlib.Core.Path.{_≡_, refl, sym, ap, _∙_, subst}
+use mathlib.Core.Path.{_≡_, refl, sym, ap, ap₂, _∙_, subst}
 use mathlib.Core.Logic.{_⊎_, inl, inr, ⊎-elim}
 use mathlib.Core.List.{List, [], _∷_}
 use lib.ListN.{length, getD, set, length-set}
@@ -10,9 +10,8 @@ use lib.Dec.{eqb}
 use borrow.Author.Tests.{eqb-true, eqb-false, eq-eqb, ne-eqb}
 use Rattle.model.specs.Lists.{keep}
 use Rattle.laws.specs.Words.Tests.{decide}
-use Rattle.laws.specs.Lists.Span.{side}
-use Rattle.tables.proofs.Loops.{span-step, span-end}
-use Rattle.logs.specs.Chain.{chain, link, Chained, given, Ready}
+use Rattle.laws.specs.Lists.Span.{side, span-step, span-end}
+use Rattle.logs.specs.Chain.{chain, link, Chained, Empty}
 
 module _ (key : ℕ → ℕ) (k i rows : ℕ) where
   -- row i is of the key, or not, or there is no row i
@@ -99,108 +98,134 @@ module _ (key : ℕ → ℕ) (k i rows x : ℕ) (e : x ≡ link rows (chain key 
       omega arith)
       (chain-first key k i rows)
 
--- the links while they are filled: the rows from `from` on are linked
-pub record Filling (keys : List ℕ) (heads from : ℕ) (links₀ links : List ℕ) : Type 0 where
+-- keys and links while they are filled: the rows from `from` on are linked, and their keys kept
+pub record Filling (key : ℕ → ℕ) (heads rows from : ℕ) (keys₀ keys links₀ links : List ℕ) : Type 0 where
+  pub keys-long : length keys ≡ length keys₀
   pub long : length links ≡ length links₀
-  pub first : (k : ℕ) → k < heads → getD links k 0 ≡ link (length keys) (chain (given keys) k from (length keys))
-  pub nexts :
-      (r : ℕ) → from ≤ r → r < length keys →
-      getD links (heads + r) 0 ≡ link (length keys) (chain (given keys) (given keys r) (r + 1) (length keys))
+  pub kept : (r : ℕ) → from ≤ r → r < rows → getD keys r 0 ≡ key r
+  pub first : (k : ℕ) → k < heads → getD links k 0 ≡ link rows (chain key k from rows)
+  pub nexts : (r : ℕ) → from ≤ r → r < rows → getD links (heads + r) 0 ≡ link rows (chain key (key r) (r + 1) rows)
 
 pub filling-from :
-    {keys links₀ links : List ℕ} {heads from : ℕ} (other : ℕ) → from ≡ other → Filling keys heads from links₀ links → Filling keys heads other links₀ links
-filling-from {keys} {links₀} {links} {heads} other e f = subst (λ (n : ℕ). Filling keys heads n links₀ links) e f
+    {key : ℕ → ℕ} {heads rows from : ℕ} {keys₀ keys links₀ links : List ℕ} (other : ℕ) → from ≡ other →
+    Filling key heads rows from keys₀ keys links₀ links → Filling key heads rows other keys₀ keys links₀ links
+filling-from {key} {heads} {rows} {from} {keys₀} {keys} {links₀} {links} other e f =
+    subst (λ (n : ℕ). Filling key heads rows n keys₀ keys links₀ links) e f
 
-module _ (keys : List ℕ) (heads : ℕ) (links₀ : List ℕ) (start : Ready keys heads links₀) where
-  abbrev rows : ℕ
-  rows = length keys
-
-  -- at first no row is linked
-  pub fill-start : Filling keys heads (length keys) links₀ links₀
-  fill-start = record {
-    long = refl;
-    first = λ k h. start .empty k h ∙ sym (link-none rows (chain-end (given keys) k rows rows (omega arith)));
-    nexts = λ r h l. absurd (omega arith);
-  }
-
-  module _ (row from x : ℕ) (links : List ℕ) (inside : row < length keys) (next : from ≡ row + 1) (f : Filling keys heads from links₀ links) (is : x ≡ length keys - row) where
-    -- the key of the row to be linked
-    pub key-small : getD keys row 0 < heads
-    unfolding given
-    key-small = start .range row inside
-
-    -- the links with one row more in front of its chain
-    abbrev half : List ℕ
-    half = set links (heads + row) (getD links (getD keys row 0) 0)
-
-    abbrev more : List ℕ
-    more = set half (getD keys row 0) x
-
-    fits : heads + row < length links
-    fits = let l = f .long in let w = start .within in omega arith
-
-    -- what stands at the row, at its key, and elsewhere
-    at-row : getD more (heads + row) 0 ≡ getD links (getD keys row 0) 0
-    at-row =
-        getD-set-other half (getD keys row 0) (heads + row) x 0 (λ q. let s = key-small in omega arith)
-        ∙ getD-set-same links (heads + row) (getD links (getD keys row 0) 0) 0 fits
-
-    at-key : getD more (getD keys row 0) 0 ≡ x
-    at-key = getD-set-same half (getD keys row 0) x 0 (rw length-set (let s = key-small in let h = fits in omega arith))
-
-    elsewhere : (j : ℕ) → (getD keys row 0 ≡ j → ⊥) → (heads + row ≡ j → ⊥) → getD more j 0 ≡ getD links j 0
-    elsewhere j n m =
-        getD-set-other half (getD keys row 0) j x 0 (λ q. n (sym q))
-        ∙ getD-set-other links (heads + row) j (getD links (getD keys row 0) 0) 0 (λ q. m (sym q))
-
-    first-more : (k : ℕ) → k < heads → getD more k 0 ≡ link rows (chain (given keys) k row rows)
-    unfolding given
-    first-more k h =
-        ⊎-elim
-        (λ e.
-        let same : getD keys row 0 ≡ k = eqb-true _ _ e in
-        ap (λ (j : ℕ). getD more j 0) (sym same)
-        ∙ at-key
-        ∙ is
-        ∙ sym (link-some rows row _ (chain-here (given keys) k row rows inside same)))
-        (λ e.
-        let other : getD keys row 0 ≡ k → ⊥ = eqb-false _ _ e in
-        elsewhere k other (λ q. omega arith)
-        ∙ f .first k h
-        ∙ ap (λ (i : ℕ). link rows (chain (given keys) k i rows)) next
-        ∙ ap (link rows) (sym (chain-past (given keys) k row rows inside other)))
-        (decide (eqb (getD keys row 0) k))
-
-    next-more : (r : ℕ) → row ≤ r → r < rows → getD more (heads + r) 0 ≡ link rows (chain (given keys) (given keys r) (r + 1) rows)
-    unfolding given
-    next-more r l h =
-        ⊎-elim
-        (λ e.
-        let same : row ≡ r = eqb-true _ _ e in
-        subst (λ (q : ℕ). getD more (heads + q) 0 ≡ link rows (chain (given keys) (given keys q) (q + 1) rows)) same
-        (at-row
-        ∙ f .first (getD keys row 0) key-small
-        ∙ ap (λ (i : ℕ). link rows (chain (given keys) (getD keys row 0) i rows)) next))
-        (λ e.
-        let other : row ≡ r → ⊥ = eqb-false _ _ e in
-        elsewhere (heads + r) (λ q. let s = key-small in omega arith) (λ q. other (omega arith))
-        ∙ f .nexts r (later other) h)
-        (decide (eqb row r))
-      where
-        later : (row ≡ r → ⊥) → from ≤ r
-        later n = ⊎-elim (λ k. absurd (n (omega arith))) (λ k. omega arith) (side (row + 1) r)
-
-    pub fill-step : Filling keys heads row links₀ more
-    fill-step = record {
-      long = simp length-set (f .long);
-      first = first-more;
-      nexts = next-more;
+-- the keys are below the number of heads, and there is room for those of the rows
+module _
+    (key : ℕ → ℕ) (heads rows : ℕ) (keys₀ links₀ : List ℕ)
+    (small : (r : ℕ) → key r < heads)
+    (room : rows ≤ length keys₀)
+    (start : Empty heads rows links₀)
+  where
+    -- at first no row is linked
+    pub fill-start : Filling key heads rows rows keys₀ keys₀ links₀ links₀
+    fill-start = record {
+      keys-long = refl;
+      long = refl;
+      kept = λ r h l. absurd (omega arith);
+      first = λ k h. start .none k h ∙ sym (link-none rows (chain-end key k rows rows (omega arith)));
+      nexts = λ r h l. absurd (omega arith);
     }
 
-  -- at the end all are
-  pub fill-end : (links : List ℕ) (from : ℕ) → from ≡ 0 → Filling keys heads from links₀ links → Chained (given keys) heads (length keys) links
-  fill-end links from z f = record {
-    within = let l = f .long in let w = start .within in omega arith;
-    heads = λ k h. f .first k h ∙ ap (λ (i : ℕ). link rows (chain (given keys) k i rows)) z;
-    nexts = λ r h. f .nexts r (omega arith) h;
-  }
+    module _
+        (row from x k : ℕ) (keys links : List ℕ) (inside : row < rows) (next : from ≡ row + 1)
+        (f : Filling key heads rows from keys₀ keys links₀ links) (is : x ≡ rows - row) (found : k ≡ key row)
+      where
+        -- the key of the row to be linked
+        pub key-within : k < heads
+        key-within = omega (arith, small row)
+
+        pub key-fits : k < length links
+        key-fits = let l = f .long in let w = start .within in omega (arith, key-within)
+
+        pub row-fits : heads + row < length links
+        row-fits = let l = f .long in let w = start .within in omega arith
+
+        pub keys-fit : row < length keys
+        keys-fit = let l = f .keys-long in omega arith
+
+        -- the keys with one more, and the links with one row more in front of its chain
+        abbrev more-keys : List ℕ
+        more-keys = set keys row k
+
+        abbrev half : List ℕ
+        half = set links (heads + row) (getD links k 0)
+
+        abbrev more : List ℕ
+        more = set half k x
+
+        -- what stands at the row, at its key, and elsewhere
+        at-row : getD more (heads + row) 0 ≡ getD links k 0
+        at-row =
+            getD-set-other half k (heads + row) x 0 (λ q. let s = key-within in omega arith)
+            ∙ getD-set-same links (heads + row) (getD links k 0) 0 row-fits
+
+        at-key : getD more k 0 ≡ x
+        at-key = getD-set-same half k x 0 (rw length-set key-fits)
+
+        elsewhere : (j : ℕ) → (k ≡ j → ⊥) → (heads + row ≡ j → ⊥) → getD more j 0 ≡ getD links j 0
+        elsewhere j n m =
+            getD-set-other half k j x 0 (λ q. n (sym q))
+            ∙ getD-set-other links (heads + row) j (getD links k 0) 0 (λ q. m (sym q))
+
+        first-more : (j : ℕ) → j < heads → getD more j 0 ≡ link rows (chain key j row rows)
+        first-more j h =
+            ⊎-elim
+            (λ e.
+            let same : k ≡ j = eqb-true _ _ e in
+            ap (λ (i : ℕ). getD more i 0) (sym same)
+            ∙ at-key
+            ∙ is
+            ∙ sym (link-some rows row _ (chain-here key j row rows inside (sym found ∙ same))))
+            (λ e.
+            let other : k ≡ j → ⊥ = eqb-false _ _ e in
+            elsewhere j other (λ q. omega arith)
+            ∙ f .first j h
+            ∙ ap (λ (i : ℕ). link rows (chain key j i rows)) next
+            ∙ ap (link rows) (sym (chain-past key j row rows inside (λ q. other (found ∙ q)))))
+            (decide (eqb k j))
+
+        -- of the rows from this one on: this one, or a later one
+        this-or-later : (P : ℕ → Type 0) (r : ℕ) → row ≤ r → P row → ((row ≡ r → ⊥) → from ≤ r → P r) → P r
+        this-or-later P r l here later =
+            ⊎-elim
+            (λ e. subst P (eqb-true row r e) here)
+            (λ e.
+            let other : row ≡ r → ⊥ = eqb-false _ _ e in
+            later other (⊎-elim (λ q. absurd (other (omega arith))) (λ q. omega arith) (side (row + 1) r)))
+            (decide (eqb row r))
+
+        kept-more : (r : ℕ) → row ≤ r → r < rows → getD more-keys r 0 ≡ key r
+        kept-more r l h =
+            this-or-later (λ q. getD more-keys q 0 ≡ key q) r l
+            (getD-set-same keys row k 0 keys-fit ∙ found)
+            (λ other later. getD-set-other keys row r k 0 (λ z. other (sym z)) ∙ f .kept r later h)
+
+        next-more : (r : ℕ) → row ≤ r → r < rows → getD more (heads + r) 0 ≡ link rows (chain key (key r) (r + 1) rows)
+        next-more r l h =
+            this-or-later (λ q. getD more (heads + q) 0 ≡ link rows (chain key (key q) (q + 1) rows)) r l
+            (at-row
+            ∙ f .first k key-within
+            ∙ ap₂ (λ (j i : ℕ). link rows (chain key j i rows)) found next)
+            (λ other later.
+            elsewhere (heads + r) (λ q. let s = key-within in omega arith) (λ q. other (omega arith))
+            ∙ f .nexts r later h)
+
+        pub fill-step : Filling key heads rows row keys₀ more-keys links₀ more
+        fill-step = record {
+          keys-long = simp length-set (f .keys-long);
+          long = simp length-set (f .long);
+          kept = kept-more;
+          first = first-more;
+          nexts = next-more;
+        }
+
+    -- at the end all are
+    pub fill-end : (keys links : List ℕ) (from : ℕ) → from ≡ 0 → Filling key heads rows from keys₀ keys links₀ links → Chained key heads rows links
+    fill-end keys links from z f = record {
+      within = let l = f .long in let w = start .within in omega arith;
+      heads = λ k h. f .first k h ∙ ap (λ (i : ℕ). link rows (chain key k i rows)) z;
+      nexts = λ r h. f .nexts r (omega arith) h;
+    }

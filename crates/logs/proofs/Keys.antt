@@ -1,25 +1,27 @@
--- The keys of rows: a row that holds an atom has the atom's key; and rows chained by keys that were written down.
+-- The keys of rows: a row that holds an atom has the atom's key; keys of each kind; and links that can be filled.
 use Prim.Native.Nat.{ℕ, _+_, _*_, _-_, _/_, _%_, _^_, _≤_, _<_}
 use native.Mathlib.Omega.{arith}
 use mathlib.Core.Path.{_≡_, refl, sym, ap, _∙_, subst}
 use mathlib.Core.Logic.{⊎-elim}
 use mathlib.Core.Bool.{Bool, true, false, cond, _&&_}
 use mathlib.Core.List.{List, [], _∷_}
-use lib.ListN.{length, getD, set, take, drop, replicate, length-set, length-replicate, getD-replicate}
-use lib.Seq.{getD-set-same, getD-set-other, take-all, length-take-le}
+use lib.ListN.{length, getD, take, drop, replicate, length-replicate, getD-replicate}
+use lib.Seq.{take-all}
 use lib.Dec.{eqb, ltb}
 use lib.IntN.{ℤ, pos, natAbs}
 use borrow.Author.Tests.{eqb-true, eqb-false, ne-eqb, ltb-true, ltb-false}
 use Rattle.model.specs.Words.{Words, word, value, equal, atLeast, below}
 use Rattle.model.specs.Lists.{span}
 use Rattle.model.specs.Log.{rowCount, rowAt, arguments, saysTrue, holds}
-use Rattle.tables.specs.Offset.{fromLeast}
+use Rattle.words.specs.Offset.{fromLeast}
 use Rattle.laws.specs.Words.Tests.{decide, clash, equal-true}
 use Rattle.laws.specs.Words.Standing.{below-value, below-pos}
 use Rattle.laws.specs.Log.{holds-value, holds-arguments}
 use Rattle.laws.specs.Lists.Span.{span-mem, keep-same}
-use Rattle.logs.specs.Chain.{chain, link, Chained, given, Ready}
-use Rattle.logs.specs.Key.{spread, atomKey, rowKey, trueKey, firstSpread, firstKey, Keys}
+use Rattle.logs.specs.Chain.{Empty}
+use Rattle.logs.specs.declared.key.Kind.{Kind}
+use Rattle.logs.specs.declared.key.Kind.the-variants.{Atom, Predicate, First}
+use Rattle.logs.specs.Key.{spread, atomKey, rowKey, trueKey, firstSpread, firstKey, keyBy, heads}
 use Rattle.logs.proofs.Rows.{row-first, row-six, row-word, row-part, argument-word, own-row}
 
 -- equal numbers are spread to the same key, which is below 16,384
@@ -139,78 +141,23 @@ module _ (log : Words) (r : ℕ) where
       go true = omega (arith, spread-small (value log (8 * r)) (word log (8 * r + 2)))
       go false = omega arith
 
--- the keys of the first rows
-pub record Keying (f : ℕ → ℕ) (total row : ℕ) (keys : List ℕ) : Type 0 where
-  pub long : length keys ≡ total
-  pub put : (r : ℕ) → r < row → getD keys r 0 ≡ f r
+-- a key of each kind is one of its keys
+pub key-in : (kind : Kind) (log : Words) (r : ℕ) → keyBy kind log r < heads kind
+key-in Atom log r = row-small log r
+key-in Predicate log r = true-small log r
+key-in First log r = first-small log r
 
-module _ (f : ℕ → ℕ) (total : ℕ) where
-  pub keying-start : (keys : List ℕ) → length keys ≡ total → Keying f total 0 keys
-  keying-start keys e = record { long = e; put = λ r h. absurd (omega arith) }
+pub heads-few : (kind : Kind) → heads kind ≤ 16384
+heads-few Atom = omega arith
+heads-few Predicate = omega arith
+heads-few First = omega arith
 
-  pub keying-step :
-      (row : ℕ) (keys : List ℕ) (x : ℕ) → row < total → x ≡ f row → Keying f total row keys → Keying f total (row + 1) (set keys row x)
-  keying-step row keys x h e s = record {
-    long = simp length-set (s .long);
-    put = λ r l.
-        ⊎-elim
-        (λ q.
-        let same : row ≡ r = eqb-true _ _ q in
-        subst (λ (n : ℕ). getD (set keys row x) n 0 ≡ f n) same
-        (getD-set-same keys row x 0 (let w = s .long in omega arith) ∙ e))
-        (λ q.
-        let other : row ≡ r → ⊥ = eqb-false _ _ q in
-        getD-set-other keys row r x 0 (λ z. other (sym z)) ∙ s .put r (smaller r l other))
-        (decide (eqb row r));
-  }
-    where
-      smaller : (r : ℕ) → r < row + 1 → (row ≡ r → ⊥) → r < row
-      smaller r l n = ⊎-elim (λ q. ltb-true _ _ q) (λ q. absurd (n (let b = ltb-false r row q in omega arith))) (decide (ltb r row))
-
--- chains by keys that agree
-chain-keys : (f g : ℕ → ℕ) (k i rows : ℕ) → ((r : ℕ) → r < rows → f r ≡ g r) → chain f k i rows ≡ chain g k i rows
-unfolding chain
-chain-keys f g k i rows h =
-    keep-same _ _ (span i (rows - i))
-    λ r m. let b = span-mem i (rows - i) m in ap (λ (x : ℕ). eqb x k) (h r (omega arith))
-
-module _ (key : Words → ℕ → ℕ) (log : Words) (keys : List ℕ) where
-  keyed-given : (r : ℕ) → getD keys r 0 ≡ key log r → given keys r ≡ key log r
-  unfolding given
-  keyed-given r e = e
-
-  pub keying-keys : (row : ℕ) → rowCount log ≤ row → Keying (key log) (rowCount log) row keys → Keys key log keys
-  keying-keys row h s = record { long = s .long; keyed = λ r l. s .put r (omega arith) }
-
-  module _ (heads total : ℕ) (links : List ℕ) (s : Keys key log keys) where
-    -- links for them that can be filled
-    pub keys-ready :
-        heads + rowCount log ≤ total →
-        rowCount log ≤ 4096 →
-        links ≡ replicate {A = ℕ} total 0 →
-        ((r : ℕ) → key log r < heads) →
-        Ready keys heads links
-    unfolding given
-    keys-ready fits few e small = record {
-      within = let l = s .long in omega (arith, ap length e ∙ length-replicate {A = ℕ} total 0);
-      few = let l = s .long in omega arith;
-      range = λ r h. rw (s .keyed r (let l = s .long in omega arith)) (small r);
-      empty = λ k h. ap (λ (l : List ℕ). getD l k 0) e ∙ getD-replicate total k 0 0 (omega arith);
-    }
-
-    -- rows chained by these keys are chained by the key function
-    pub keys-chained : (filled : List ℕ) → Chained (given keys) heads (length keys) filled → Chained (key log) heads (rowCount log) filled
-    keys-chained filled c = subst (λ (n : ℕ). Chained (key log) heads n filled) (s .long) (record {
-      within = c .within;
-      heads = λ k h. c .heads k h ∙ ap (link (length keys)) (chain-same k 0);
-      nexts = λ r h. c .nexts r h ∙ ap (link (length keys)) (chain-same (given keys r) (r + 1) ∙ ap (λ (k : ℕ). chain (key log) k (r + 1) (length keys)) (same r h));
-    })
-      where
-        same : (r : ℕ) → r < length keys → given keys r ≡ key log r
-        same r h = keyed-given r (s .keyed r (let l = s .long in omega arith))
-
-        chain-same : (k i : ℕ) → chain (given keys) k i (length keys) ≡ chain (key log) k i (length keys)
-        chain-same k i = chain-keys (given keys) (key log) k i (length keys) (λ r h. same r h)
+-- zeros can be filled
+pub zeros-empty : (n rows : ℕ) (links : List ℕ) (total : ℕ) → links ≡ replicate {A = ℕ} total 0 → n + rows ≤ total → Empty n rows links
+zeros-empty n rows links total e fits = record {
+  within = omega (arith, ap length e ∙ length-replicate {A = ℕ} total 0);
+  none = λ k h. ap (λ (l : List ℕ). getD l k 0) e ∙ getD-replicate total k 0 0 (omega arith);
+}
 
 -- the numbers spread, one by one
 pub spread-of :
@@ -232,7 +179,3 @@ spread-of p a b c d e f v h0 h1 h2 h3 h4 h5 = rw (h0, h1, h2, h3, h4, h5)
 pub first-of : (p x : ℕ) (z : ℤ) → x ≡ fromLeast z → (p % 256 * 331804471 + x % 4294967296 * 442291847) / 32768 % 4096 ≡ firstSpread p z
 unfolding firstSpread
 first-of p x z e = rw e refl
-
--- the front of an array of keys, as long as there are rows
-pub first-keys : (n : ℕ) → n ≤ 4096 → length (take n (replicate {A = ℕ} 4096 0)) ≡ n
-first-keys n h = length-take-le n (replicate 4096 0) (subst (λ (k : ℕ). n ≤ k) (sym (length-replicate {A = ℕ} 4096 0)) h)

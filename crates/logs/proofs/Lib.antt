@@ -2,5 +2,6 @@
 pub mod Rows
 pub mod Chains
 pub mod Keys
+pub mod Linking
 pub mod Searches
 pub mod Values

@@ -55,7 +55,7 @@ unfolding holds
 holds-not log p ns r e = rw (row-word log r 0 (omega arith), add-zero (8 * r), e)
 
 -- two lists compared from an index on: b is where the first begins in the log
-abbrev pub Rest : Words → ℕ → List ℤ → ℕ → Bool
+abbrev pub Rest : (log : Words) (b : ℕ) (ns : List ℤ) (i : ℕ) → Bool
 Rest log b ns i = equalAll (take (length ns - i) (drop (b + i) log)) (drop i ns)
 
 module _ (log : Words) (b : ℕ) (ns : List ℤ) (i : ℕ) where
@@ -180,7 +180,7 @@ unfolding arguments rowAt
 row-part log r = sym (drop-take 2 6 (drop (8 * r) log) ∙ ap (take 6) (drop-drop 2 (8 * r) log))
 
 -- a search found a row
-abbrev pub isAt : Found → Bool
+abbrev pub isAt : (found : Found) → Bool
 isAt (At i) = true
 isAt Nothing = false
 
@@ -227,7 +227,7 @@ module _ (log : Words) (r : ℕ) (within : 8 * r + 8 ≤ length log) (number : a
       ∙ ap isAt (sym (e ∙ ap (λ (ns : List ℤ). firstRow log (value log (8 * r)) ns (span 0 r)) (row-part log r)))
 
 -- the row that a search found is earlier than a row
-abbrev pub earlier : ℕ → Found → Bool
+abbrev pub earlier : (r : ℕ) (found : Found) → Bool
 earlier r (At q) = ltb q r
 earlier r Nothing = false
 

@@ -21,13 +21,7 @@ pub record Chained (key : ℕ → ℕ) (keys rows : ℕ) (links : List ℕ) : Ty
   pub heads : (k : ℕ) → k < keys → getD links k 0 ≡ link rows (chain key k 0 rows)
   pub nexts : (r : ℕ) → r < rows → getD links (keys + r) 0 ≡ link rows (chain key (key r) (r + 1) rows)
 
--- the key of a row, where the rows' keys are given
-unfoldable pub given : List ℕ → ℕ → ℕ
-given keys r = getD keys r 0
-
--- links that can be filled: there is one for each key, still 0, and one for each row, whose key is among them
-pub record Ready (keys : List ℕ) (heads : ℕ) (links : List ℕ) : Type 0 where
-  pub within : heads + length keys ≤ length links
-  pub few : length keys < 65536
-  pub range : (r : ℕ) → r < length keys → given keys r < heads
-  pub empty : (k : ℕ) → k < heads → getD links k 0 ≡ 0
+-- links that can be filled: there is one for each key, still 0, and one for each row
+pub record Empty (keys rows : ℕ) (links : List ℕ) : Type 0 where
+  pub within : keys + rows ≤ length links
+  pub none : (k : ℕ) → k < keys → getD links k 0 ≡ 0

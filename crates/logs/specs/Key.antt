@@ -1,5 +1,5 @@
 -- The keys by which the rows of a log are chained.
-use Prim.Native.Nat.{ℕ, _+_, _*_, _/_, _%_, _^_, _<_}
+use Prim.Native.Nat.{ℕ, _+_, _*_, _/_, _%_, _^_, _≤_, _<_}
 use mathlib.Core.Path.{_≡_}
 use mathlib.Core.Bool.{cond, _&&_}
 use mathlib.Core.List.{List}
@@ -7,8 +7,10 @@ use lib.ListN.{length, getD, drop}
 use lib.IntN.{ℤ}
 use Rattle.model.specs.Words.{Words, word, value, below, predicateLimit}
 use Rattle.model.specs.Log.{rowCount, rowAt, saysTrue}
-use Rattle.tables.specs.Offset.{fromLeast}
+use Rattle.words.specs.Offset.{fromLeast}
 use Rattle.logs.specs.Chain.{Chained}
+use Rattle.logs.specs.declared.key.Kind.{Kind}
+use Rattle.logs.specs.declared.key.Kind.the-variants.{Atom, Predicate, First}
 
 -- so many keys of atoms; one more key than there are predicates
 abbrev pub atomKeys : ℕ
@@ -53,20 +55,36 @@ firstKeys = 4097
 unfoldable pub firstKey : Words → ℕ → ℕ
 firstKey log r = cond (saysTrue (rowAt log r)) (firstSpread (value log (8 * r)) (word log (8 * r + 2))) 4096
 
+-- the key of a row, of each kind, and how many keys of it there are
+abbrev pub keyBy : (kind : Kind) (words : Words) (n : ℕ) → ℕ
+keyBy Atom = rowKey
+keyBy Predicate = trueKey
+keyBy First = firstKey
+
+abbrev pub heads : (kind : Kind) → ℕ
+heads Atom = atomKeys
+heads Predicate = predicateKeys
+heads First = firstKeys
+
 -- the keys of the rows of a log, by a key function, one behind another
 pub record Keys (key : Words → ℕ → ℕ) (log : Words) (keys : List ℕ) : Type 0 where
-  pub long : length keys ≡ rowCount log
+  pub long : rowCount log ≤ length keys
   pub keyed : (r : ℕ) → r < rowCount log → getD keys r 0 ≡ key log r
 
--- so many links are those of the rows by predicate
-abbrev pub predicateLinks : ℕ
-predicateLinks = 4353
+-- where the links by predicate begin, behind those by atom; and those by first argument, behind them
+abbrev pub predicateFrom : ℕ
+predicateFrom = 20480
+
+abbrev pub firstFrom : ℕ
+firstFrom = 24833
 
 -- the links from an index on
 unfoldable pub behind : ℕ → List ℕ → List ℕ
 behind n links = drop n links
 
--- links by which the true rows of a log are chained twice: by predicate, and behind those links by predicate and first argument
-pub record TrueRows (log : Words) (links : List ℕ) : Type 0 where
-  pub byPredicate : Chained (trueKey log) predicateKeys (rowCount log) links
-  pub byFirst : Chained (firstKey log) firstKeys (rowCount log) (behind predicateLinks links)
+-- all links of a log, one kind behind another: its rows chained by atom, and its true rows by predicate, alone and with their first
+-- argument
+pub record Linked (log : Words) (links : List ℕ) : Type 0 where
+  pub byAtom : Chained (rowKey log) atomKeys (rowCount log) links
+  pub byPredicate : Chained (trueKey log) predicateKeys (rowCount log) (behind predicateFrom links)
+  pub byFirst : Chained (firstKey log) firstKeys (rowCount log) (behind firstFrom links)

@@ -1,3 +1,4 @@
 pub mod Chain
 pub mod Key
 pub mod Search
+pub mod Links

@@ -1,16 +1,15 @@
 -- The search for an atom's row, and parts of questions 9 and 10 at a row of a log.
 use Prim.Native.Nat.{ℕ}
 use mathlib.Core.Bool.{Bool, true, false, not, cond}
-use mathlib.Core.Path.{_≡_, refl}
-use mathlib.Core.List.{List, [], _∷_, map}
+use mathlib.Core.Path.{_≡_}
+use mathlib.Core.List.{List, [], _∷_}
 use lib.ListN.{drop}
 use lib.IntN.{ℤ, pos}
 use Rattle.model.specs.Words.{Words, equal}
 use Rattle.model.specs.Lists.{span, all, any}
 use Rattle.model.specs.Answer.{Outcome, ask, inTurn, _>>=_}
 use Rattle.model.specs.declared.Refusal.the-variants.{Row, Repeat}
-use Rattle.model.specs.Table.{complete}
-use Rattle.model.specs.Log.{Value, known, unknown, rowCount, rowAt, rows, arguments, saysTrue, goodRow, holds, sameAtom, askLog, valueIn}
+use Rattle.model.specs.Log.{Value, known, unknown, rowCount, rowAt, arguments, goodRow, holds, sameAtom, askLog}
 use Rattle.tables.specs.declared.Checked.{Checked}
 use Rattle.tables.specs.declared.Checked.the-variants.{Passed}
 use Rattle.tables.specs.Checked.{outcome}
@@ -45,35 +44,7 @@ pub record Checks (table log : Words) (links : List ℕ) (r : Checked) : Type 0 
   pub chained : r ≡ Passed → Chained (rowKey log) atomKeys (rowCount log) links
 
 -- the code's values, as those of model
-abbrev pub asValue : D.Value → Value
+abbrev pub asValue : (d : D.Value) → Value
 asValue U.True = known true
 asValue U.False = known false
 asValue U.Open = unknown
-
--- the value that the row found gives an atom: the row's truth; with no row, false if the predicate is complete, else unknown
-unfoldable pub valueBy : Words → Words → ℕ → Found → Value
-valueBy table log p (At r) = known (saysTrue (rowAt log r))
-valueBy table log p Nothing = cond (complete table p) (known false) unknown
-
-by-test : (b : Bool) (table log : Words) (p r : ℕ) (v : Value) (f : Found) → v ≡ valueBy table log p f → cond b (known (saysTrue (rowAt log r))) v ≡ valueBy table log p (cond b (At r) f)
-unfolding valueBy
-by-test true table log p r v f e = refl
-by-test false table log p r v f e = e
-
-rows-value :
-    (table log : Words) (p : ℕ) (ns : List ℤ) (rs : List ℕ) →
-    valueIn table (map (rowAt log) rs) p ns ≡ valueBy table log p (firstRow log p ns rs)
-unfolding valueIn firstRow valueBy
-rows-value table log p ns [] = refl
-rows-value table log p ns (r ∷ rs) =
-    by-test (holds p ns (rowAt log r)) table log p r
-    (valueIn table (map (rowAt log) rs) p ns)
-    (firstRow log p ns rs)
-    (rows-value table log p ns rs)
-
--- the search through all rows finds the row that decides the atom
-pub search-value :
-    (table log : Words) (p : ℕ) (ns : List ℤ) →
-    valueIn table (rows log) p ns ≡ valueBy table log p (firstRow log p ns (span 0 (rowCount log)))
-unfolding rows
-search-value table log p ns = rows-value table log p ns (span 0 (rowCount log))

@@ -1,14 +1,17 @@
-// The keys of rows, and the rows of a log chained by them: by atom, and the true ones by predicate, alone and with their first
-// argument.
-use crate::chain;
-use tables::words;
+// The keys of rows: by atom, and of the true ones by predicate, alone and with their first argument.
 ghost use mathlib.Core.Path.{_≡_};
 ghost use Prim.Native.Nat.{_+_, _*_, _≤_, _<_};
-ghost use lib.ListN.{length, replicate};
+ghost use lib.ListN.{length};
 ghost use Rattle.model.specs.Words as W;
-ghost use Rattle.model.specs.Log.{rowCount};
 ghost use Rattle.logs.specs.Key as K;
-ghost use Rattle.logs.specs.Chain.{Chained};
+
+// By what rows are chained: all of them by their atoms; the true ones by their predicates; the true ones by their predicates and
+// first arguments.
+pub enum Kind {
+    Atom,
+    Predicate,
+    First,
+}
 
 // So many keys of atoms; as many predicates as there can be, with one key more for the rows that a listing passes over.
 pub const ATOM_KEYS: usize = 16384;
@@ -17,9 +20,6 @@ pub const PREDICATE_KEYS: usize = 257;
 
 // So many keys of a predicate with its first argument, with one key more for the rows that a listing passes over.
 pub const FIRST_KEYS: usize = 4097;
-
-// The links by predicate; those by first argument stand behind them.
-pub const PREDICATE_LINKS: usize = 4353;
 
 // The key of the atom of a predicate, whose six arguments stand at an index.
 pub fn of_atom(predicate: usize, words: &[i32], at: usize) -> usize
@@ -71,54 +71,25 @@ fn of_row(log: &[i32], row: usize) -> usize
     of_first(words::value(log, 8 * row), log, 8 * row + 2)
 }
 
-// The rows of a log, chained by their atoms; and their keys.
-pub fn by_atom(log: &[i32], keys: &mut [u16], links: &mut [u16])
-    requires { ⌜
-        (rowCount (now log) ≤ 4096) × (length (now keys) ≡ rowCount (now log)) × (now links ≡ replicate 20480 0)
-        ⌝ }
-    ensures { λ _. ⌜ K.Keys K.rowKey (now (log .entry)) (now (keys .exit)) ⌝ }
-    ensures { λ _. ⌜ Chained (K.rowKey (now (log .entry))) K.atomKeys (rowCount (now (log .entry))) (now (links .exit)) ⌝ }
+// The key of a row, of either kind.
+pub fn of(kind: Kind, log: &[i32], row: usize) -> usize
+    requires { ⌜ 8 * row + 8 ≤ length (now log) ⌝ }
+    ensures { λ r. ⌜ r ≡ K.keyBy kind (now (log .entry)) row ⌝ }
 {
-    let rows = log.len() / 8;
-    let mut row = 0;
-    while row < rows {
-        let key = of_atom(words::value(log, 8 * row), log, 8 * row + 2);
-        keys[row] = key as u16;
-        row += 1;
+    match kind {
+        Kind::Atom => of_atom(words::value(log, 8 * row), log, 8 * row + 2),
+        Kind::Predicate => of_true(log, row),
+        Kind::First => of_row(log, row),
     }
-    chain::fill(keys, links, ATOM_KEYS);
 }
 
-// The true rows of a log, chained by their predicates.
-pub fn by_predicate(log: &[i32], keys: &mut [u16], links: &mut [u16])
-    requires { ⌜
-        (rowCount (now log) ≤ 4096) × (length (now keys) ≡ rowCount (now log)) × (now links ≡ replicate 4353 0)
-        ⌝ }
-    ensures { λ _. ⌜ Chained (K.trueKey (now (log .entry))) K.predicateKeys (rowCount (now (log .entry))) (now (links .exit)) ⌝ }
+// How many keys of a kind there are.
+pub fn heads(kind: Kind) -> usize
+    ensures { λ r. ⌜ r ≡ K.heads kind ⌝ }
 {
-    let rows = log.len() / 8;
-    let mut row = 0;
-    while row < rows {
-        let key = of_true(log, row);
-        keys[row] = key as u16;
-        row += 1;
+    match kind {
+        Kind::Atom => ATOM_KEYS,
+        Kind::Predicate => PREDICATE_KEYS,
+        Kind::First => FIRST_KEYS,
     }
-    chain::fill(keys, links, PREDICATE_KEYS);
-}
-
-// The true rows of a log, chained by their predicates and first arguments.
-pub fn by_first(log: &[i32], keys: &mut [u16], links: &mut [u16])
-    requires { ⌜
-        (rowCount (now log) ≤ 4096) × (length (now keys) ≡ rowCount (now log)) × (now links ≡ replicate 8193 0)
-        ⌝ }
-    ensures { λ _. ⌜ Chained (K.firstKey (now (log .entry))) K.firstKeys (rowCount (now (log .entry))) (now (links .exit)) ⌝ }
-{
-    let rows = log.len() / 8;
-    let mut row = 0;
-    while row < rows {
-        let key = of_row(log, row);
-        keys[row] = key as u16;
-        row += 1;
-    }
-    chain::fill(keys, links, FIRST_KEYS);
 }

@@ -1,18 +1,18 @@
 // The log: questions 8, 9 and 10.
-use crate::key;
+use crate::chain;
+use crate::key::Kind;
 use crate::search;
 use crate::search::Found;
 use model::Refusal;
 use tables::Checked;
 use tables::table;
-use tables::words;
 ghost use mathlib.Core.Path.{_≡_};
 ghost use mathlib.Core.Bool.{true};
 ghost use Prim.Native.Nat.{_<_, _≤_, _*_, _+_};
 ghost use lib.ListN.{length, replicate};
 ghost use Rattle.model.specs.Words as W;
 ghost use Rattle.model.specs.Log as L;
-ghost use Rattle.logs.specs.Chain.{Chained};
+ghost use Rattle.logs.specs.Chain.{Empty, Chained};
 ghost use Rattle.logs.specs.Key.{rowKey, atomKeys, Keys};
 ghost use Rattle.tables.specs.Checked.{outcome};
 ghost use Rattle.logs.specs.Search.{askRows, repeatsAt, unusedFrom, Checks};
@@ -35,10 +35,10 @@ fn unused(row: &[i32], n: usize) -> bool
 
 // Question 9 of a row's words.
 pub fn good_row(table: &[i32], row: &[i32]) -> bool
-    requires { ⌜ (length (now table) ≤ 768) × (length (now row) ≡ 8) ⌝ }
+    requires { ⌜ length (now row) ≡ 8 ⌝ }
     ensures { λ r. ⌜ r ≡ L.goodRow (now (table .entry)) (now (row .entry)) ⌝ }
 {
-    if !words::below(row, 0, table.len() / 3) {
+    if !words::below(row, 0, table::predicates(table)) {
         return false;
     }
     if !words::within(row, 1, 0, 1) {
@@ -78,10 +78,9 @@ fn repeats(log: &[i32], keys: &[u16], links: &[u16], row: usize) -> bool
 }
 
 // Questions 9 and 10 at each row in turn.
-fn check_rows(table: &[i32], log: &[i32], keys: &[u16], links: &[u16]) -> Checked
+fn ask_rows(table: &[i32], log: &[i32], keys: &[u16], links: &[u16]) -> Checked
     requires { ⌜
-        (length (now table) ≤ 768)
-        × Keys rowKey (now log) (now keys)
+        Keys rowKey (now log) (now keys)
         × Chained (rowKey (now log)) atomKeys (L.rowCount (now log)) (now links)
         ⌝ }
     ensures { λ r. ⌜ outcome r ≡ askRows (now (table .entry)) (now (log .entry)) ⌝ }
@@ -104,21 +103,20 @@ fn check_rows(table: &[i32], log: &[i32], keys: &[u16], links: &[u16]) -> Checke
 // Questions 9 and 10, over rows that are chained for it. The keys have room for those of the rows.
 fn chain_and_check(table: &[i32], log: &[i32], keys: &mut [u16], links: &mut [u16]) -> Checked
     requires { ⌜
-        (length (now table) ≤ 768)
-        × (L.rowCount (now log) ≤ 4096)
-        × (length (now keys) ≡ L.rowCount (now log))
-        × (now links ≡ replicate 20480 0)
+        (L.rowCount (now log) ≤ 4096)
+        × (L.rowCount (now log) ≤ length (now keys))
+        × Empty atomKeys (L.rowCount (now log)) (now links)
         ⌝ }
     ensures { λ r. ⌜ outcome r ≡ askRows (now (table .entry)) (now (log .entry)) ⌝ }
     ensures { λ _. ⌜ Chained (rowKey (now (log .entry))) atomKeys (L.rowCount (now (log .entry))) (now (links .exit)) ⌝ }
 {
-    key::by_atom(log, keys, links);
-    check_rows(table, log, keys, links)
+    chain::fill(Kind::Atom, log, keys, links);
+    ask_rows(table, log, keys, links)
 }
 
 // Questions 8, 9 and 10. The links, all 0 at first, chain the rows by their atoms unless question 8 refuses.
 pub fn check_log(table: &[i32], log: &[i32], links: &mut [u16]) -> Checked
-    requires { ⌜ (length (now table) ≤ 768) × (now links ≡ replicate 20480 0) ⌝ }
+    requires { ⌜ now links ≡ replicate 20480 0 ⌝ }
     ensures { λ r. ⌜ Checks (now (table .entry)) (now (log .entry)) (now (links .exit)) r ⌝ }
 {
     if log.len() % 8 != 0 {
@@ -127,7 +125,6 @@ pub fn check_log(table: &[i32], log: &[i32], links: &mut [u16]) -> Checked
     if 4096 < log.len() / 8 {
         return Checked::Refused(Refusal::LogLength, 0);
     }
-    let rows = log.len() / 8;
     let mut keys = [0; 4096];
-    chain_and_check(table, log, &mut keys[..rows], links)
+    chain_and_check(table, log, &mut keys, links)
 }

@@ -1,6 +1,5 @@
 // The search for the row of an atom, along the chain of the atom's key.
 use crate::key;
-use tables::words;
 ghost use mathlib.Core.Path.{_≡_};
 ghost use lib.ListN.{length};
 ghost use Rattle.model.specs.Lists.{span};

@@ -2,10 +2,10 @@
 use crate::key;
 use crate::search;
 use crate::search::Found;
-use tables::words;
+use tables::table;
 ghost use mathlib.Core.Path.{_≡_};
 ghost use mathlib.Core.List.{List, _++_};
-ghost use Prim.Native.Nat.{_-_, _<_};
+ghost use Prim.Native.Nat.{_-_};
 ghost use lib.ListN.{length, replicate};
 ghost use lib.IntN.{ℤ, pos};
 ghost use Rattle.model.specs.Answer.{passed};
@@ -34,7 +34,6 @@ pub fn value_of(
     requires { ⌜
         Chained (rowKey (now log)) atomKeys (rowCount (now log)) (now links)
         × (length (now arguments) ≡ 6)
-        × (predicate < 256)
         × (askLog (now table) (now log) ≡ passed tt)
         ⌝ }
     ensures { λ r. ⌜
@@ -55,7 +54,7 @@ pub fn value_of(
             }
         }
         Found::Nothing => {
-            if words::is(table, 3 * predicate + 2, 1) {
+            if table::complete(table, predicate) {
                 Value::False
             } else {
                 Value::Open

@@ -3,6 +3,7 @@ use Prim.Native.Nat.{ℕ}
 use mathlib.Core.Path.{_≡_}
 use mathlib.Core.Bool.{Bool, true, false}
 use mathlib.Core.List.{List, [], _∷_}
+use lib.ListN.{getD}
 use Rattle.model.specs.declared.Refusal.{Refusal}
 use Rattle.model.specs.declared.Refusal.the-variants.{Table, PolicyLength, Shape, Level, Predicate, Variable, Mode, LogLength, Row}
 use Rattle.model.specs.declared.Refusal.the-variants.{Repeat, Scratch, Room, Csv, Record, Tptp}
@@ -26,6 +27,14 @@ question Room = 12
 question Csv = 13
 question Record = 14
 question Tptp = 15
+
+-- the refusal of a question's number; of a number that no question has, the last
+unfoldable pub inOrder : List Refusal
+inOrder =
+    Tptp ∷ Table ∷ PolicyLength ∷ Shape ∷ Level ∷ Predicate ∷ Variable ∷ Mode ∷ LogLength ∷ Row ∷ Repeat ∷ Scratch ∷ Room ∷ Csv ∷ Record ∷ []
+
+unfoldable pub refusalOf : ℕ → Refusal
+refusalOf n = getD inOrder n Tptp
 
 -- accepted is 0 with place 0; refused, the count is 0
 unfoldable pub number : Answer → ℕ

@@ -114,7 +114,7 @@ cases =
 
 -- to unfold this is to unfold every definition that the calls compute with
 unfoldable pub computing : Unit {0}
-unfolding comesOut mustComeOut cases words left T A F E nested Words.word Words.value Words.atLeast Words.within Words.below Words.equal Words.equalAll Words.member Lists.span Lists.all Lists.any Lists.keep Lists.gather Answer.question Answer.number Answer.place Answer.count Answer.ask Answer._>>=_ Answer.inTurn Answer.answer Table.predicates Table.arity Table.input Table.complete Table.goodRecord Table.askTable Log.rowCount Log.rowAt Log.rows Log.front Log.arguments Log.saysTrue Log.goodRow Log.sameAtom Log.askLog Log.holds Log.valueIn Tag.tags Tag.tagOf Tree.count Tree.encodeTerm Tree.encode Level.under Level.quantifierCost Level.cost Level.greatest Reading.isRestriction Reading.isFormula Reading.places Reading.repeat Reading.termAt Reading.goodKind Reading.inScope Reading.own Reading.questions Reading.build Reading.readNode Reading.readPolicy Mode.size Mode.isBound Mode.isVariable Mode.inputsBound Mode.bindings Mode.askModes Truth.Extends Truth.numberOf Truth.sumAtMost Truth.Is Listing.outer Listing.bind Listing.release Listing.numberIn Listing.look Listing.numbersIn Listing.meet Listing.fit Listing.matches Listing.isFalse Listing.list Listing.entries Putting.putTerm Putting.put Joining.append Joining.decides Joining.decided Joining.parts Joining.partsAll Joining.assemble Joining.joined Reduction.settle Reduction.fresh Reduction.each Reduction.most Reduction.tuple Reduction.instances Reduction.closed Reduction.reduce Reduction.need Dual.dual Calls.zeros Calls.filled Calls.result Calls.askPolicy Calls.write Calls.checkPolicy Calls.checkLog Calls.askResidual Calls.askReduction Calls.reduceCall Calls.dualCall Runs.accepted Runs.leaves Runs.next Runs.after Runs.held Runs.clear Runs.proviso
+unfolding comesOut mustComeOut cases words left T A F E nested Words.word Words.value Words.atLeast Words.within Words.below Words.equal Words.equalAll Words.member Lists.span Lists.all Lists.any Lists.keep Lists.gather Answer.question Answer.number Answer.place Answer.count Answer.ask Answer._>>=_ Answer.inTurn Answer.answer Table.predicates Table.arity Table.input Table.complete Table.goodRecord Table.askTable Log.rowCount Log.rowAt Log.rows Log.front Log.arguments Log.saysTrue Log.goodRow Log.sameAtom Log.askLog Log.holds Log.valueIn Tag.tags Tag.tagOf Tree.count Tree.encodeTerm Tree.encode Level.under Level.quantifierCost Level.cost Level.greatest Reading.isRestriction Reading.isFormula Reading.places Reading.repeat Reading.termAt Reading.goodKind Reading.inScope Reading.own Reading.goodPredicate Reading.questions Reading.build Reading.readNode Reading.readPolicy Mode.size Mode.isBound Mode.isVariable Mode.inputsBound Mode.bindings Mode.askModes Truth.Extends Truth.numberOf Truth.sumAtMost Truth.Is Listing.outer Listing.bind Listing.release Listing.numberIn Listing.look Listing.numbersIn Listing.meet Listing.fit Listing.matches Listing.isFalse Listing.list Listing.entries Putting.putTerm Putting.put Joining.append Joining.decides Joining.decided Joining.parts Joining.partsAll Joining.assemble Joining.joined Reduction.settle Reduction.fresh Reduction.each Reduction.most Reduction.tuple Reduction.instances Reduction.closed Reduction.reduce Reduction.need Dual.dual Calls.zeros Calls.filled Calls.result Calls.askPolicy Calls.write Calls.checkPolicy Calls.checkLog Calls.askResidual Calls.askReduction Calls.reduceCall Calls.dualCall Runs.accepted Runs.leaves Runs.next Runs.after Runs.held Runs.clear Runs.proviso
 computing = tt
 
 -- the claim

@@ -41,17 +41,15 @@ repeat (suc n) one at = do
   rest ← repeat n one (first .next)
   passed (record { tree = cons (first .tree) (rest .tree); next = rest .next })
 
--- what the questions ask of a node's own words
+-- what questions 3 and 6 ask of a node's own words
 pub record Own : Type 0 where
   -- question 3: the tag is allowed there, counts and term kinds are in range; and how many words there should be
   pub shape : Bool
   pub size : ℕ
-  -- question 5
-  pub predicate : Bool
   -- question 6
   pub scope : Bool
 
-module _ (table words : Words) where
+module _ (words : Words) where
   -- the term at an index
   unfoldable pub termAt : ℕ → Term
   termAt i = cond (equal (word words i) (pos 0)) (constant (word words (i + 1))) (variable (value words (i + 1)))
@@ -65,37 +63,24 @@ module _ (table words : Words) where
 
   -- the own words of the node at an index, with so many variables in scope
   unfoldable pub own : Tag → Role → ℕ → ℕ → Own
-  own (Tag.plain b) role scope at = record { shape = true; size = 1; predicate = true; scope = true }
+  own (Tag.plain b) role scope at = record { shape = true; size = 1; scope = true }
   own (Tag.atom b) role scope at =
       record {
         shape = within 1 6 (word words (at + 2)) && all goodKind (places (at + 3) (value words (at + 2)));
         size = 3 + 2 * value words (at + 2);
-        predicate = below (predicates table) (word words (at + 1)) && eqb (arity table (value words (at + 1))) (value words (at + 2));
         scope = all (inScope scope) (places (at + 3) (value words (at + 2)));
       }
   own (Tag.compare b) role scope at =
-      record { shape = all goodKind (places (at + 2) 2); size = 6; predicate = true; scope = all (inScope scope) (places (at + 2) 2) }
-  own (Tag.join b) role scope at =
-      record { shape = atLeast 2 (word words (at + 1)); size = 2; predicate = true; scope = true }
+      record { shape = all goodKind (places (at + 2) 2); size = 6; scope = all (inScope scope) (places (at + 2) 2) }
+  own (Tag.join b) role scope at = record { shape = atLeast 2 (word words (at + 1)); size = 2; scope = true }
   own (Tag.quantifier b) role scope at =
       record {
         shape = isFormula role && within 1 4 (word words (at + 1)) && atLeast 0 (word words (at + 2));
         size = 3 + value words (at + 1) * value words (at + 2);
-        predicate = true;
         scope = leb (scope + value words (at + 1)) scopeLimit;
       }
-  own Tag.some role scope at =
-      record { shape = isRestriction role; size = 1; predicate = true; scope = leb (scope + 1) scopeLimit }
-  own Tag.unused role scope at = record { shape = false; size = 1; predicate = true; scope = true }
-
-  -- questions 3, 4, 5 and 6 at one node, which stands under a node at the level `above`
-  unfoldable pub questions : Tag → Role → ℕ → ℕ → ℕ → Outcome (Unit {0})
-  questions tag role above scope at = do
-    let node = own tag role scope at
-    _ ← ask (node .shape && leb (at + node .size) (length words)) Shape at
-    _ ← ask (leb (above + cost role tag) levelLimit) Level at
-    _ ← ask (node .predicate) Predicate at
-    ask (node .scope) Variable at
+  own Tag.some role scope at = record { shape = isRestriction role; size = 1; scope = leb (scope + 1) scopeLimit }
+  own Tag.unused role scope at = record { shape = false; size = 1; scope = true }
 
   -- the tree of a node that passed, at its level; `read` reads a node below it
   unfoldable pub build : (Role → ℕ → ℕ → ℕ → Outcome (Read Tree)) → Tag → Role → ℕ → ℕ → ℕ → Outcome (Read Tree)
@@ -120,6 +105,27 @@ module _ (table words : Words) where
     passed (record { tree = some (c .tree); next = c .next })
   build read Tag.unused role level scope at = refused Shape at
 
+module _ (table words : Words) where
+  -- question 5: in the own words of an atom, its predicate exists, and the number of its terms is the predicate's arity
+  unfoldable pub goodPredicate : Tag → ℕ → Bool
+  goodPredicate (Tag.plain b) at = true
+  goodPredicate (Tag.atom b) at =
+      below (predicates table) (word words (at + 1)) && eqb (arity table (value words (at + 1))) (value words (at + 2))
+  goodPredicate (Tag.compare b) at = true
+  goodPredicate (Tag.join b) at = true
+  goodPredicate (Tag.quantifier b) at = true
+  goodPredicate Tag.some at = true
+  goodPredicate Tag.unused at = true
+
+  -- questions 3, 4, 5 and 6 at one node, which stands under a node at the level `above`
+  unfoldable pub questions : Tag → Role → ℕ → ℕ → ℕ → Outcome (Unit {0})
+  questions tag role above scope at = do
+    let node = own words tag role scope at
+    _ ← ask (node .shape && leb (at + node .size) (length words)) Shape at
+    _ ← ask (leb (above + cost role tag) levelLimit) Level at
+    _ ← ask (goodPredicate tag at) Predicate at
+    ask (node .scope) Variable at
+
   -- the node at an index: its questions, then the nodes below it. A node lowers `depth` by one and costs at least one
   -- level, so that question 4 refuses before a depth of 65 is spent
   unfoldable pub readNode : ℕ → Role → ℕ → ℕ → ℕ → Outcome (Read Tree)
@@ -127,7 +133,7 @@ module _ (table words : Words) where
   readNode (suc depth) role above scope at = do
     let tag = tagOf (word words at)
     _ ← questions tag role above scope at
-    build (readNode depth) tag role (above + cost role tag) scope at
+    build words (readNode depth) tag role (above + cost role tag) scope at
 
   -- question 2, then 3 to 6 at each node, then 3 for words behind the tree
   unfoldable pub readPolicy : Outcome Tree

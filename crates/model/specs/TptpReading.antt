@@ -21,7 +21,7 @@ pub record Got (A : Type 0) : Type 0 where
   pub at : ℕ
 
 -- a reading of the text from a place on
-abbrev pub Reader : Type 0 → Type 0
+abbrev pub Reader : (type : Type 0) → Type 0
 Reader A = Text → ℕ → Outcome (Got A)
 
 module _ {A : Type 0} where

@@ -13,7 +13,7 @@ use Rattle.model.specs.Log.{Value, known, rows, valueIn}
 use Rattle.model.specs.Tree.{Term, constant, variable, Tree, Trees, plain, atom, compare, join, quantifier, some, nil, cons}
 
 -- a ground atom over a table: one of its predicates, at as many whole numbers as its arity
-abbrev pub GroundAtom : Words → ℕ → List ℤ → Type 0
+abbrev pub GroundAtom : (table : Words) (p : ℕ) (ns : List ℤ) → Type 0
 GroundAtom table p ns = (p < predicates table) × (length ns ≡ arity table p)
 
 -- a partial structure gives each ground atom a value. What it gives for other numbers or lists is no atom's value, and is
@@ -22,7 +22,7 @@ abbrev pub Structure : Type 0
 Structure = ℕ → List ℤ → Value
 
 -- a log over a table, of any number of rows, as a structure
-abbrev pub structure : Words → Words → Structure
+abbrev pub structure : (table log : Words) → Structure
 structure table log = valueIn table (rows log)
 
 -- every ground atom known in the first has the same value in the second

@@ -60,7 +60,7 @@ unfoldable pub wordSized : ℤ → Bool
 wordSized z = leZ (negsuc 2147483647) z && leZ z (pos 2147483647)
 
 -- equality of Bools, of numbers, of lists of numbers; membership in a list of tuples
-abbrev pub same : Bool → Bool → Bool
+abbrev pub same : (a b : Bool) → Bool
 same a b = Bool·beq a b
 
 unfoldable pub equal : ℤ → ℤ → Bool

@@ -1,6 +1,6 @@
 // The answer of a call. What its cases mean as numbers is defined in specs/Answer.antt.
 ghost use mathlib.Core.Path.{_≡_};
-ghost use Rattle.model.specs.Answer.{question};
+ghost use Rattle.model.specs.Answer.{question, refusalOf};
 
 // The questions of the specification in the order of their numbers, each named for what it asks about.
 pub enum Refusal {
@@ -47,5 +47,28 @@ pub fn number(refusal: Refusal) -> u32
         Refusal::Csv => 13,
         Refusal::Record => 14,
         Refusal::Tptp => 15,
+    }
+}
+
+// The refusal with a number: of a number that no question has, the last.
+pub fn refusal_of(n: usize) -> Refusal
+    ensures { λ r. ⌜ r ≡ refusalOf n ⌝ }
+{
+    match n {
+        1 => Refusal::Table,
+        2 => Refusal::PolicyLength,
+        3 => Refusal::Shape,
+        4 => Refusal::Level,
+        5 => Refusal::Predicate,
+        6 => Refusal::Variable,
+        7 => Refusal::Mode,
+        8 => Refusal::LogLength,
+        9 => Refusal::Row,
+        10 => Refusal::Repeat,
+        11 => Refusal::Scratch,
+        12 => Refusal::Room,
+        13 => Refusal::Csv,
+        14 => Refusal::Record,
+        _ => Refusal::Tptp,
     }
 }

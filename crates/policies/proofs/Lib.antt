@@ -1,4 +1,4 @@
--- Laws that several proofs of this crate cite.
+-- Laws that several proofs of this crate, or of others, cite.
 pub mod NodeTag
 pub mod NodeTerms
 pub mod NodeShape
@@ -6,11 +6,6 @@ pub mod NodeQuestions
 pub mod PolicyRead
 pub mod PolicyNode
 pub mod PolicyWhole
-pub mod ModeTerms
-pub mod ModeAtoms
-pub mod ModeWalk
-pub mod ModeLoops
-pub mod ModeSome
-pub mod ModeFormulaSets
-pub mod ModeFormulaLoops
-pub mod ModeFormula
+pub mod TermLaws
+pub mod Standing
+pub mod Stood

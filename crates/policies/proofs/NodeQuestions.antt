@@ -15,61 +15,64 @@ use Rattle.policies.specs.Node.{shapely, There, Shaped, Known, Scoped}
 
 -- how many words a node has of its own depends on its tag and its words alone
 pub size-same :
-    (table table′ words : Words) (tag : Tag) (role role′ : Role) (scope scope′ at : ℕ) →
-    own table words tag role scope at .size ≡ own table′ words tag role′ scope′ at .size
+    (words : Words) (tag : Tag) (role role′ : Role) (scope scope′ at : ℕ) →
+    own words tag role scope at .size ≡ own words tag role′ scope′ at .size
 unfolding own
-size-same table table′ words (Tag.plain b) role role′ scope scope′ at = refl
-size-same table table′ words (Tag.atom b) role role′ scope scope′ at = refl
-size-same table table′ words (Tag.compare b) role role′ scope scope′ at = refl
-size-same table table′ words (Tag.join b) role role′ scope scope′ at = refl
-size-same table table′ words (Tag.quantifier b) role role′ scope scope′ at = refl
-size-same table table′ words Tag.some role role′ scope scope′ at = refl
-size-same table table′ words Tag.unused role role′ scope scope′ at = refl
+size-same words (Tag.plain b) role role′ scope scope′ at = refl
+size-same words (Tag.atom b) role role′ scope scope′ at = refl
+size-same words (Tag.compare b) role role′ scope scope′ at = refl
+size-same words (Tag.join b) role role′ scope scope′ at = refl
+size-same words (Tag.quantifier b) role role′ scope scope′ at = refl
+size-same words Tag.some role role′ scope scope′ at = refl
+size-same words Tag.unused role role′ scope scope′ at = refl
 
--- a node's own words are there, whatever the table, the role and the scope
+-- a node's own words are there, whatever the role and the scope
 pub fits-there :
-    (table words : Words) (tag : Tag) (role : Role) (scope at : ℕ) →
-    at + own table words tag role scope at .size ≤ length words →
+    (words : Words) (tag : Tag) (role : Role) (scope at : ℕ) →
+    at + own words tag role scope at .size ≤ length words →
     There words tag at
-fits-there table words tag role scope at h table′ role′ scope′ =
-    subst (λ (n : ℕ). at + n ≤ length words) (size-same table table′ words tag role role′ scope scope′ at) h
+fits-there words tag role scope at h role′ scope′ =
+    subst (λ (n : ℕ). at + n ≤ length words) (size-same words tag role role′ scope scope′ at) h
+
+-- question 3 answered with yes: the own words are in range, and there
+module _ (words : Words) (tag : Tag) (role : Role) (scope at : ℕ) {shape : Bool} (third : Shaped words tag role at shape)
+    (yes : not shape ≡ false) where
+  shaped : shapely words tag role scope at ≡ true
+  shaped = sym (third scope) ∙ not-false shape yes
+
+  pub shaped-there : There words tag at
+  shaped-there =
+      fits-there words tag role scope at
+      (leb-true _ _ (and-right (own words tag role scope at .shape) _ shaped))
 
 -- the code's answers, yes if the test for a refusal was false
 module _ (table words : Words) (tag : Tag) (role : Role) (above scope at : ℕ) {shape : Bool}
     (third : Shaped words tag role at shape) where
   pub shape-no : not shape ≡ true → refused Shape at ≡ questions table words tag role above scope at
   unfolding questions ask _>>=_
-  shape-no e = rw (← third table scope, not-true shape e)
+  shape-no e = rw (← third scope, not-true shape e)
 
   module _ (yes : not shape ≡ false) where
-    shaped : shapely table words tag role scope at ≡ true
-    shaped = sym (third table scope) ∙ not-false shape yes
-
-    pub shaped-there : There words tag at
-    shaped-there =
-        fits-there table words tag role scope at
-        (leb-true _ _ (and-right (own table words tag role scope at .shape) _ shaped))
-
     pub level-no : levelLimit < above + cost role tag → refused Level at ≡ questions table words tag role above scope at
     unfolding questions ask _>>=_
-    level-no h = rw (shaped, lt-leb (above + cost role tag) levelLimit h)
+    level-no h = rw (shaped words tag role scope at third yes, lt-leb (above + cost role tag) levelLimit h)
 
     module _ (shallow : above + cost role tag ≤ levelLimit) {predicate : Bool} (fifth : Known table words tag at predicate) where
       pub predicate-no : not predicate ≡ true → refused Predicate at ≡ questions table words tag role above scope at
       unfolding questions ask _>>=_
       predicate-no e =
-          rw (shaped, le-leb (above + cost role tag) levelLimit shallow, ← fifth role scope, not-true predicate e)
+          rw (shaped words tag role scope at third yes, le-leb (above + cost role tag) levelLimit shallow, ← fifth, not-true predicate e)
 
       module _ (exists : not predicate ≡ false) {variables : Bool} (sixth : Scoped words tag scope at variables) where
         pub variable-no : not variables ≡ true → refused Variable at ≡ questions table words tag role above scope at
         unfolding questions ask _>>=_
         variable-no e =
             rw (
-              shaped,
+              shaped words tag role scope at third yes,
               le-leb (above + cost role tag) levelLimit shallow,
-              ← fifth role scope,
+              ← fifth,
               not-false predicate exists,
-              ← sixth table role,
+              ← sixth role,
               not-true variables e,
             )
 
@@ -77,10 +80,10 @@ module _ (table words : Words) (tag : Tag) (role : Role) (above scope at : ℕ) 
         unfolding questions ask _>>=_
         all-yes e =
             rw (
-              shaped,
+              shaped words tag role scope at third yes,
               le-leb (above + cost role tag) levelLimit shallow,
-              ← fifth role scope,
+              ← fifth,
               not-false predicate exists,
-              ← sixth table role,
+              ← sixth role,
               not-false variables e,
             )

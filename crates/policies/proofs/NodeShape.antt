@@ -8,7 +8,6 @@ use mathlib.Core.Bool.{Bool, true, false, _&&_}
 use lib.ListN.{length}
 use lib.Dec.{leb}
 use borrow.Author.Tests.{leb-true, leb-false, le-leb, lt-leb}
-use mathlib.Core.List.{[]}
 use Rattle.model.specs.Words.{Words, value}
 use Rattle.model.specs.Tag.{Tag}
 use Rattle.model.specs.Level.{Role, formula}
@@ -39,16 +38,16 @@ fitting-same size at n h =
     (λ e. e ∙ sym (not-fitting size at n h (leb-false _ _ e)))
     (decide (leb size (n - at)))
 
-module _ (table words : Words) (tag : Tag) (role : Role) (scope at : ℕ) (h : at ≤ length words) where
+module _ (words : Words) (tag : Tag) (role : Role) (scope at : ℕ) (h : at ≤ length words) where
   -- too few words are left for the node's own
-  pub short : length words - at < own table words tag role scope at .size → false ≡ shapely table words tag role scope at
-  short k = and-no (own table words tag role scope at .shape) (not-fitting _ at _ h k)
+  pub short : length words - at < own words tag role scope at .size → false ≡ shapely words tag role scope at
+  short k = and-no (own words tag role scope at .shape) (not-fitting _ at _ h k)
 
   -- enough are left: their ranges decide
   pub enough :
-      own table words tag role scope at .size ≤ length words - at →
-      own table words tag role scope at .shape ≡ shapely table words tag role scope at
-  enough k = and-yes (own table words tag role scope at .shape) (fitting _ at _ h k)
+      own words tag role scope at .size ≤ length words - at →
+      own words tag role scope at .shape ≡ shapely words tag role scope at
+  enough k = and-yes (own words tag role scope at .shape) (fitting _ at _ h k)
 
 -- m tuples of at least one number are more than the words that are left, if m is
 pub too-many : (v m left : ℕ) → 1 ≤ v → left < m → left < 3 + v * m
@@ -62,13 +61,13 @@ four-times v m left h k l = omega (arith, mul-le-mul-right m h)
 module _ (words : Words) (tag : Tag) (at : ℕ) (h : There words tag at) where
   pub atom-there : {b : Bool} → tag ≡ Tag.atom b → at + (3 + 2 * value words (at + 2)) ≤ length words
   unfolding own
-  atom-there e = rw e at (h [] formula 0)
+  atom-there e = rw e at (h formula 0)
 
   pub compare-there : {b : Bool} → tag ≡ Tag.compare b → at + 6 ≤ length words
   unfolding own
-  compare-there e = rw e at (h [] formula 0)
+  compare-there e = rw e at (h formula 0)
 
   pub quantifier-there :
       {b : Bool} → tag ≡ Tag.quantifier b → at + (3 + value words (at + 1) * value words (at + 2)) ≤ length words
   unfolding own
-  quantifier-there e = rw e at (h [] formula 0)
+  quantifier-there e = rw e at (h formula 0)

@@ -27,7 +27,7 @@ unfolding tags
 no-tag n h = sym (List·getD-eq-default tags Tag.unused h)
 
 -- what is none of the numbers below k is at least k
-abbrev pub NoneBelow : ℕ → ℕ → Type 0
+abbrev pub NoneBelow : (k n : ℕ) → Type 0
 NoneBelow zero n = Unit {0}
 NoneBelow (suc k) n = NoneBelow k n × (n ≡ k → ⊥)
 

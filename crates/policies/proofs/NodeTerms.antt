@@ -10,7 +10,7 @@ use Rattle.model.specs.Lists.{span, all}
 use Rattle.model.specs.Reading.{places}
 
 -- the terms from number i on, of n that begin at `first`, pass a test
-abbrev pub from : (ℕ → Bool) → ℕ → ℕ → ℕ → Bool
+abbrev pub from : (test : ℕ → Bool) (first n i : ℕ) → Bool
 from test first n i = all test (map (λ k. first + 2 * k) (span i (n - i)))
 
 module _ (test : ℕ → Bool) (first n : ℕ) where

@@ -63,7 +63,7 @@ module _ (role : Role) (above : ℕ) where
       go (passed f) = refl
 
 -- the tags of nodes with no node below them
-abbrev pub Leaf : Tag → Type 0
+abbrev pub Leaf : (tag : Tag) → Type 0
 Leaf (Tag.plain b) = Unit {0}
 Leaf (Tag.atom b) = Unit {0}
 Leaf (Tag.compare b) = Unit {0}
@@ -72,13 +72,13 @@ Leaf (Tag.quantifier b) = ⊥
 Leaf Tag.some = ⊥
 Leaf Tag.unused = Unit {0}
 
-module _ (table words : Words) (read : Reader) (role : Role) (above scope at : ℕ) where
+module _ (words : Words) (read : Reader) (role : Role) (above scope at : ℕ) where
   leaf-levels :
       (tag : Tag) →
       Leaf tag →
-      own table words tag role scope at .shape ≡ true →
-      Read (at + own table words tag role scope at .size) (above + cost role tag)
-      ≡ told role above (build table words read tag role (above + cost role tag) scope at)
+      own words tag role scope at .shape ≡ true →
+      Read (at + own words tag role scope at .size) (above + cost role tag)
+      ≡ told role above (build words read tag role (above + cost role tag) scope at)
   unfolding told build own cost greatest
   leaf-levels (Tag.plain b) l e = refl
   leaf-levels (Tag.atom b) l e = rw (add-assoc at 3 (2 * value words (at + 2)))
@@ -118,7 +118,7 @@ pub record Entered (table words : Words) (role : Role) (above scope at : ℕ) (t
   pub known : tag ≡ tagOf (word words at)
   pub yes : passed tt ≡ questions table words tag role above scope at
   pub deep : level ≡ above + cost role tag
-  pub first : next ≡ at + own table words tag role scope at .size
+  pub first : next ≡ at + own words tag role scope at .size
 
 module _ {table words : Words} {role : Role} {above scope at : ℕ} {tag : Tag} {level next : ℕ}
     (node : Entered table words role above scope at tag level next) where
@@ -147,7 +147,7 @@ module _ {table words : Words} {role : Role} {above scope at : ℕ} {tag : Tag} 
   built :
       {r : Walked} →
       ((depth : ℕ) → levelLimit < depth + level →
-      r ≡ told role above (build table words (readNode table words depth) tag role (above + cost role tag) scope at)) →
+      r ≡ told role above (build words (readNode table words depth) tag role (above + cost role tag) scope at)) →
       NodeTold table words role above scope at r
   unfolding readNode _>>=_
   built h =
@@ -194,4 +194,4 @@ module _ {table words : Words} {role : Role} {above scope at : ℕ} {tag : Tag} 
   leaf-tells l =
       built λ depth k.
       rw (node .first, node .deep)
-      (leaf-levels table words (readNode table words depth) role above scope at tag l (answers .shape))
+      (leaf-levels words (readNode table words depth) role above scope at tag l (answers .shape))

@@ -107,7 +107,7 @@ module _ (role : Role) (above : ℕ) (one : ℕ → Outcome (R.Read Tree)) (n i 
           let more : n - i ≡ suc (n - (i + 1)) = omega arith in rw (more, read, ← index, ← most) (levels r (repeat (n - (i + 1)) one (r .next)))
 
 -- what all n nodes tell, those left do
-abbrev pub Left : Words → Words → Role → ℕ → ℕ → ℕ → ℕ → ℕ → ℕ → ℕ → Type 0
+abbrev pub Left : (table words : Words) (role : Role) (above scope n at i next level : ℕ) → Type 0
 Left table words role above scope n at i next level =
     (depth : ℕ) → levelLimit < depth + above →
     toldAll role above (repeat n (readNode table words depth role above scope) at)

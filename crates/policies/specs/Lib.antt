@@ -1,3 +1,3 @@
-pub mod Mode
+pub mod Standing
 pub mod Node
 pub mod Policy

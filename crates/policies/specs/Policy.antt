@@ -37,17 +37,17 @@ toldPolicy policy (refused q p) = Refused q p
 toldPolicy policy (passed t) = Read (length policy) (greatest t formula 0)
 
 -- r is what is told of the node at an index, read at any depth that is not spent before the level limit
-abbrev pub NodeTold : Words → Words → Role → ℕ → ℕ → ℕ → Walked → Type 0
+abbrev pub NodeTold : (table words : Words) (role : Role) (above scope at : ℕ) (r : Walked) → Type 0
 NodeTold table words role above scope at r =
     (depth : ℕ) → levelLimit < depth + above → r ≡ told role above (readNode table words depth role above scope at)
 
 -- the same of n nodes one behind another
-abbrev pub NodesTold : Words → Words → Role → ℕ → ℕ → ℕ → ℕ → Walked → Type 0
+abbrev pub NodesTold : (table words : Words) (role : Role) (above scope n at : ℕ) (r : Walked) → Type 0
 NodesTold table words role above scope n at r =
     (depth : ℕ) → levelLimit < depth + above → r ≡ toldAll role above (repeat n (readNode table words depth role above scope) at)
 
 -- the same of the restriction and the body of a quantifier at a level
-abbrev pub BothTold : Words → Words → ℕ → ℕ → ℕ → Walked → Type 0
+abbrev pub BothTold : (table words : Words) (level scope at : ℕ) (r : Walked) → Type 0
 BothTold table words level scope at r =
     (depth : ℕ) → levelLimit < depth + level →
     r ≡ toldBoth level (readNode table words depth restriction level scope at) (readNode table words depth formula level scope)

@@ -1,4 +1,3 @@
-// The policy: questions 2 to 6 in one walk, and question 7, the mode rule, in another.
-pub mod mode;
+// The policy: questions 2 to 6, in one walk.
 pub mod node;
 pub mod policy;

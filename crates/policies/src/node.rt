@@ -1,7 +1,7 @@
 // Nodes: the tag of a node, what it costs, and questions 3 to 6 at one node.
 use model::Refusal;
 use tables::Checked;
-use tables::words;
+use tables::table;
 ghost use mathlib.Core.Path.{_≡_};
 ghost use mathlib.Core.Bool.{Bool, true};
 ghost use Prim.Native.Nat.{_+_, _*_, _^_, _≤_, _<_};
@@ -95,7 +95,7 @@ pub fn cost(role: Role, tag: Tag) -> usize
 // Each of the n terms from an index on is of kind 0 or 1.
 fn kinds(words: &[i32], first: usize, n: usize) -> bool
     requires { ⌜ first + 2 * n < 2 ^ 64 ⌝ }
-    ensures { λ r. ⌜ ((table : W.Words) → r ≡ all (goodKind table (now (words .entry))) (places first n)) ⌝ }
+    ensures { λ r. ⌜ r ≡ all (goodKind (now (words .entry))) (places first n) ⌝ }
 {
     let mut i = 0;
     while i < n {
@@ -110,7 +110,7 @@ fn kinds(words: &[i32], first: usize, n: usize) -> bool
 // The term at an index is a constant, or one of the variables in scope.
 fn in_scope(words: &[i32], scope: usize, i: usize) -> bool
     requires { ⌜ i + 1 < 2 ^ 64 ⌝ }
-    ensures { λ r. ⌜ ((table : W.Words) → r ≡ inScope table (now (words .entry)) scope i) ⌝ }
+    ensures { λ r. ⌜ r ≡ inScope (now (words .entry)) scope i ⌝ }
 {
     if words::is(words, i, 0) {
         return true;
@@ -121,9 +121,7 @@ fn in_scope(words: &[i32], scope: usize, i: usize) -> bool
 // Each of the n terms from an index on is a constant, or one of the variables in scope.
 fn variables(words: &[i32], scope: usize, first: usize, n: usize) -> bool
     requires { ⌜ first + 2 * n < 2 ^ 64 ⌝ }
-    ensures { λ r. ⌜
-        ((table : W.Words) → r ≡ all (inScope table (now (words .entry)) scope) (places first n))
-        ⌝ }
+    ensures { λ r. ⌜ r ≡ all (inScope (now (words .entry)) scope) (places first n) ⌝ }
 {
     let mut i = 0;
     while i < n {
@@ -245,11 +243,11 @@ fn arity_fits(table: &[i32], words: &[i32], at: usize) -> bool
     requires { ⌜ at ≤ length (now words) ⌝ }
     ensures { λ r. ⌜ ((b : Bool) → Known (now (table .entry)) (now (words .entry)) (T.Tag.atom b) at r) ⌝ }
 {
-    if !words::below(words, at + 1, table.len() / 3) {
+    if !words::below(words, at + 1, table::predicates(table)) {
         return false;
     }
     let p = words::value(words, at + 1);
-    words::value(table, 3 * p) == words::value(words, at + 2)
+    table::arity(table, p) == words::value(words, at + 2)
 }
 
 // Question 5 at a node.

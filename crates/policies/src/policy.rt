@@ -4,7 +4,6 @@ use crate::node::Role;
 use crate::node::Tag;
 use model::Refusal;
 use tables::Checked;
-use tables::words;
 ghost use mathlib.Core.Path.{_≡_};
 ghost use Prim.Native.Nat.{_≤_, max};
 ghost use lib.ListN.{length};
@@ -100,7 +99,7 @@ fn walk(table: &[i32], words: &[i32], role: Role, above: usize, scope: usize, at
 }
 
 // Questions 2 to 6 of a policy: its length, its nodes, and that no words stand behind them.
-pub fn read_policy(table: &[i32], policy: &[i32]) -> Walked
+pub fn ask_policy(table: &[i32], policy: &[i32]) -> Walked
     ensures { λ r. ⌜
         r ≡ toldPolicy (now (policy .entry)) (readPolicy (now (table .entry)) (now (policy .entry)))
         ⌝ }

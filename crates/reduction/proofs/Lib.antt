@@ -1,9 +1,5 @@
 -- Laws that several proofs of this crate cite.
 pub mod Children
-pub mod GroundLaws
-pub mod LastLaws
-pub mod Concluding
-pub mod Preparing
 pub mod WalkChildren
 pub mod WalkNodes
 pub mod WalkInstances

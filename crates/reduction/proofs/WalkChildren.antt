@@ -15,7 +15,7 @@ use Rattle.model.specs.Joining.{append, joined}
 use Rattle.model.specs.Reduction.{reduce, reduceAll, need, needAll}
 use Rattle.laws.specs.Reading.Nodes.{Node, Nodes}
 use Rattle.laws.specs.Reading.Parts.{first-parts, rest-parts}
-use Rattle.policies.specs.Mode.{Here, HereAll}
+use Rattle.policies.specs.Standing.{Here, HereAll}
 use Rattle.environments.specs.declared.environment.Environment.{Environment}
 use Rattle.joining.specs.declared.answer.Reduced.{Reduced}
 use Rattle.joining.specs.declared.answer.Reduced.the-variants.{Short}
@@ -23,7 +23,7 @@ use Rattle.joining.specs.declared.join.Join.{Join}
 use Rattle.reduction.specs.declared.walk.Walked.{Walked}
 use Rattle.joining.specs.Answer.{told, Answers}
 use Rattle.joining.specs.Join.{Joining, Adding, added}
-use Rattle.reduction.specs.Ground.{Outer}
+use Rattle.nodes.specs.Ground.{Outer}
 use Rattle.reduction.specs.Walk.{ReducesNode, ReducesJoin}
 use Rattle.joining.proofs.Parts.{append-none}
 use Rattle.joining.proofs.Telling.{told-short, tell-short}
@@ -63,7 +63,7 @@ module _ (table words log : Words) (b : Bool) (above scope : ℕ) (held : Enviro
 
   module _ (n at : ℕ) where
     -- i children have been passed
-    abbrev pub ChildrenSoFar : ℕ → ℕ → Join → Words → Type 0
+    abbrev pub ChildrenSoFar : (i next : ℕ) (j : Join) (out : Words) → Type 0
     ChildrenSoFar i next j out =
         (ρ : List ℤ) → Outer held scope ρ → (ts : Trees) (end : ℕ) → Stand at ts end → count ts ≡ n →
         (done : Trees) × (rest : Trees) × Stand next rest end × (count rest + i ≡ n) × (ts ≡ append done rest)

@@ -21,9 +21,9 @@ use Rattle.model.specs.Joining.{append}
 use Rattle.model.specs.Reduction.{each, most, reduce, need}
 use Rattle.laws.specs.Reading.Nodes.{Node}
 use Rattle.laws.specs.Lists.Span.{drop-take}
-use Rattle.policies.specs.Mode.{Here}
-use Rattle.preorder.specs.Grown.{Grown, Tree-at}
-use Rattle.preorder.specs.Forming.{node-grown}
+use Rattle.policies.specs.Standing.{Here}
+use Rattle.trees.specs.Grown.{Grown, Tree-at}
+use Rattle.trees.proofs.Forming.{node-grown}
 use Rattle.environments.specs.declared.environment.Environment.{Environment}
 use Rattle.joining.specs.declared.answer.Reduced.{Reduced}
 use Rattle.joining.specs.declared.answer.Reduced.the-variants.{Short}
@@ -31,8 +31,8 @@ use Rattle.joining.specs.declared.join.Join.{Join}
 use Rattle.reduction.specs.declared.walk.Walked.{Walked}
 use Rattle.joining.specs.Answer.{Answers}
 use Rattle.joining.specs.Join.{Joining, Adding, added}
-use Rattle.reduction.specs.Ground.{Outer}
-use Rattle.reduction.specs.Last.{Found}
+use Rattle.nodes.specs.Ground.{Outer}
+use Rattle.nodes.specs.Last.{Found}
 use Rattle.reduction.specs.Walk.{ReducesNode, bodies, needs, Works}
 use Rattle.joining.proofs.answer.Reduced.{the-type}
 use Rattle.joining.proofs.Telling.{told-means}
@@ -78,11 +78,11 @@ module _ (table words log : Words) (b : Bool) (level scope v body from k used : 
   Stands f end = Node table words formula level (scope + v) body f end
 
   -- scratch as it was when the tuples stood there, in its length and its first places
-  abbrev pub ScratchKept : Words → Type 0
+  abbrev pub ScratchKept : (now : Words) → Type 0
   ScratchKept now = (length now ≡ length scratch) × (take (17 * used) now ≡ take (17 * used) scratch)
 
   -- i instances have been passed
-  abbrev pub InstancesSoFar : ℕ → ℕ → Join → Words → Type 0
+  abbrev pub InstancesSoFar : (i next : ℕ) (j : Join) (out : Words) → Type 0
   InstancesSoFar i next j out =
       (ρ : List ℤ) (found : List (List ℤ)) (f : Tree) (end : ℕ) →
       Outer held scope ρ →
@@ -93,7 +93,7 @@ module _ (table words log : Words) (b : Bool) (level scope v body from k used : 
       × (j .short ≡ false)
 
   -- some outer numbers, some tuples, and the body: what the caller has
-  abbrev pub SomeOuter : Environment → ℕ → Type 0
+  abbrev pub SomeOuter : (e : Environment) (n : ℕ) → Type 0
   SomeOuter e n = (ρ : List ℤ) × Outer e n ρ
 
   abbrev pub SomeFound : Type 0

@@ -15,17 +15,17 @@ use Rattle.model.specs.Reduction.{reduce, need}
 use Rattle.laws.specs.Reading.Formed.{Formed}
 use Rattle.laws.specs.Reading.Nodes.{Node, Nodes}
 use Rattle.laws.specs.Reading.Parts.{plain-parts, atom-parts, compare-parts, join-parts}
-use Rattle.policies.specs.Mode.{HereAll}
-use Rattle.policies.proofs.ModeWalk.{has}
-use Rattle.policies.proofs.ModeFormula.{Stood}
+use Rattle.policies.specs.Standing.{HereAll}
+use Rattle.policies.proofs.Standing.{has}
+use Rattle.policies.proofs.Stood.{Stood}
 use Rattle.environments.specs.declared.environment.Environment.{Environment}
 use Rattle.joining.specs.declared.answer.Reduced.{Reduced}
 use Rattle.joining.specs.declared.answer.Reduced.the-variants.{Plain}
 use Rattle.reduction.specs.declared.walk.Walked.{Walked}
-use Rattle.reduction.specs.Ground.{AtomAt, CompareAt, ReducesAtom, ReducesCompare}
-use Rattle.reduction.specs.Walk.{Reduces, ReducesNode, ReducesJoin, QuantifierAt, ReducesQuantifier}
+use Rattle.nodes.specs.Ground.{AtomAt, CompareAt, ReducesAtom, ReducesCompare}
+use Rattle.reduction.specs.Walk.{Reduces, ReducesNode, ReducesJoin, HereQuantified, ReducesQuantifier}
 use Rattle.joining.proofs.Answering.{answers-plain}
-use Rattle.reduction.proofs.GroundLaws.{compare-answers}
+use Rattle.nodes.proofs.GroundLaws.{compare-answers}
 
 -- a formula under an all-of or any-of is an operand of it
 operand-under : (role : Role) (b : Bool) → isFormula role ≡ true → operand b ≡ under role b
@@ -43,8 +43,8 @@ module _ (table words log : Words) {role : Role} {above scope at : ℕ} {tag : T
   same-node {end = end} e s = subst (λ (t : Tree). Stands t end) e s
 
   -- how many words the node's own are
-  own-words : {other : Tag} → tag ≡ other → next ≡ at + own table words other role scope at .size
-  own-words e = node .first ∙ ap (λ (t : Tag). at + own table words t role scope at .size) e
+  own-words : {other : Tag} → tag ≡ other → next ≡ at + own words other role scope at .size
+  own-words e = node .first ∙ ap (λ (t : Tag). at + own words t role scope at .size) e
 
   module _ (held : Environment) (places : ℕ) where
     abbrev Reduced-so : Words → Words → Walked → Type 0
@@ -135,7 +135,7 @@ module _ (table words log : Words) {role : Role} {above scope at : ℕ} {tag : T
       unfolding cost
       deep = node .deep ∙ ap (λ (t : Tag). above + cost role t) e
 
-      pub quantifier-here : QuantifierAt table words b level scope at
+      pub quantifier-here : HereQuantified table words b level scope at
       quantifier-here =
           let (t, end, s) = node .here in
           let (v, excluded, c, f, is) = has table words role above scope at (Tag.quantifier b) (sym e ∙ node .known) t end s in

@@ -25,15 +25,16 @@ use Rattle.laws.specs.Reading.Parts.{QuantifierParts, quantifier-parts}
 use Rattle.environments.specs.declared.environment.Environment.{Environment}
 use Rattle.joining.specs.declared.answer.Reduced.{Reduced}
 use Rattle.joining.specs.declared.answer.Reduced.the-variants.{Short}
-use Rattle.reduction.specs.declared.prepare.Prepared.{Prepared}
-use Rattle.reduction.specs.declared.prepare.Prepared.the-variants as P
+use Rattle.nodes.specs.declared.prepare.Placed.{Placed}
+use Rattle.nodes.specs.declared.prepare.Prepared.{Prepared}
+use Rattle.nodes.specs.declared.prepare.Prepared.the-variants as P
 use Rattle.reduction.specs.declared.walk.Walked.{Walked}
 use Rattle.reduction.specs.declared.walk.Worked.{Worked}
 use Rattle.joining.specs.Answer.{settled, told, Answers}
-use Rattle.reduction.specs.Ground.{Outer}
-use Rattle.reduction.specs.Last.{Found}
-use Rattle.reduction.specs.Prepare.{Stood, Tells, instancesAt, listed}
-use Rattle.reduction.specs.Conclude.{Quantified, Concluding}
+use Rattle.nodes.specs.Ground.{Outer}
+use Rattle.nodes.specs.Last.{Found}
+use Rattle.nodes.specs.Prepare.{InstancesStand, InstancesTell, instancesAt, listed}
+use Rattle.nodes.specs.Conclude.{Quantified, Concluding}
 use Rattle.reduction.specs.Walk.{Reduces, bodies, needs, Works}
 use Rattle.joining.proofs.Lending.{answers-from}
 use Rattle.reduction.proofs.WalkChildren.{answers-short}
@@ -119,7 +120,7 @@ module _ (table words log : Words) (b : Bool) (level scope at u : ℕ) (is : u �
           (sym found-are)
 
       -- the residual with so many instances
-      abbrev pub residual : List (List ℤ) → Tree
+      abbrev pub residual : (τs : List (List ℤ)) → Tree
       residual τs =
           joined b (append (bodies table log f ρ τs) (cond (closed c table) nil (cons (quantifier b v (excluded ++ τs) (put c ρ) (put f ρ)) nil)))
 
@@ -142,17 +143,17 @@ module _ (table words log : Words) (b : Bool) (level scope at u : ℕ) (is : u �
       -- what was prepared
       pub prepared-short :
           (places : ℕ) (scratch : Words) (r : Prepared) → r ≡ P.Short →
-          Tells table words log scope u at c ρ bodyAt places scratch r →
+          InstancesTell table words log scope u at c ρ bodyAt places scratch r →
           places < listed table log scope u c ρ + needs table log f ρ found
       prepared-short places scratch r e t =
-          let few : places < listed table log scope u c ρ = subst (Tells table words log scope u at c ρ bodyAt places scratch) e t in
+          let few : places < listed table log scope u c ρ = subst (InstancesTell table words log scope u at c ρ bodyAt places scratch) e t in
           omega arith
 
       pub prepared-stood :
-          (places : ℕ) (scratch : Words) (r : Prepared) (from k used x : ℕ) → r ≡ P.Instances from k used x →
-          Tells table words log scope u at c ρ bodyAt places scratch r →
-          Stood table words log scope u at c ρ bodyAt places scratch from k used x
-      prepared-stood places scratch r from k used x e t = subst (Tells table words log scope u at c ρ bodyAt places scratch) e t
+          (places : ℕ) (scratch : Words) (r : Prepared) (p : Placed) → r ≡ P.Instances p →
+          InstancesTell table words log scope u at c ρ bodyAt places scratch r →
+          InstancesStand table words log scope u at c ρ bodyAt places scratch p
+      prepared-stood places scratch r p e t = subst (InstancesTell table words log scope u at c ρ bodyAt places scratch) e t
 
       -- the bodies and the last part are joined
       pub quantifier-whole :
@@ -186,10 +187,9 @@ module _ (table words log : Words) (b : Bool) (level scope at u : ℕ) (is : u �
 
       -- what is concluded
       abbrev pub concluding :
-          (scratch now out : Words) (from k used places body : ℕ) (w : Worked) →
-          from + k ≤ used → take (17 * used) now ≡ take (17 * used) scratch →
-          Found scratch scope from u k found → body ≡ bodyAt →
-          Works b table log f ρ found places next out w → w .join .short ≡ false →
+          (scratch now out : Words) (from k used places body : ℕ) (w : Worked) (below : from + k ≤ used)
+          (kept : take (17 * used) now ≡ take (17 * used) scratch) (s : Found scratch scope from u k found) (is-body : body ≡ bodyAt)
+          (works : Works b table log f ρ found places next out w) (e : w .join .short ≡ false) →
           Concluding table words now out held scope at body (w .next) from k (w .join)
       concluding scratch now out from k used places body w below kept s is-body works e = record {
         b = b;

@@ -1,5 +1,1 @@
-pub mod Ground
-pub mod Last
-pub mod Prepare
-pub mod Conclude
 pub mod Walk

@@ -16,8 +16,8 @@ use Rattle.reduction.specs.declared.walk.Walked.{Walked}
 use Rattle.reduction.specs.declared.walk.Worked.{Worked}
 use Rattle.joining.specs.Answer.{Answers}
 use Rattle.joining.specs.Join.{Joining}
-use Rattle.reduction.specs.Ground.{Outer}
-use Rattle.reduction.specs.Conclude.{Quantified}
+use Rattle.nodes.specs.Ground.{Outer}
+use Rattle.nodes.specs.Conclude.{Quantified}
 
 -- the walk of a tree: its answer, and, unless the places ran out, the index behind the tree
 pub record Reduces (table log : Words) (t : Tree) (ρ : List ℤ) (places next : ℕ) (before after : Words) (r : Walked) : Type 0 where
@@ -25,14 +25,18 @@ pub record Reduces (table log : Words) (t : Tree) (ρ : List ℤ) (places next :
   pub behind : (r .answer ≡ Short → ⊥) → r .next ≡ next
 
 -- the formula at an index; the children of a join; a quantifier at a level
-abbrev pub ReducesNode : Words → Words → Words → Role → ℕ → ℕ → ℕ → Environment → ℕ → Words → Words → Walked → Type 0
+abbrev pub ReducesNode :
+    (table words log : Words) (role : Role) (above scope at : ℕ) (held : Environment) (places : ℕ) (before after : Words) (r : Walked) →
+    Type 0
 ReducesNode table words log role above scope at held places before after r =
     (ρ : List ℤ) (t : Tree) (next : ℕ) →
     Outer held scope ρ →
     Node table words role above scope at t next →
     Reduces table log t ρ places next before after r
 
-abbrev pub ReducesJoin : Bool → Words → Words → Words → ℕ → ℕ → ℕ → ℕ → Environment → ℕ → Words → Words → Walked → Type 0
+abbrev pub ReducesJoin :
+    (b : Bool) (table words log : Words) (above scope n at : ℕ) (held : Environment) (places : ℕ) (before after : Words) (r : Walked) →
+    Type 0
 ReducesJoin b table words log above scope n at held places before after r =
     (ρ : List ℤ) (ts : Trees) (next : ℕ) →
     Outer held scope ρ →
@@ -41,11 +45,13 @@ ReducesJoin b table words log above scope n at held places before after r =
     Reduces table log (join b ts) ρ places next before after r
 
 -- a quantifier stands at an index, at a level
-abbrev pub QuantifierAt : Words → Words → Bool → ℕ → ℕ → ℕ → Type 0
-QuantifierAt table words b level scope at =
+abbrev pub HereQuantified : (table words : Words) (b : Bool) (level scope at : ℕ) → Type 0
+HereQuantified table words b level scope at =
     (v : ℕ) × (excluded : List (List ℤ)) × (c : Tree) × (f : Tree) × (next : ℕ) × Quantified table words b level scope at v excluded c f next
 
-abbrev pub ReducesQuantifier : Bool → Words → Words → Words → ℕ → ℕ → ℕ → Environment → ℕ → Words → Words → Walked → Type 0
+abbrev pub ReducesQuantifier :
+    (b : Bool) (table words log : Words) (level scope at : ℕ) (held : Environment) (places : ℕ) (before after : Words) (r : Walked) →
+    Type 0
 ReducesQuantifier b table words log level scope at held places before after r =
     (ρ : List ℤ) (v : ℕ) (excluded : List (List ℤ)) (c f : Tree) (next : ℕ) →
     Outer held scope ρ →
@@ -53,10 +59,10 @@ ReducesQuantifier b table words log level scope at held places before after r =
     Reduces table log (quantifier b v excluded c f) ρ places next before after r
 
 -- the body of a quantifier at its instances: their residuals, joined so far, and the index behind the body
-abbrev pub bodies : Words → Words → Tree → List ℤ → List (List ℤ) → Trees
+abbrev pub bodies : (table log : Words) (f : Tree) (ρ : List ℤ) (found : List (List ℤ)) → Trees
 bodies table log f ρ found = M.each (λ τ. M.reduce table (rows log) f (ρ ++ τ)) found
 
-abbrev pub needs : Words → Words → Tree → List ℤ → List (List ℤ) → ℕ
+abbrev pub needs : (table log : Words) (f : Tree) (ρ : List ℤ) (found : List (List ℤ)) → ℕ
 needs table log f ρ found = M.most (λ τ. M.need table (rows log) f (ρ ++ τ)) found
 
 pub record Works (b : Bool) (table log : Words) (f : Tree) (ρ : List ℤ) (found : List (List ℤ)) (places next : ℕ) (after : Words) (r : Worked) : Type 0 where

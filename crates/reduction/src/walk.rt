@@ -1,16 +1,16 @@
 // The reduction of a formula: the walk of formulas and the walk of instances call each other, a level down each time.
-use crate::conclude;
-use crate::ground;
-use crate::prepare;
-use crate::prepare::Prepared;
 use environments::environment::Environment;
 use joining::answer::Reduced;
 use joining::join::Join;
+use nodes::conclude;
+use nodes::ground;
+use nodes::prepare;
+use nodes::prepare::Placed;
+use nodes::prepare::Prepared;
 use policies::node;
 use policies::node::Role;
 use policies::node::Tag;
-use preorder::walk;
-use tables::words;
+use trees::walk;
 ghost use mathlib.Core.Path.{_≡_};
 ghost use mathlib.Core.Bool.{true};
 ghost use mathlib.Core.List.{List};
@@ -21,11 +21,11 @@ ghost use Rattle.model.specs.Tree.{Tree};
 ghost use Rattle.model.specs.Level as L;
 ghost use Rattle.model.specs.Reading.{isFormula};
 ghost use Rattle.laws.specs.Reading.Nodes.{Node};
-ghost use Rattle.policies.specs.Mode.{Here, HereAll};
+ghost use Rattle.policies.specs.Standing.{Here, HereAll};
 ghost use Rattle.policies.specs.Node.{asRole};
 ghost use Rattle.listing.specs.Restrictions.{Chains};
-ghost use Rattle.reduction.specs.Ground.{Outer};
-ghost use Rattle.reduction.specs.Last.{Found};
+ghost use Rattle.nodes.specs.Ground.{Outer};
+ghost use Rattle.nodes.specs.Last.{Found};
 ghost use Rattle.reduction.specs.Walk as R;
 
 // The answer of a walk, and the index behind the formula.
@@ -45,8 +45,7 @@ fn children(
     table: &[i32],
     words: &[i32],
     log: &[i32],
-    atoms: &[u16],
-    trues: &[u16],
+    links: &[u16],
     scratch: &mut [i32],
     out: &mut [i32],
     environment: Environment,
@@ -57,7 +56,7 @@ fn children(
     at: usize,
 ) -> Walked
     requires { ⌜
-        Chains (now table) (now log) (now atoms) (now trues)
+        Chains (now table) (now log) (now links)
         × (above ≤ 64)
         × (scope ≤ 16)
         × (length (now out) ≤ 1048576)
@@ -77,8 +76,7 @@ fn children(
             table,
             words,
             log,
-            atoms,
-            trues,
+            links,
             scratch,
             &mut out[from..],
             environment,
@@ -99,13 +97,12 @@ fn children(
     Walked { answer, next }
 }
 
-// The body of a quantifier at each of its k instances, whose tuples stand in places of scratch below `used`.
+// The body of a quantifier at each of its instances, whose tuples stand in places of scratch.
 fn instances(
     table: &[i32],
     words: &[i32],
     log: &[i32],
-    atoms: &[u16],
-    trues: &[u16],
+    links: &[u16],
     scratch: &mut [i32],
     out: &mut [i32],
     environment: Environment,
@@ -113,44 +110,44 @@ fn instances(
     level: usize,
     scope: usize,
     v: usize,
-    body: usize,
-    from: usize,
-    k: usize,
-    used: usize,
+    placed: Placed,
 ) -> Worked
     requires { ⌜
-        Chains (now table) (now log) (now atoms) (now trues)
+        Chains (now table) (now log) (now links)
         × (level ≤ 64)
         × (scope + v ≤ 16)
         × (length (now out) ≤ 1048576)
-        × Here (now table) (now words) L.Role.formula level (scope + v) body
-        × (from + k ≤ used)
-        × (17 * used ≤ length (now scratch))
+        × Here (now table) (now words) L.Role.formula level (scope + v) (placed .body)
+        × (placed .from + placed .count ≤ placed .used)
+        × (17 * placed .used ≤ length (now scratch))
         × ((ρ : List ℤ) × Outer environment scope ρ)
-        × ((found : List (List ℤ)) × Found (now scratch) scope from v k found)
+        × ((found : List (List ℤ)) × Found (now scratch) scope (placed .from) v (placed .count) found)
         ⌝ }
     ensures { λ r. ⌜
         ((ρ : List ℤ) (found : List (List ℤ)) (f : Tree) (next : ℕ) →
         Outer environment scope ρ →
-        Found (now (scratch .entry)) scope from v k found →
-        Node (now (table .entry)) (now (words .entry)) L.Role.formula level (scope + v) body f next →
-        R.Works kind (now (table .entry)) (now (log .entry)) f ρ found (length (now (scratch .entry)) / 17 - used) next (now (out .exit)) r)
+        Found (now (scratch .entry)) scope (placed .from) v (placed .count) found →
+        Node (now (table .entry)) (now (words .entry)) L.Role.formula level (scope + v) (placed .body) f next →
+        R.Works kind (now (table .entry)) (now (log .entry)) f ρ found (length (now (scratch .entry)) / 17 - placed .used) next (now (out .exit)) r)
         ⌝ }
-    ensures { λ _. ⌜ take (17 * used) (now (scratch .exit)) ≡ take (17 * used) (now (scratch .entry)) ⌝ }
+    ensures { λ _. ⌜ take (17 * placed .used) (now (scratch .exit)) ≡ take (17 * placed .used) (now (scratch .entry)) ⌝ }
 {
+    let from = placed.from;
+    let k = placed.count;
+    let used = placed.used;
+    let body = placed.body;
     let mut join = Join::new(kind);
     let mut next = body;
     let mut i = 0;
     while i < k {
         let bound = ground::instance(environment, scratch, from + i, scope, v);
-        let room = 17 * used;
+        let room = Environment::WORDS * used;
         let start = join.words;
         let child = formula(
             table,
             words,
             log,
-            atoms,
-            trues,
+            links,
             &mut scratch[room..],
             &mut out[start..],
             bound,
@@ -181,8 +178,7 @@ fn quantifier(
     table: &[i32],
     words: &[i32],
     log: &[i32],
-    atoms: &[u16],
-    trues: &[u16],
+    links: &[u16],
     scratch: &mut [i32],
     out: &mut [i32],
     environment: Environment,
@@ -192,11 +188,11 @@ fn quantifier(
     at: usize,
 ) -> Walked
     requires { ⌜
-        Chains (now table) (now log) (now atoms) (now trues)
+        Chains (now table) (now log) (now links)
         × (level ≤ 64)
         × (scope ≤ 16)
         × (length (now out) ≤ 1048576)
-        × R.QuantifierAt (now table) (now words) kind level scope at
+        × R.HereQuantified (now table) (now words) kind level scope at
         × ((ρ : List ℤ) × Outer environment scope ρ)
         ⌝ }
     ensures { λ r. ⌜
@@ -208,8 +204,7 @@ fn quantifier(
         table,
         words,
         log,
-        atoms,
-        trues,
+        links,
         scratch,
         environment,
         level,
@@ -217,7 +212,7 @@ fn quantifier(
         v,
         at,
     );
-    let Prepared::Instances(from, k, used, body) = prepared else {
+    let Prepared::Instances(placed) = prepared else {
         return Walked {
             answer: Reduced::Short,
             next: at,
@@ -227,8 +222,7 @@ fn quantifier(
         table,
         words,
         log,
-        atoms,
-        trues,
+        links,
         scratch,
         out,
         environment,
@@ -236,10 +230,7 @@ fn quantifier(
         level,
         scope,
         v,
-        body,
-        from,
-        k,
-        used,
+        placed,
     );
     let join = worked.join;
     if join.short {
@@ -258,10 +249,8 @@ fn quantifier(
         join,
         scope,
         at,
-        body,
         next,
-        from,
-        k,
+        placed,
     );
     Walked { answer, next }
 }
@@ -271,8 +260,7 @@ pub fn formula(
     table: &[i32],
     words: &[i32],
     log: &[i32],
-    atoms: &[u16],
-    trues: &[u16],
+    links: &[u16],
     scratch: &mut [i32],
     out: &mut [i32],
     environment: Environment,
@@ -282,7 +270,7 @@ pub fn formula(
     at: usize,
 ) -> Walked
     requires { ⌜
-        Chains (now table) (now log) (now atoms) (now trues)
+        Chains (now table) (now log) (now links)
         × (above ≤ 64)
         × (scope ≤ 16)
         × (length (now out) ≤ 1048576)
@@ -303,7 +291,7 @@ pub fn formula(
             next,
         },
         Tag::Atom(b) => Walked {
-            answer: ground::atom(table, words, log, atoms, environment, scope, b, at, out),
+            answer: ground::atom(table, words, log, links, environment, scope, b, at, out),
             next,
         },
         Tag::Compare(b) => Walked {
@@ -316,8 +304,7 @@ pub fn formula(
                 table,
                 words,
                 log,
-                atoms,
-                trues,
+                links,
                 scratch,
                 out,
                 environment,
@@ -332,8 +319,7 @@ pub fn formula(
             table,
             words,
             log,
-            atoms,
-            trues,
+            links,
             scratch,
             out,
             environment,

@@ -1,5 +1,4 @@
 -- Laws that several proofs of this crate cite.
 pub mod ReduceSettling
-pub mod ReduceChains
 pub mod ReduceWalking
 pub mod ReduceCall

@@ -1,5 +1,5 @@
 -- The call reduce, question by question.
-use Prim.Native.Nat.{ℕ, _/_, _≤_}
+use Prim.Native.Nat.{ℕ, _/_}
 use mathlib.Core.Path.{_≡_, refl, sym, _∙_, subst}
 use mathlib.Core.List.{List, []}
 use lib.ListN.{length}
@@ -9,19 +9,17 @@ use Rattle.model.specs.declared.Refusal.{Refusal}
 use Rattle.model.specs.Words.{Words, placeWords}
 use Rattle.model.specs.Answer.{passed, refused, _>>=_}
 use Rattle.model.specs.Level.{formula}
-use Rattle.model.specs.Log.{rows, rowCount, askLog}
+use Rattle.model.specs.Log.{rows, askLog}
 use Rattle.model.specs.Table.{askTable}
 use Rattle.model.specs.Reading.{readPolicy}
 use Rattle.model.specs.Mode.{askModes}
 use Rattle.model.specs.Reduction.{reduce, need}
 use Rattle.model.specs.Calls.{checkPolicy, askResidual, askReduction}
 use Rattle.laws.specs.Table as T
-use Rattle.laws.specs.Log as L
 use Rattle.laws.specs.Calls.Policy.{accepted-asked}
 use Rattle.laws.specs.Reading.Encoded.{read-node}
 use Rattle.laws.specs.Reading.Nodes.{Node}
-use Rattle.logs.specs.Chain.{Chained}
-use Rattle.logs.specs.Key.{rowKey, atomKeys, TrueRows}
+use Rattle.logs.specs.Key.{Linked}
 use Rattle.listing.specs.Restrictions.{Chains}
 use Rattle.checks.specs.Accepts.{Accepts}
 use Rattle.residuals.specs.Residual.{settled, Leaves}
@@ -48,9 +46,6 @@ module _ (table policy log : Words) (scratch buffer : ℕ) where
         (askTable table ≡ passed tt) × (readPolicy table policy ≡ passed (accepts .0)) × (askModes (accepts .0) table 0 0 ≡ passed tt)
     tree-asked = accepted-asked table policy (accepts .0) (accepts .1)
 
-    pub table-short : length table ≤ 768
-    table-short = T.short table (T.accepted table (tree-asked .0))
-
     pub root : Node table policy formula 0 0 0 (accepts .0) (length policy)
     root = read-node table policy (accepts .0) (tree-asked .1)
 
@@ -60,16 +55,8 @@ module _ (table policy log : Words) (scratch buffer : ℕ) where
     log-refused after e = leaves-refused buffer after (rw (accepts .1, e) refl)
 
     module _ (logged : askLog table log ≡ passed tt) where
-      pub few-rows : rowCount log ≤ 4096
-      few-rows = L.accepted table log logged .short
-
-      pub chains :
-          {atoms trues : List ℕ} →
-          Chained (rowKey log) atomKeys (rowCount log) atoms →
-          TrueRows log trues →
-          Chains table log atoms trues
-      chains a t =
-          record { looks = record { few = T.accepted table (tree-asked .0) .few; accepted = logged; byAtom = a }; trueRows = t }
+      pub chains : {links : List ℕ} → Linked log links → Chains table log links
+      chains l = record { few = T.accepted table (tree-asked .0) .few; accepted = logged; linked = l }
 
       -- questions 11 and 12
       pub all-asked :

@@ -27,7 +27,7 @@ pub record Leaves (o : Outcome Words) (room : ℕ) (after : Words) (r : Answer) 
   pub wrote : take (count r) after ++ zeros (room - count r) ≡ filled room o
 
 -- so many words of a buffer are lent to the walk
-abbrev pub lendable : ℕ → ℕ
+abbrev pub lendable : (buffer : ℕ) → ℕ
 lendable buffer = min buffer policyLimit
 
 -- what the walk of a policy answered, in words of which so many as can be were lent to it

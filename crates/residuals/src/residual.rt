@@ -2,7 +2,7 @@
 use checks::check_policy;
 use environments::environment::Environment;
 use joining::answer::Reduced;
-use logs::key;
+use logs::links;
 use model::Answer;
 use model::Refusal;
 use policies::node::Role;
@@ -15,46 +15,15 @@ ghost use lib.ListN.{length, replicate};
 ghost use mathlib.Core.List.{[]};
 ghost use Rattle.model.specs.Words.{placeWords};
 ghost use Rattle.model.specs.Level as L;
-ghost use Rattle.model.specs.Log.{rowCount, rows};
+ghost use Rattle.model.specs.Log.{rows};
 ghost use Rattle.model.specs.Reduction.{reduce, need};
 ghost use Rattle.model.specs.Tree.{Tree, plain};
 ghost use Rattle.model.specs.Calls.{write, askReduction};
 ghost use Rattle.laws.specs.Reading.Nodes.{Node};
-ghost use Rattle.logs.specs.Chain.{Chained};
-ghost use Rattle.logs.specs.Key.{trueKey, predicateKeys, firstKey, firstKeys, TrueRows};
-ghost use Rattle.policies.specs.Mode.{Here};
+ghost use Rattle.policies.specs.Standing.{Here};
 ghost use Rattle.checks.specs.Accepts.{Accepts};
 ghost use Rattle.listing.specs.Restrictions.{Chains};
 ghost use Rattle.residuals.specs.Residual as R;
-
-// The true rows of a log, chained by their predicates.
-fn chain_predicates(log: &[i32], links: &mut [u16])
-    requires { ⌜ (rowCount (now log) ≤ 4096) × (now links ≡ replicate 4353 0) ⌝ }
-    ensures { λ _. ⌜ Chained (trueKey (now (log .entry))) predicateKeys (rowCount (now (log .entry))) (now (links .exit)) ⌝ }
-{
-    let rows = log.len() / 8;
-    let mut keys = [0; 4096];
-    key::by_predicate(log, &mut keys[..rows], links);
-}
-
-// The same by their predicates and first arguments.
-fn chain_firsts(log: &[i32], links: &mut [u16])
-    requires { ⌜ (rowCount (now log) ≤ 4096) × (now links ≡ replicate 8193 0) ⌝ }
-    ensures { λ _. ⌜ Chained (firstKey (now (log .entry))) firstKeys (rowCount (now (log .entry))) (now (links .exit)) ⌝ }
-{
-    let rows = log.len() / 8;
-    let mut keys = [0; 4096];
-    key::by_first(log, &mut keys[..rows], links);
-}
-
-// Both, one behind the other.
-fn chain_true(log: &[i32], trues: &mut [u16])
-    requires { ⌜ (rowCount (now log) ≤ 4096) × (now trues ≡ replicate 12546 0) ⌝ }
-    ensures { λ _. ⌜ TrueRows (now (log .entry)) (now (trues .exit)) ⌝ }
-{
-    chain_predicates(log, &mut trues[..key::PREDICATE_LINKS]);
-    chain_firsts(log, &mut trues[key::PREDICATE_LINKS..]);
-}
 
 // So many words of a buffer are lent to the walk: no residual has more.
 fn lendable(words: usize) -> usize
@@ -72,12 +41,11 @@ fn walk_policy(
     table: &[i32],
     policy: &[i32],
     log: &[i32],
-    atoms: &[u16],
-    trues: &[u16],
+    links: &[u16],
     scratch: &mut [i32],
     buffer: &mut [i32],
 ) -> Reduced
-    requires { ⌜ Chains (now table) (now log) (now atoms) (now trues) × Here (now table) (now policy) L.Role.formula 0 0 0 ⌝ }
+    requires { ⌜ Chains (now table) (now log) (now links) × Here (now table) (now policy) L.Role.formula 0 0 0 ⌝ }
     ensures { λ r. ⌜
         ((tree : Tree) (next : ℕ) →
         Node (now (table .entry)) (now (policy .entry)) L.Role.formula 0 0 0 tree next →
@@ -89,8 +57,7 @@ fn walk_policy(
         table,
         policy,
         log,
-        atoms,
-        trues,
+        links,
         scratch,
         &mut buffer[..room],
         Environment::empty(),
@@ -138,24 +105,22 @@ fn over_log(
     table: &[i32],
     policy: &[i32],
     log: &[i32],
-    atoms: &mut [u16],
-    trues: &mut [u16],
+    links: &mut [u16],
     scratch: &mut [i32],
     buffer: &mut [i32],
 ) -> Answer
     requires { ⌜
-        Accepts (now table) (now policy) × (now atoms ≡ replicate 20480 0) × (now trues ≡ replicate 12546 0)
+        Accepts (now table) (now policy) × (now links ≡ replicate 33026 0)
         ⌝ }
     ensures { λ r. ⌜
         R.Leaves (askReduction (now (table .entry)) (now (policy .entry)) (now (log .entry)) (length (now (scratch .entry))) (length (now (buffer .entry)))) (length (now (buffer .entry))) (now (buffer .exit)) r
         ⌝ }
 {
-    let checked = logs::log::check_log(table, log, atoms);
+    let checked = links::check_and_link(table, log, links);
     if let Checked::Refused(refusal, place) = checked {
         return Answer::Refused(refusal, place);
     }
-    chain_true(log, trues);
-    let reduced = walk_policy(table, policy, log, atoms, trues, scratch, buffer);
+    let reduced = walk_policy(table, policy, log, links, scratch, buffer);
     settle(reduced, buffer)
 }
 
@@ -175,7 +140,6 @@ pub fn residual(
     let Answer::Accepted(_) = accepted else {
         return accepted;
     };
-    let mut atoms = [0; 20480];
-    let mut trues = [0; 12546];
-    over_log(table, policy, log, &mut atoms, &mut trues, scratch, buffer)
+    let mut links = [0; links::LINKS];
+    over_log(table, policy, log, &mut links, scratch, buffer)
 }

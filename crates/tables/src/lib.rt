@@ -1,6 +1,5 @@
-// Words and the predicate table: question 1. Every other crate of code reads words through this one.
+// The predicate table: its records, and question 1.
 pub mod table;
-pub mod words;
 
 use model::Refusal;
 

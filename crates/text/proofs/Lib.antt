@@ -4,3 +4,4 @@ pub mod ReadingLaws
 pub mod WordLaws
 pub mod WritingLaws
 pub mod PutLaws
+pub mod WrittenLaws

@@ -16,7 +16,7 @@ pub record Wrote (text : Text) (at : ℕ) (out out′ : Text) (next : ℕ) : Typ
   pub stands : take next out′ ≡ take at out ++ text
 
 -- a text from an index on: too little room, or it stands there
-abbrev pub Puts : Text → ℕ → Text → Text → Put → Type 0
+abbrev pub Puts : (text : Text) (at : ℕ) (out out′ : Text) (put : Put) → Type 0
 Puts text at out out′ Full = length out < at + length text
 Puts text at out out′ (At next) = Wrote text at out out′ next
 

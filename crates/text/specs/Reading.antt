@@ -15,11 +15,11 @@ use Rattle.text.specs.declared.reading.Digits.{Digits}
 use Rattle.text.specs.declared.reading.Number.{Number}
 
 -- a number stands for another one as far as it is followed: they are equal, or both have more than 32 bits
-abbrev pub Follows : ℕ → ℕ → Type 0
+abbrev pub Follows : (m n : ℕ) → Type 0
 Follows m n = min m 2147483649 ≡ min n 2147483649
 
 -- a number with one digit more behind it. One that has more than 32 bits is not followed further
-abbrev pub raised : ℕ → ℕ → ℕ
+abbrev pub raised : (n b : ℕ) → ℕ
 raised n b = cond (ltb n 2147483649) (10 * n + (b - nought)) n
 
 -- the digits from an index on, up to the first byte that is none
@@ -31,12 +31,12 @@ pub record DigitsAt (text : Text) (at : ℕ) (r : Digits) : Type 0 where
   pub follows : Follows (r .magnitude) (numeral 0 (slice at (r .next) text))
 
 -- a sign and a magnitude
-abbrev pub signed : Bool → ℕ → ℤ
+abbrev pub signed : (b : Bool) (m : ℕ) → ℤ
 signed true m = negℤ (pos m)
 signed false m = pos m
 
 -- a magnitude has 32 bits with its sign
-abbrev pub Sized : Bool → ℕ → Type 0
+abbrev pub Sized : (b : Bool) (m : ℕ) → Type 0
 Sized true m = (1 ≤ m) × (m ≤ 2147483648)
 Sized false m = m ≤ 2147483647
 

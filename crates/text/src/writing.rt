@@ -1,6 +1,7 @@
-// Numbers in decimal, written into a text.
+// Numbers in decimal, written into a text, and the answer about a text that was written.
 use crate::bytes;
-use tables::words;
+use model::Answer;
+use model::Refusal;
 ghost use mathlib.Core.Path.{_≡_};
 ghost use mathlib.Core.List.{_++_};
 ghost use Prim.Native.Nat.{_≤_, _-_};
@@ -9,11 +10,22 @@ ghost use Rattle.model.specs.Words.{word};
 ghost use Rattle.model.specs.Decimal.{digits, decimal};
 ghost use Rattle.text.specs.Writing as N;
 ghost use Rattle.text.specs.Put.{Puts};
+ghost use Rattle.text.specs.Written as W;
 
 // What a writing leaves: too little room, or the index behind what was written.
 pub enum Put {
     Full,
     At(usize),
+}
+
+// The answer about a text that was written, or found too little room.
+pub fn written(put: Put) -> Answer
+    ensures { λ r. ⌜ r ≡ W.written put ⌝ }
+{
+    match put {
+        Put::Full => Answer::Refused(Refusal::Room, 0),
+        Put::At(bytes) => Answer::Accepted(bytes),
+    }
 }
 
 // How many digits a number has, of at most ten.

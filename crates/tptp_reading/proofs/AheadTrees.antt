@@ -21,9 +21,9 @@ use Rattle.model.specs.Tptp.{binder, unequals, excludes, restricted, isJoin, en
 use Rattle.model.specs.TptpReading.{Got, behindBlanks, beginsWith, readers}
 use Rattle.laws.specs.Words.Tests.{decide, and-left, and-right, and-false, or-cases, or-false-left, or-false-right}
 use Rattle.laws.specs.Lists.Membership.{all-mem, all-intro, all-append}
-use Rattle.laws.specs.Tptp.Stand.{stand-split}
-use Rattle.laws.specs.Tptp.Sound.{operand-sound}
-use Rattle.tptp_tokens.specs.Ahead.{stopping}
+use Rattle.laws.specs.Tptp.Spelling.TokensInFront.{stand-split}
+use Rattle.laws.specs.Tptp.Sound.Policies.{operand-sound}
+use Rattle.tptp_binders.specs.Ahead.{stopping}
 
 -- a byte that is no parenthesis and no connective is passed at every depth
 unfoldable quiet : ℕ → Bool

@@ -25,26 +25,26 @@ use Rattle.model.specs.declared.Refusal.the-variants.{Level, Variable, Tptp}
 use Rattle.laws.specs.Answer.{ask-passed, then-passed}
 use Rattle.laws.specs.Reading.Nodes.{under-kind}
 use Rattle.laws.specs.Words.Tests.{decide, clash, or-left, or-right, or-false-left, or-false-right}
-use Rattle.laws.specs.Tptp.Ahead.{stand-ahead, ahead-first}
-use Rattle.laws.specs.Tptp.Sound.{operand-sound}
+use Rattle.laws.specs.Tptp.Spelling.TokensAhead.{stand-ahead, ahead-first}
+use Rattle.laws.specs.Tptp.Sound.Policies.{operand-sound}
 use Rattle.tptp_tokens.specs.Steps.{from, got, Skips, Steps, Value, Valued, Within, Behind}
 use Rattle.tptp_tokens.specs.Laying.{Laid}
-use Rattle.tptp_reading.specs.Told.{Told, Entered}
-use Rattle.tptp_tokens.specs.Ahead.{StopsAt, begins}
+use Rattle.tptp_state.specs.Told.{Told, Entered}
+use Rattle.tptp_binders.specs.Ahead.{StopsAt, begins}
 use Rattle.tptp_reading.specs.Formula.{Many, Begins, NodeRead, OperandRead, Further, ChildrenRead, chained, closed}
 use Rattle.tptp_tokens.specs.declared.tokens.Step.{Step}
 use Rattle.tptp_tokens.specs.declared.tokens.Step.the-variants.{At, Refused}
-use Rattle.tptp_reading.specs.declared.state.State.{State}
+use Rattle.tptp_state.specs.declared.state.State.{State}
 use Rattle.tptp_reading.specs.declared.policy.Came.{Came}
 use Rattle.tables.specs.declared.Checked.the-variants.{Passed}
 use Rattle.tptp_tokens.proofs.TokenLaws.{onward, halt, given-then, here, over, look-here, look-over, token-from, token-over}
 use Rattle.tptp_tokens.proofs.BehindLaws.{valued-from}
 use Rattle.tptp_tokens.proofs.Going.{going-start, going-token, going-value, going-end}
 use Rattle.tptp_tokens.proofs.UpTo.{skips-self}
-use Rattle.tptp_tokens.proofs.AheadLaws.{blanks-rest}
+use Rattle.tptp_binders.proofs.AheadLaws.{blanks-rest}
 use Rattle.tptp_reading.proofs.StopLaws.{skips, stops-there}
 use Rattle.tptp_reading.proofs.AheadTrees.{stopping-here, operand-stopping}
-use Rattle.tptp_reading.proofs.StateLaws.{asked-passed}
+use Rattle.tptp_state.proofs.StateLaws.{asked-passed}
 use Rattle.tptp_reading.proofs.JoinLaws.{told-one, told-join}
 
 -- what stands behind a first operand: nothing, a connective, or another byte

@@ -21,11 +21,11 @@ use Rattle.laws.specs.Answer.{refused-passed}
 use Rattle.laws.specs.Words.Tests.{decide}
 use Rattle.tables.specs.declared.Checked.the-variants.{Passed}
 use Rattle.tptp_tokens.specs.Steps.{from, got, Skips, Valued, Within}
-use Rattle.tptp_reading.specs.Told.{Ready, Told, Handed, Joined}
+use Rattle.tptp_state.specs.Told.{Ready, Told, Handed, Joined}
 use Rattle.tptp_reading.specs.Formula.{Begins, OperandRead, Follows, Further, ChildrenRead}
 use Rattle.tptp_tokens.specs.declared.tokens.Step.{Step}
 use Rattle.tptp_tokens.specs.declared.tokens.Step.the-variants.{At, Refused}
-use Rattle.tptp_reading.specs.declared.state.State.{State}
+use Rattle.tptp_state.specs.declared.state.State.{State}
 use Rattle.tptp_reading.specs.declared.policy.Came.{Came}
 use Rattle.tptp_tokens.proofs.TokenLaws.{over}
 use Rattle.tptp_tokens.proofs.UpTo.{attach, attach-none, attach-attach, upto-over, upto-stop, upto-more, upto-refused}

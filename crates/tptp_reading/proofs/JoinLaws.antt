@@ -25,14 +25,14 @@ use Rattle.laws.specs.Reading.Trees.{askTree, askTrees}
 use Rattle.tables.specs.Checked.{outcome}
 use Rattle.tables.specs.declared.Checked.{Checked}
 use Rattle.tables.specs.declared.Checked.the-variants.{Passed, Refused}
-use Rattle.policies.specs.Mode.{setOf, told}
+use Rattle.modes.specs.Mode.{setOf, told}
 use Rattle.tptp_tokens.specs.Laying.{mostWords, Laid}
-use Rattle.tptp_reading.specs.Told.{Modes, Told, Entered, Handed, Joined}
+use Rattle.tptp_state.specs.Told.{Modes, Told, Entered, Handed, Joined}
 use Rattle.tptp_reading.specs.Formula.{bindingsOf, ModesAll, ToldAll}
-use Rattle.tptp_reading.specs.declared.state.State.{State}
-use Rattle.tptp_tokens.proofs.TuplesLaws.{sets-append}
-use Rattle.tptp_reading.proofs.StateLaws.{asked-passed}
-use Rattle.tptp_reading.proofs.LayingLaws.{laid-two}
+use Rattle.tptp_state.specs.declared.state.State.{State}
+use Rattle.tptp_binders.proofs.TuplesLaws.{sets-append}
+use Rattle.tptp_state.proofs.StateLaws.{asked-passed}
+use Rattle.tptp_tokens.proofs.LayingLaws.{laid-two}
 
 -- the words of trees, and how many trees they are of
 words-last : (ts : List Tree) (t : Tree) → encodeAll (trees (ts ++ t ∷ [])) ≡ encodeAll (trees ts) ++ encode t

@@ -1,11 +1,7 @@
-pub mod StateLaws
-pub mod KnownLaws
-pub mod LeafSettling
 pub mod AheadTrees
 pub mod RoomLaws
 pub mod OperandLaws
 pub mod PolicyLaws
-pub mod LayingLaws
 pub mod JoinLaws
 pub mod ChildrenLaws
 pub mod StopLaws

@@ -13,9 +13,9 @@ use Rattle.model.specs.Answer.{Outcome, passed, refused}
 use Rattle.model.specs.Tptp.{Stand}
 use Rattle.model.specs.TptpReading.{Got, Reader, give, look, token, more, upTo, onwards, _>>=_}
 use Rattle.laws.specs.Words.Tests.{decide}
-use Rattle.laws.specs.Tptp.Stand.{fill-stand}
-use Rattle.laws.specs.Tptp.Reads.{comes-passed}
-use Rattle.laws.specs.Tptp.Marks.{look-reads, token-reads}
+use Rattle.laws.specs.Tptp.Spelling.TokensInFront.{fill-stand}
+use Rattle.laws.specs.Tptp.Sound.Readers.{comes-passed}
+use Rattle.laws.specs.Tptp.Sound.Tokens.{look-reads, token-reads}
 use Rattle.tptp_tokens.specs.Steps.{from, Skips}
 use Rattle.tptp_tokens.proofs.TokenLaws.{onward, look-here}
 use Rattle.tptp_tokens.proofs.UpTo.{skips-self}

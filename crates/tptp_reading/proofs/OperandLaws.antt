@@ -20,9 +20,9 @@ use Rattle.model.specs.TptpReading.{readSome, readOperand}
 use Rattle.model.specs.declared.Refusal.{Refusal}
 use Rattle.model.specs.declared.Refusal.the-variants.{Tptp}
 use Rattle.laws.specs.Words.Tests.{clash, decide}
-use Rattle.laws.specs.Tptp.Sound.{operand-sound}
+use Rattle.laws.specs.Tptp.Sound.Policies.{operand-sound}
 use Rattle.tptp_tokens.specs.Steps.{from, Skips, Steps, Value, Valued, Within}
-use Rattle.tptp_tokens.specs.Leaves.{LeafStands, readLeaf}
+use Rattle.tptp_leaves.specs.Leaves.{LeafStands, readLeaf}
 use Rattle.tptp_reading.specs.Formula.{beneath, LeafByte, chained}
 use Rattle.tptp_tokens.specs.declared.tokens.Step.{Step}
 use Rattle.tptp_tokens.specs.declared.tokens.Step.the-variants.{At, Refused}

@@ -14,8 +14,8 @@ use Rattle.model.specs.TptpReading.{Reader, give, blanks, token, name, whole, e
 use Rattle.model.specs.declared.Refusal.{Refusal}
 use Rattle.model.specs.declared.Refusal.the-variants.{Tptp}
 use Rattle.tptp_tokens.specs.Steps.{from, got, Skips, Steps, Valued, Behind}
-use Rattle.tptp_reading.specs.Told.{Ready}
-use Rattle.tptp_reading.specs.Known.{refusals, checkedOf, stateOf}
+use Rattle.tptp_state.specs.Told.{Ready}
+use Rattle.tptp_state.specs.Known.{checkedOf, stateOf}
 use Rattle.tptp_reading.specs.Formula.{closed}
 use Rattle.tptp_reading.specs.Policy.{blanksEnding, startState}
 use Rattle.tptp_tokens.specs.declared.tokens.Step.{Step}
@@ -25,7 +25,7 @@ use Rattle.tptp_tokens.proofs.Going.{Goes, going-start, going-token, going-valu
 
 -- nothing was read yet
 pub start-held : stateOf (replicate 5 0) (replicate 16 false) ≡ startState
-unfolding checkedOf refusals
+unfolding checkedOf
 start-held = refl
 
 pub start-ready : (table : Words) → predicates table ≤ 256 → Ready table 0 0 startState

@@ -28,23 +28,23 @@ use Rattle.laws.specs.Reading.Trees.{askTree}
 use Rattle.tables.specs.Checked.{outcome}
 use Rattle.tables.specs.declared.Checked.{Checked}
 use Rattle.tables.specs.declared.Checked.the-variants.{Passed, Refused}
-use Rattle.policies.specs.Mode.{setOf, told}
+use Rattle.modes.specs.Mode.{setOf, told}
 use Rattle.tptp_tokens.specs.Steps.{from, Reads, Steps, Valued, Within, Behind}
-use Rattle.tptp_tokens.specs.Binder.{IsCount, BinderRead}
+use Rattle.tptp_binders.specs.Binder.{IsCount, BinderRead}
 use Rattle.tptp_tokens.specs.Laying.{mostWords, Laid}
-use Rattle.tptp_reading.specs.Told.{Told, Settled, Entered, Introduced, Outer}
+use Rattle.tptp_state.specs.Told.{Told, Settled, Entered, Introduced, Outer}
 use Rattle.tptp_reading.specs.Formula.{Many, Begins, beneath, NodeRead, OperandRead, RestrictedTold, RestrictionRead}
 use Rattle.tptp_tokens.specs.declared.tokens.Step.{Step}
 use Rattle.tptp_tokens.specs.declared.tokens.Step.the-variants as S
 use Rattle.tptp_tokens.specs.declared.tokens.Step.the-variants.{At}
-use Rattle.tptp_tokens.specs.declared.binder.Counted.{Counted}
-use Rattle.tptp_reading.specs.declared.state.State.{State}
+use Rattle.tptp_binders.specs.declared.binder.Counted.{Counted}
+use Rattle.tptp_state.specs.declared.state.State.{State}
 use Rattle.tptp_reading.specs.declared.policy.Came.{Came}
 use Rattle.tptp_tokens.proofs.TokenLaws.{token-here}
 use Rattle.tptp_tokens.proofs.Going.{Goes, going-start, going-token, going-value, goes-as, going-end}
-use Rattle.tptp_reading.proofs.StateLaws.{asked-passed}
-use Rattle.tptp_tokens.proofs.TuplesLaws.{sets-append}
-use Rattle.tptp_reading.proofs.LayingLaws.{laid-three}
+use Rattle.tptp_state.proofs.StateLaws.{asked-passed}
+use Rattle.tptp_binders.proofs.TuplesLaws.{sets-append}
+use Rattle.tptp_tokens.proofs.LayingLaws.{laid-three}
 use Rattle.tptp_reading.proofs.SomeLaws.{entered-passed, entered-ready}
 use Rattle.tptp_reading.proofs.StopLaws.{skips-here}
 use Rattle.tptp_reading.proofs.RoomLaws.{behind-room, beneath-less}

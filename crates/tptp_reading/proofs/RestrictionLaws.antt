@@ -23,25 +23,25 @@ use Rattle.model.specs.TptpReading.{readTuple, readOperand, readRestriction, re
 use Rattle.model.specs.declared.Refusal.{Refusal}
 use Rattle.model.specs.declared.Refusal.the-variants.{Tptp}
 use Rattle.laws.specs.Words.Tests.{decide, clash, and-left}
-use Rattle.laws.specs.Tptp.Lists.{tuple-reads}
-use Rattle.laws.specs.Tptp.Sound.{item-sound}
+use Rattle.laws.specs.Tptp.Sound.Lists.{tuple-reads}
+use Rattle.laws.specs.Tptp.Sound.Policies.{item-sound}
 use Rattle.tptp_tokens.specs.Steps.{from, got, Skips, Reads, Steps, Value, Valued, Within, Behind}
-use Rattle.tptp_tokens.specs.Ahead.{StopsAt, begins}
+use Rattle.tptp_binders.specs.Ahead.{StopsAt, begins}
 use Rattle.tptp_tokens.specs.Laying.{mostWords}
-use Rattle.tptp_tokens.specs.Tuples.{StoredTuples, TuplesRead}
-use Rattle.tptp_reading.specs.Told.{Told}
+use Rattle.tptp_binders.specs.Tuples.{StoredTuples, TuplesRead}
+use Rattle.tptp_state.specs.Told.{Told}
 use Rattle.tptp_reading.specs.Formula.{Many, Begins, beneath, chained, exclusion, NodeRead, OperandRead, RestrictedTold, RestrictionRead}
 use Rattle.tptp_tokens.specs.declared.tokens.Step.{Step}
 use Rattle.tptp_tokens.specs.declared.tokens.Step.the-variants.{At, Refused}
-use Rattle.tptp_tokens.specs.declared.binder.Counted.{Counted}
-use Rattle.tptp_reading.specs.declared.state.State.{State}
+use Rattle.tptp_binders.specs.declared.binder.Counted.{Counted}
+use Rattle.tptp_state.specs.declared.state.State.{State}
 use Rattle.tptp_reading.specs.declared.policy.Came.{Came}
 use Rattle.tptp_tokens.proofs.TokenLaws.{over, onward, halt, given-then, closed-then, look-here, look-over, token-from}
 use Rattle.tptp_tokens.proofs.BehindLaws.{valued-from}
 use Rattle.tptp_tokens.proofs.UpTo.{skips-self}
 use Rattle.tptp_tokens.proofs.Going.{Goes, going-start, going-token, going-value, going-end}
 use Rattle.tptp_tokens.proofs.Strict.{excludes-strict}
-use Rattle.tptp_tokens.proofs.AheadLaws.{behind-skip, begins-here, begins-over}
+use Rattle.tptp_binders.proofs.AheadLaws.{behind-skip, begins-here, begins-over}
 use Rattle.tptp_reading.proofs.AheadTrees.{operand-stopping, stopping-here}
 use Rattle.tptp_reading.proofs.MoreLaws.{more-later}
 use Rattle.tptp_reading.proofs.StopLaws.{skips, joining-strays, excluding-strays}

@@ -25,21 +25,21 @@ use Rattle.laws.specs.Answer.{ask-passed, then-passed, then-both, then-assoc}
 use Rattle.laws.specs.Reading.Trees.{askTree}
 use Rattle.tables.specs.Checked.{outcome}
 use Rattle.tables.specs.declared.Checked.the-variants.{Passed}
-use Rattle.policies.specs.Mode.{told}
+use Rattle.modes.specs.Mode.{told}
 use Rattle.tptp_tokens.specs.Steps.{from, Steps, Valued, Within, Behind}
-use Rattle.tptp_tokens.specs.Binder.{IsCount, BinderRead}
+use Rattle.tptp_binders.specs.Binder.{IsCount, BinderRead}
 use Rattle.tptp_tokens.specs.Laying.{Laid}
-use Rattle.tptp_reading.specs.Told.{Ready, Told, Entered, Dropped}
+use Rattle.tptp_state.specs.Told.{Ready, Told, Entered, Dropped}
 use Rattle.tptp_reading.specs.Formula.{Begins, beneath, closed, NodeRead}
 use Rattle.tptp_tokens.specs.declared.tokens.Step.{Step}
 use Rattle.tptp_tokens.specs.declared.tokens.Step.the-variants.{At, Refused}
-use Rattle.tptp_tokens.specs.declared.binder.Counted.{Counted}
-use Rattle.tptp_reading.specs.declared.state.State.{State}
+use Rattle.tptp_binders.specs.declared.binder.Counted.{Counted}
+use Rattle.tptp_state.specs.declared.state.State.{State}
 use Rattle.tptp_reading.specs.declared.policy.Came.{Came}
 use Rattle.tptp_tokens.proofs.TokenLaws.{closed-then, token-here}
 use Rattle.tptp_tokens.proofs.Going.{Goes, going-start, going-token, going-value, goes-as, going-end}
-use Rattle.tptp_reading.proofs.StateLaws.{asked-passed}
-use Rattle.tptp_reading.proofs.LayingLaws.{laid-one}
+use Rattle.tptp_state.proofs.StateLaws.{asked-passed}
+use Rattle.tptp_tokens.proofs.LayingLaws.{laid-one}
 use Rattle.tptp_reading.proofs.StopLaws.{skips-here}
 use Rattle.tptp_reading.proofs.RoomLaws.{behind-room, beneath-less}
 

@@ -16,9 +16,9 @@ use Rattle.model.specs.TptpReading.{Reader, look, joining, readers, beginsExclu
 use Rattle.model.specs.declared.Refusal.the-variants.{Tptp}
 use Rattle.laws.specs.Words.Tests.{decide}
 use Rattle.tptp_tokens.specs.Steps.{from, got, Skips}
-use Rattle.tptp_tokens.specs.Ahead.{StopsAt, begins}
+use Rattle.tptp_binders.specs.Ahead.{StopsAt, begins}
 use Rattle.tptp_tokens.proofs.TokenLaws.{onward, halt, look-here, look-over, skip-more, skip-stop, skip-end}
-use Rattle.tptp_tokens.proofs.AheadLaws.{behind-skip, begins-here, excluding-over, excluding-other}
+use Rattle.tptp_binders.proofs.AheadLaws.{behind-skip, begins-here, excluding-over, excluding-other}
 use Rattle.tptp_reading.proofs.AheadTrees.{operand-stopping, stopping-here}
 
 -- no blank stands where another byte does

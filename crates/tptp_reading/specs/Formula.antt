@@ -19,14 +19,14 @@ use Rattle.model.specs.TptpReading.{Reader, Readers, give, stop, token, more, t
 use Rattle.laws.specs.Reading.Trees.{askTrees}
 use Rattle.tables.specs.Checked.{outcome}
 use Rattle.tables.specs.declared.Checked.the-variants.{Passed}
-use Rattle.policies.specs.Mode.{told}
+use Rattle.modes.specs.Mode.{told}
 use Rattle.tptp_tokens.specs.Steps.{Valued, Within}
 use Rattle.tptp_tokens.specs.Laying.{mostWords}
-use Rattle.tptp_reading.specs.Told.{Ready, Told}
-use Rattle.tptp_reading.specs.Known.{stateOf}
-use Rattle.tptp_reading.specs.declared.state.State.{State}
+use Rattle.tptp_state.specs.Told.{Ready, Told}
+use Rattle.tptp_state.specs.Known.{stateOf}
+use Rattle.tptp_state.specs.declared.state.State.{State}
 use Rattle.tptp_tokens.specs.declared.tokens.Step.{Step}
-use Rattle.tptp_tokens.specs.declared.binder.Counted.{Counted}
+use Rattle.tptp_binders.specs.declared.binder.Counted.{Counted}
 use Rattle.tptp_reading.specs.declared.policy.Came.{Came}
 
 -- what comes of a node, with what two arrays say; and of several, how many they are, or how many excluded tuples a restriction has
@@ -34,10 +34,10 @@ pub record Many : Type 0 where
   pub came : Came
   pub count : ℕ
 
-abbrev pub came : Step → List ℕ → List Bool → Came
+abbrev pub came : (end : Step) (known : List ℕ) (marks : List Bool) → Came
 came end known marks = record { end = end; state = stateOf known marks }
 
-abbrev pub many : Counted → List ℕ → List Bool → Many
+abbrev pub many : (r : Counted) (known : List ℕ) (marks : List Bool) → Many
 many r known marks = record { came = came (r .end) known marks; count = r .count }
 
 -- what can be read behind one parenthesis more
@@ -53,12 +53,15 @@ pub record Begins (table : Words) (text : Text) (at room above scope : ℕ) (s :
   pub ready : Ready table above scope s
 
 -- a node was read, by a reader
-abbrev pub NodeRead : Reader Tree → Words → Role → ℕ → ℕ → State → Words → Words → Text → ℕ → Came → Type 0
+abbrev pub NodeRead :
+    (reader : Reader Tree) (table : Words) (role : Role) (above scope : ℕ) (s : State) (out out′ : Words) (text : Text) (at : ℕ)
+    (r : Came) → Type 0
 NodeRead reader table role above scope s out out′ text at r =
     Valued reader (λ t. Told table t role above scope s (r .state) out out′) text at (r .end) × Within text (r .end)
 
 -- an operand, with room for so many parentheses
-abbrev pub OperandRead : ℕ → Words → Role → ℕ → ℕ → State → Words → Words → Text → ℕ → Came → Type 0
+abbrev pub OperandRead :
+    (room : ℕ) (table : Words) (role : Role) (above scope : ℕ) (s : State) (out out′ : Words) (text : Text) (at : ℕ) (r : Came) → Type 0
 OperandRead room table role above scope s out out′ text at r =
     NodeRead (readers room .operand (isFormula role) scope) table role above scope s out out′ text at r
 
@@ -73,7 +76,7 @@ unfoldable pub bindingsOf : Bool → Trees → Words → Variables → ℕ → �
 bindingsOf true ts table bound next at = bindingsAll ts table bound next at
 bindingsOf false ts table bound next at = bindingsAny ts table bound next at
 
-abbrev pub ModesAll : Bool → Bool → Trees → Words → ℕ → State → State → Type 0
+abbrev pub ModesAll : (formula b : Bool) (ts : Trees) (table : Words) (scope : ℕ) (s r : State) → Type 0
 ModesAll true b ts table scope s r = outcome (r .moded) ≡ (outcome (s .moded) >>= λ _. askModesAll ts table scope (s .words))
 ModesAll false b ts table scope s r =
     told (r .moded) (r .set) ≡ (told (s .moded) (s .set) >>= λ bound. bindingsOf b ts table bound scope (s .words))
@@ -91,7 +94,9 @@ pub record ToldAll (table : Words) (b : Bool) (ts : Trees) (role : Role) (above 
   pub settled : s .words + length (encodeAll ts) ≤ policyLimit → SettledAll table b ts role above scope s r out out′
 
 -- further operands, behind whatever the first was
-abbrev pub Follows : Words → Bool → Role → ℕ → ℕ → List Bool → State → State → Words → Words → List Tree → Type 0
+abbrev pub Follows :
+    (table : Words) (b : Bool) (role : Role) (above scope : ℕ) (start : List Bool) (first last : State) (out out′ : Words)
+    (ts : List Tree) → Type 0
 Follows table b role above scope start first last out out′ ts =
     (f : Tree) (u : State) (old : Words) →
     u .set ≡ start →
@@ -103,7 +108,9 @@ pub record Further (table : Words) (b : Bool) (role : Role) (above scope : ℕ) 
   pub number : suc (length ts) ≡ count
   pub follows : Follows table b role above scope start first last out out′ ts
 
-abbrev pub ChildrenRead : ℕ → Bool → Words → Role → ℕ → ℕ → List Bool → State → Words → Words → Text → ℕ → Many → Type 0
+abbrev pub ChildrenRead :
+    (room : ℕ) (b : Bool) (table : Words) (role : Role) (above scope : ℕ) (start : List Bool) (first : State) (out out′ : Words)
+    (text : Text) (at : ℕ) (r : Many) → Type 0
 ChildrenRead room b table role above scope start first out out′ text at r =
     Valued
     (more (cond b ampersand bar) (readers room .operand (isFormula role) scope))
@@ -112,10 +119,10 @@ ChildrenRead room b table role above scope start first out out′ text at r =
     × Within text (r .came .end)
 
 -- an all-of or any-of, and the closing parenthesis behind it; and also one operand that is none
-abbrev pub chained : Reader Tree → Reader Tree
+abbrev pub chained : (one : Reader Tree) → Reader Tree
 chained one = R._>>=_ one λ first. R._>>=_ (joining stop first one) λ t. R._>>=_ (token (bytes ")")) λ _. give t
 
-abbrev pub closed : Reader Tree → Reader Tree
+abbrev pub closed : (one : Reader Tree) → Reader Tree
 closed one = R._>>=_ (R.whole one) λ t. R._>>=_ (token (bytes ")")) λ _. give t
 
 -- a restriction was read, behind its excluded tuples in the words
@@ -131,13 +138,15 @@ pub record RestrictedTold (table : Words) (level x v : ℕ) (s : State) (out out
   pub laid : s .words + v * count ≤ mostWords → between ≡ sets out (s .words) (gather (λ tuple. tuple) (c .excluded))
   pub told : Told table (c .restriction) restriction level (x + v) handed last between out′
 
-abbrev pub RestrictionRead : Reader R.Restricted → Words → ℕ → ℕ → ℕ → State → Words → Words → Text → ℕ → Many → Type 0
+abbrev pub RestrictionRead :
+    (reader : Reader R.Restricted) (table : Words) (level x v : ℕ) (s : State) (out out′ : Words) (text : Text) (at : ℕ) (r : Many) →
+    Type 0
 RestrictionRead reader table level x v s out out′ text at r =
     Valued reader (RestrictedTold table level x v s out out′ (r .count) (r .came .state)) text at (r .came .end)
     × Within text (r .came .end)
 
 -- behind the parenthesis of a restriction: an all-of or any-of, or a restriction and its excluded tuples
-abbrev pub exclusion : ℕ → ℕ → ℕ → Reader R.Restricted
+abbrev pub exclusion : (room v x : ℕ) → Reader R.Restricted
 exclusion room v x =
     R._>>=_ (readers room .operand false (x + v)) λ first.
     R._>>=_ (excluding (suc room) (readers room) first (readers room .operand false (x + v)) v x) λ r.

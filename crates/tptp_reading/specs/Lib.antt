@@ -1,4 +1,2 @@
-pub mod Told
-pub mod Known
 pub mod Formula
 pub mod Policy

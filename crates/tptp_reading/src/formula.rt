@@ -2,36 +2,36 @@
 // deeper opens a parenthesis; operands and tuples are loops. What a node is to the node above it hangs, for a first operand, on the
 // connective behind it, which is looked up ahead. A parenthesis takes at most some 900 bytes of stack: what is known is handed on as two
 // arrays that are lent, and a node with none below it is read by two calls, so that the frame of an operand has no room for its words.
-use crate::known::count_words;
-use crate::known::drop_variable;
-use crate::known::enter;
-use crate::known::hand;
-use crate::known::introduce;
-use crate::known::join;
-use crate::known::settle_leaf;
-use crate::state::outer_variables;
 use model::Refusal;
 use policies::node;
 use policies::node::Role;
 use policies::node::Tag;
-use tptp_tokens::ahead::begins;
-use tptp_tokens::ahead::begins_excluding;
-use tptp_tokens::ahead::stands;
-use tptp_tokens::ahead::stop_index;
+use tptp_binders::ahead::begins;
+use tptp_binders::ahead::begins_excluding;
+use tptp_binders::ahead::stands;
+use tptp_binders::ahead::stop_index;
+use tptp_binders::binder::Counted;
+use tptp_binders::binder::binder;
+use tptp_binders::tuples::behind_tuples;
+use tptp_binders::tuples::tuples;
+use tptp_leaves::leaves::either;
+use tptp_leaves::leaves::leaf;
+use tptp_leaves::leaves::less;
+use tptp_state::known::count_words;
+use tptp_state::known::drop_variable;
+use tptp_state::known::enter;
+use tptp_state::known::hand;
+use tptp_state::known::introduce;
+use tptp_state::known::join;
+use tptp_state::known::settle_leaf;
+use tptp_state::state::outer_variables;
 use tptp_tokens::behind::then_expect;
 use tptp_tokens::behind::then_opening;
 use tptp_tokens::behind::then_token;
-use tptp_tokens::binder::Counted;
-use tptp_tokens::binder::binder;
 use tptp_tokens::laying::lay;
-use tptp_tokens::leaves::either;
-use tptp_tokens::leaves::leaf;
-use tptp_tokens::leaves::less;
 use tptp_tokens::tokens::Step;
 use tptp_tokens::tokens::opening;
 use tptp_tokens::tokens::skip;
-use tptp_tokens::tuples::behind_tuples;
-use tptp_tokens::tuples::tuples;
 ghost use mathlib.Core.Path.{_≡_};
 ghost use mathlib.Core.Bool.{true, false, cond};
 ghost use Prim.Native.Nat.{_+_, _*_, _≤_, _<_};
@@ -42,9 +42,9 @@ ghost use Rattle.model.specs.Reading.{isFormula};
 ghost use Rattle.model.specs.TptpReading as R;
 ghost use Rattle.policies.specs.Node.{asRole};
 ghost use Rattle.tptp_tokens.specs.Steps.{Steps, Within, Behind};
-ghost use Rattle.tptp_tokens.specs.Ahead.{StopsAt};
-ghost use Rattle.tptp_reading.specs.Told.{Ready};
-ghost use Rattle.tptp_reading.specs.Known.{stateOf};
+ghost use Rattle.tptp_binders.specs.Ahead.{StopsAt};
+ghost use Rattle.tptp_state.specs.Told.{Ready};
+ghost use Rattle.tptp_state.specs.Known.{stateOf};
 ghost use Rattle.tptp_reading.specs.Formula as F;
 
 // A node with none below it, whose first byte stands here; its words stand apart for a moment.
@@ -197,11 +197,12 @@ fn children(
     }
 }
 
-// An all-of or any-of, and the closing parenthesis behind it.
+// An all-of or any-of, whose first operand reaches to `stop`, and the closing parenthesis behind it.
 fn chain(
     table: &[i32],
     text: &[u8],
     at: usize,
+    stop: usize,
     room: usize,
     role: Role,
     above: usize,
@@ -210,14 +211,17 @@ fn chain(
     set: &mut [bool; 16],
     out: &mut [i32],
 ) -> Step
-    requires { ⌜ F.Begins (now table) (now text) at room above scope (stateOf (now known) (now set)) × (above + 1 + 2 * room ≤ 600) ⌝ }
+    requires { ⌜
+        F.Begins (now table) (now text) at room above scope (stateOf (now known) (now set))
+        × (above + 1 + 2 * room ≤ 600)
+        × StopsAt (now text) at stop
+        ⌝ }
     ensures { λ r. ⌜
         F.NodeRead (F.chained (R.readers room .operand (isFormula (asRole role)) scope)) (now (table .entry)) (asRole role) above scope (stateOf (now (known .entry)) (now (set .entry))) (now (out .entry)) (now (out .exit)) (now (text .entry)) at (F.came r (now (known .exit)) (now (set .exit)))
         ⌝ }
 {
     let w = known[0];
     let start = *set;
-    let stop = stop_index(text, at);
     let every = stands(text, stop, 38);
     let some = stands(text, stop, 124);
     let below = node::under(role, every);
@@ -283,7 +287,19 @@ pub fn whole(
     let every = stands(text, stop, 38);
     let some = stands(text, stop, 124);
     if every | some {
-        return chain(table, text, at, room, role, above, scope, known, set, out);
+        return chain(
+            table,
+            text,
+            at,
+            stop,
+            room,
+            role,
+            above,
+            scope,
+            known,
+            set,
+            out,
+        );
     }
     let parenthesis = begins(text, at, 40);
     let end = operand(table, text, at, room, role, above, scope, known, set, out);
@@ -466,6 +482,7 @@ fn restricted(
         table,
         text,
         inside,
+        stop,
         less(room),
         Role::Restriction,
         level,
@@ -583,10 +600,12 @@ fn operand(
         let Step::At(inside) = open else {
             return open;
         };
+        let stop = stop_index(text, inside);
         return chain(
             table,
             text,
             inside,
+            stop,
             less(room),
             role,
             above,

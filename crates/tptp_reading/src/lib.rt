@@ -1,5 +1,3 @@
 // Policies in the TPTP typed form: the reading of a text, with the questions that are asked of its words.
 pub mod formula;
-pub mod known;
 pub mod policy;
-pub mod state;

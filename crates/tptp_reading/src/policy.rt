@@ -1,10 +1,10 @@
 // A whole text: its tree, with the questions that are asked of its words, and these laid in a buffer.
 use crate::formula::whole;
-use crate::known::held;
-use crate::state::State;
 use model::Refusal;
 use policies::node::Role;
 use text::bytes;
+use tptp_state::known::held;
+use tptp_state::state::State;
 use tptp_tokens::behind::then_expect;
 use tptp_tokens::behind::then_token;
 use tptp_tokens::name::then_name;

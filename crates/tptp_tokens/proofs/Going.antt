@@ -20,7 +20,7 @@ pub record Going {B X : Type 0} (whole : Reader B) (facts : X → Type 0) (left 
   pub high : n ≤ length text
   pub holds : facts x
 
-abbrev pub Goes : {B X : Type 0} → Reader B → (X → Type 0) → (X → Reader B) → Text → ℕ → Step → Type 0
+abbrev pub Goes : {B X : Type 0} (whole : Reader B) (facts : X → Type 0) (left : X → Reader B) (text : Text) (at : ℕ) (step : Step) → Type 0
 Goes whole facts left text at (At n) = Going whole facts left text at n
 Goes whole facts left text at (Refused q p) = from whole text at ≡ refused q p
 

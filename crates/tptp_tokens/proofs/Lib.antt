@@ -2,12 +2,7 @@ pub mod TokenLaws
 pub mod NumberLaws
 pub mod BehindLaws
 pub mod UpTo
-pub mod TermLaws
 pub mod Going
-pub mod LeafLaws
-pub mod BinderLaws
 pub mod Strict
-pub mod TupleLaws
-pub mod TuplesLaws
-pub mod AheadLaws
+pub mod LayingLaws
 pub mod NameLaws

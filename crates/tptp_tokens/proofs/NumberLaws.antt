@@ -13,7 +13,7 @@ use Rattle.model.specs.TptpReading.{give, look, literal, moreDigits, number, na
 use Rattle.model.specs.declared.Refusal.the-variants.{Tptp}
 use Rattle.laws.specs.Decimal.{digit-range}
 use Rattle.tptp_tokens.specs.Steps.{from, got, Skips}
-use Rattle.tptp_tokens.specs.Numbers.{More, Naturals, behindMinus, Magnitudes, Integers}
+use Rattle.tptp_tokens.specs.Numbers.{More, Naturals, behindMinus, Magnitudes, Integers, withSign}
 use Rattle.tptp_tokens.specs.declared.numbers.Digits.{Digits}
 use Rattle.tptp_tokens.specs.declared.numbers.Digits.the-variants as D
 use Rattle.tptp_tokens.specs.declared.numbers.Signed.{Signed}
@@ -96,15 +96,6 @@ module _ (text : Text) (at : ℕ) where
   )
   minus-first (D.Refused q p) h d z m = rw (here text at h, d, ne-eqb (getD text at 0) 48 z, sym (add-one at)) m
 
--- what is said of a number, by its digits
-abbrev pub below : Digits → Signed
-below (D.Read next n) = S.Read next true n
-below (D.Refused q p) = S.Refused q p
-
-abbrev pub above : Digits → Signed
-above (D.Read next n) = S.Read next false n
-above (D.Refused q p) = S.Refused q p
-
 -- a number with a minus, and one without
 module _ (text : Text) (at i : ℕ) (s : Skips text at i) where
   pub integer-over : length text ≤ i → from integer text at ≡ refused Tptp i
@@ -112,7 +103,7 @@ module _ (text : Text) (at i : ℕ) (s : Skips text at i) where
   integer-over h = halt look _ text at Tptp i (look-over text at i s h)
 
   module _ (h : i < length text) where
-    pub integer-below : getD text i 0 ≡ 45 → (r : Digits) → Magnitudes text (i + 1) r → Integers text at (below r)
+    pub integer-below : getD text i 0 ≡ 45 → (r : Digits) → Magnitudes text (i + 1) r → Integers text at (withSign r true)
     unfolding integer give
     integer-below e (D.Read next n) m =
         let start = onward look _ text at (getD text i 0) i (look-here text at i s h) in
@@ -135,7 +126,7 @@ module _ (text : Text) (at i : ℕ) (s : Skips text at i) where
         ∙ rw (eq-eqb (getD text i 0) 45 e)
         (onward (literal (minus ∷ [])) _ text i tt (i + 1) sign ∙ halt behindMinus _ text (i + 1) q p m)
 
-    pub integer-above : (getD text i 0 ≡ 45 → ⊥) → (r : Digits) → Naturals text i r → Integers text at (above r)
+    pub integer-above : (getD text i 0 ≡ 45 → ⊥) → (r : Digits) → Naturals text i r → Integers text at (withSign r false)
     unfolding integer give
     integer-above e (D.Read next n) m =
         let start = onward look _ text at (getD text i 0) i (look-here text at i s h) in (

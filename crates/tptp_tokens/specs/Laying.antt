@@ -10,9 +10,9 @@ abbrev pub mostWords : ℕ
 mostWords = 2097152
 
 -- a number is the word at an index, if there is one
-abbrev pub Stored : ℕ → Words → Words → ℤ → Type 0
+abbrev pub Stored : (w : ℕ) (out out′ : Words) (d : ℤ) → Type 0
 Stored w out out′ d = out′ ≡ set out w d
 
 -- a count that is a word is the word at an index
-abbrev pub Laid : ℕ → ℕ → Words → Words → Type 0
+abbrev pub Laid : (w n : ℕ) (out out′ : Words) → Type 0
 Laid w n out out′ = n ≤ 2147483647 → out′ ≡ set out w (pos n)

@@ -10,11 +10,11 @@ use Rattle.tptp_tokens.specs.declared.tokens.Step.{Step}
 use Rattle.tptp_tokens.specs.declared.tokens.Step.the-variants.{At, Refused}
 
 -- a reader, started at an index of a text
-abbrev pub from : {A : Type 0} → Reader A → Text → ℕ → Outcome (Got A)
+abbrev pub from : {A : Type 0} (reader : Reader A) (text : Text) (at : ℕ) → Outcome (Got A)
 from reader text at = reader (drop at text) at
 
 -- something was read up to an index
-abbrev pub got : {A : Type 0} → Text → A → ℕ → Outcome (Got A)
+abbrev pub got : {A : Type 0} (text : Text) (a : A) (next : ℕ) → Outcome (Got A)
 got text a next = passed (record { what = a; rest = drop next text; at = next })
 
 -- r is the first index from one on where no blank stands
@@ -30,7 +30,7 @@ pub record Reads {A : Type 0} (reader : Reader A) (text : Text) (at : ℕ) (a : 
   pub high : next ≤ length text
   pub reads : from reader text at ≡ got text a next
 
-abbrev pub Steps : Reader (Unit {0}) → Text → ℕ → Step → Type 0
+abbrev pub Steps : (reader : Reader (Unit {0})) (text : Text) (at : ℕ) (step : Step) → Type 0
 Steps reader text at (At next) = Reads reader text at tt next
 Steps reader text at (Refused q p) = from reader text at ≡ refused q p
 
@@ -40,15 +40,15 @@ pub record Value {A : Type 0} (reader : Reader A) (facts : A → Type 0) (text :
   pub reads : Reads reader text at what next
   pub holds : facts what
 
-abbrev pub Valued : {A : Type 0} → Reader A → (A → Type 0) → Text → ℕ → Step → Type 0
+abbrev pub Valued : {A : Type 0} (reader : Reader A) (facts : A → Type 0) (text : Text) (at : ℕ) (step : Step) → Type 0
 Valued reader facts text at (At next) = Value reader facts text at next
 Valued reader facts text at (Refused q p) = from reader text at ≡ refused q p
 
 -- an index is one of the text; what was read is followed by something else, unless it was refused
-abbrev pub Within : Text → Step → Type 0
+abbrev pub Within : (text : Text) (step : Step) → Type 0
 Within text (At n) = n ≤ length text
 Within text (Refused q p) = Unit {0}
 
-abbrev pub Behind : (ℕ → Step → Type 0) → Step → Step → Type 0
+abbrev pub Behind : (next : ℕ → Step → Type 0) (step r : Step) → Type 0
 Behind next (At n) r = next n r
 Behind next (Refused q p) r = r ≡ Refused q p

@@ -1,16 +1,11 @@
-// Tokens and terms behind what was read before: a refusal is passed on.
-use crate::terms::term;
-use crate::terms::terms;
+// Tokens behind what was read before: a refusal is passed on.
 use crate::tokens::Step;
 use crate::tokens::expect;
 use crate::tokens::opening;
 use crate::tokens::token;
 ghost use mathlib.Core.List.{[], _∷_};
-ghost use Prim.Native.Nat.{_+_, _≤_};
-ghost use lib.ListN.{length};
 ghost use Rattle.model.specs.TptpReading as R;
-ghost use Rattle.tptp_tokens.specs.Steps.{Steps, Valued, Within, Behind};
-ghost use Rattle.tptp_tokens.specs.Terms as T;
+ghost use Rattle.tptp_tokens.specs.Steps.{Steps, Within, Behind};
 
 // A token of one byte.
 pub fn then_expect(text: &[u8], before: Step, c: u8) -> Step
@@ -43,26 +38,4 @@ pub fn then_opening(text: &[u8], before: Step, room: usize) -> Step
         return before;
     };
     opening(text, at, room)
-}
-
-// A term, whose words go to an index.
-pub fn then_term(text: &[u8], before: Step, own: &mut [i32], k: usize) -> Step
-    requires { ⌜ Within (now text) before × (k + 2 ≤ length (now own)) ⌝ }
-    ensures { λ r. ⌜ Behind (Valued R.term (T.TermStands k (now (own .entry)) (now (own .exit))) (now (text .entry))) before r × Within (now (text .entry)) r ⌝ }
-{
-    let Step::At(at) = before else {
-        return before;
-    };
-    term(text, at, own, k)
-}
-
-// The terms of an atom.
-pub fn then_terms(text: &[u8], before: Step, own: &mut [i32]) -> Step
-    requires { ⌜ Within (now text) before × (15 ≤ length (now own)) ⌝ }
-    ensures { λ r. ⌜ Behind (Valued R.terms (T.TermsStand (now (own .entry)) (now (own .exit))) (now (text .entry))) before r × Within (now (text .entry)) r ⌝ }
-{
-    let Step::At(at) = before else {
-        return before;
-    };
-    terms(text, at, own)
 }

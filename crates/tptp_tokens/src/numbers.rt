@@ -2,6 +2,7 @@
 use crate::tokens::skip;
 use model::Refusal;
 use text::bytes;
+ghost use mathlib.Core.Path.{_≡_};
 ghost use Prim.Native.Nat.{_≤_, _<_, _^_};
 ghost use lib.ListN.{length};
 ghost use Rattle.tptp_tokens.specs.Numbers as N;
@@ -76,6 +77,16 @@ fn magnitude(text: &[u8], at: usize) -> Digits
     more_digits(text, at + 1, 2147483648, (b - bytes::NOUGHT) as usize)
 }
 
+// A number with this sign.
+fn with_sign(found: Digits, negative: bool) -> Signed
+    ensures { λ r. ⌜ r ≡ N.withSign found negative ⌝ }
+{
+    match found {
+        Digits::Refused(q, p) => Signed::Refused(q, p),
+        Digits::Read(next, n) => Signed::Read(next, negative, n),
+    }
+}
+
 // A number, behind blanks.
 pub fn integer(text: &[u8], at: usize) -> Signed
     requires { ⌜ at ≤ length (now text) ⌝ }
@@ -86,15 +97,7 @@ pub fn integer(text: &[u8], at: usize) -> Signed
         return Signed::Refused(Refusal::Tptp, i);
     }
     if text[i] == bytes::MINUS {
-        let below = magnitude(text, i + 1);
-        return match below {
-            Digits::Refused(q, p) => Signed::Refused(q, p),
-            Digits::Read(next, n) => Signed::Read(next, true, n),
-        };
+        return with_sign(magnitude(text, i + 1), true);
     }
-    let above = natural(text, i);
-    match above {
-        Digits::Refused(q, p) => Signed::Refused(q, p),
-        Digits::Read(next, n) => Signed::Read(next, false, n),
-    }
+    with_sign(natural(text, i), false)
 }

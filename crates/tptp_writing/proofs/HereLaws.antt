@@ -3,7 +3,7 @@ use Prim.Native.Nat.{ℕ, _+_, _*_, _-_, _≤_}
 use native.Mathlib.Omega.{arith}
 use mathlib.Core.Path.{_≡_, refl, sym, ap, ap₂, _∙_, subst}
 use mathlib.Core.Bool.{Bool}
-use mathlib.Core.List.{[], map}
+use mathlib.Core.List.{map}
 use lib.ListN.{length}
 use lib.IntN.{natAbs}
 use Rattle.model.specs.Words.{Words, word, value, levelLimit, scopeLimit}
@@ -18,8 +18,8 @@ use Rattle.laws.specs.Reading.Nodes.{Node, Nodes}
 use Rattle.laws.specs.Reading.Parts.{plain-parts, atom-parts, compare-parts, join-parts, quantifier-parts, some-parts, first-parts}
 use Rattle.laws.specs.Reading.Parts.{rest-parts}
 use Rattle.laws.specs.Reading.Back.{encode-nonempty, cost-one}
-use Rattle.policies.proofs.ModeWalk.{Has, has}
-use Rattle.tptp_writing.specs.Texts.{Tuples}
+use Rattle.policies.proofs.Standing.{Has, has}
+use Rattle.tptp_putting.specs.Texts.{Tuples}
 use Rattle.tptp_writing.specs.Printing.{Here, HereAll, atomAt, compareAt}
 
 module _ (words : Words) (above scope at : ℕ) where
@@ -47,14 +47,14 @@ module _ (words : Words) (above scope at : ℕ) where
         (b : Bool) → Tag.atom b ≡ tagOf (word words at) →
         let n = value words (at + 2) in
         (h .tree ≡ atomAt words b at) × (h .next ≡ at + 3 + 2 * n) × (1 ≤ n) × (at + 3 + 2 * n ≤ length words)
-    unfolding atomAt value Formed termAt
+    unfolding atomAt value Formed
     atom-here b e =
         let (p, ts, is) = known (Tag.atom b) e in
         let node = subst Stood is (h .node) in
         let a = atom-parts (h .table) words (h .role) above scope at (h .next) b p ts node in
         let number : value words (at + 2) ≡ length ts = ap natAbs (a .number) in
-        let terms : ts ≡ map (termAt [] words) (places (at + 3) (value words (at + 2)))
-        = sym (a .reads .terms) ∙ ap (λ (n : ℕ). map (termAt [] words) (places (at + 3) n)) (sym number) in (
+        let terms : ts ≡ map (termAt words) (places (at + 3) (value words (at + 2)))
+        = sym (a .reads .terms) ∙ ap (λ (n : ℕ). map (termAt words) (places (at + 3) n)) (sym number) in (
           is ∙ ap₂ (atom b) (sym (ap natAbs (a .predicate))) terms,
           omega (arith, a .ends, number),
           omega (arith, node .formed .2, number),
@@ -64,7 +64,7 @@ module _ (words : Words) (above scope at : ℕ) where
     pub compare-here :
         (b : Bool) → Tag.compare b ≡ tagOf (word words at) →
         (h .tree ≡ compareAt words b at) × (h .next ≡ at + 6) × (at + 6 ≤ length words)
-    unfolding compareAt termAt
+    unfolding compareAt
     compare-here b e =
         let (d, x, y, is) = known (Tag.compare b) e in
         let node = subst Stood is (h .node) in

@@ -1,8 +1,4 @@
 -- Laws that several proofs of this crate cite.
-pub mod AddLaws
-pub mod TokenLaws
-pub mod TextLaws
-pub mod TupleLaws
 pub mod NodeTextLaws
 pub mod PrintLaws
 pub mod HereLaws

@@ -17,9 +17,9 @@ use Rattle.model.specs.Tree.{Term, Tree, Trees, plain, atom, compare, join, qua
 use Rattle.model.specs.Tptp.{Tokens, predicateToken, termToken, parenthesized, separated, connective, negation, binder, excludes}
 use Rattle.model.specs.Tptp.{restricted}
 use Rattle.model.specs.Tptp.{isJoin, enclosed, tokens, operands, textTokens, policyText}
-use Rattle.tptp_writing.specs.Texts.{spelt, termText, termsText, headText, tupleText, tuplesText, closedText}
+use Rattle.tptp_putting.specs.Texts.{spelt, termText, termsText, headText, tupleText, tuplesText, closedText}
 use Rattle.tptp_writing.specs.Printing.{atomAt, compareAt, nodeText, operandsText}
-use Rattle.tptp_writing.proofs.TextLaws.{spelt-append, preceded, separated-first}
+use Rattle.tptp_putting.proofs.TextLaws.{spelt-append, preceded, separated-first}
 
 -- a tree that is no all-of or any-of stands as it is
 bare-text : (bare : Bool) (tree : Tree) (scope : ℕ) → isJoin tree ≡ false → nodeText bare tree scope ≡ nodeText true tree scope
@@ -65,7 +65,7 @@ module _ (words : Words) (holds : Bool) (at : ℕ) where
   atom-text p n e f = rw (← e, ← f) (go holds)
     where
       terms : Tokens
-      terms = separated (bytes ",") (map (λ t. termToken t ∷ []) (map (termAt [] words) (places (at + 3) n)))
+      terms = separated (bytes ",") (map (λ t. termToken t ∷ []) (map (termAt words) (places (at + 3) n)))
 
       -- the terms, and the parenthesis behind them
       last :
@@ -92,7 +92,7 @@ module _ (words : Words) (holds : Bool) (at : ℕ) where
     where
       go :
           (b : Bool) →
-          nodeText true (compare b (word words (at + 1)) (termAt [] words (at + 2)) (termAt [] words (at + 4))) 0
+          nodeText true (compare b (word words (at + 1)) (termAt words (at + 2)) (termAt words (at + 4))) 0
           ≡ (((((cond b (bytes "$lesseq($sum(") (bytes "~$lesseq($sum(") ++ termText words (at + 2)) ++ bytes ",")
           ++ decimal (word words (at + 1)))
           ++ bytes "),")

@@ -19,7 +19,7 @@ use Rattle.text.proofs.PutLaws.{writes-whole}
 use Rattle.tptp_writing.specs.declared.tree.Printed.{Printed}
 use Rattle.tptp_writing.specs.declared.tree.Printed.the-variants.{Full, At}
 use Rattle.tptp_writing.specs.Printing.{Here, nodeText, wrote, Prints}
-use Rattle.tptp_writing.proofs.AddLaws.{Behind, behind-fits, behind-more, behind-then, behind-is, behind-short}
+use Rattle.tptp_putting.proofs.AddLaws.{Behind, behind-fits, behind-more, behind-then, behind-is, behind-short}
 use Rattle.tptp_writing.proofs.NodeTextLaws.{policy-text}
 
 module _ (table policy : Words) (tree : Tree) (read : readPolicy table policy ≡ passed tree) where

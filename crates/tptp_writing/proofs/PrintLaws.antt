@@ -8,9 +8,9 @@ use Rattle.text.specs.declared.writing.Put.{Put}
 use Rattle.text.specs.declared.writing.Put.the-variants as P
 use Rattle.tptp_writing.specs.declared.tree.Printed.{Printed}
 use Rattle.tptp_writing.specs.declared.tree.Printed.the-variants.{Full, At}
-use Rattle.tptp_writing.specs.Adding.{Fits, Adds}
+use Rattle.tptp_putting.specs.Adding.{Fits, Adds}
 use Rattle.tptp_writing.specs.Printing.{placed, wrote, Ends, Prints}
-use Rattle.tptp_writing.proofs.AddLaws.{Behind, behind-is, behind-more}
+use Rattle.tptp_putting.proofs.AddLaws.{Behind, behind-is, behind-more}
 
 -- a whole text that was written, and the word behind its node
 pub prints-placed :

@@ -15,11 +15,11 @@ use Rattle.text.specs.declared.writing.Put.{Put}
 use Rattle.text.specs.declared.writing.Put.the-variants as P
 use Rattle.tptp_writing.specs.declared.tree.Printed.{Printed}
 use Rattle.tptp_writing.specs.declared.tree.Printed.the-variants.{Full, At}
-use Rattle.tptp_writing.specs.Adding.{Fits}
-use Rattle.tptp_writing.specs.Texts.{headText, closedText, Tuples}
+use Rattle.tptp_putting.specs.Adding.{Fits}
+use Rattle.tptp_putting.specs.Texts.{headText, closedText, Tuples}
 use Rattle.tptp_writing.specs.Printing.{Here, HereAll, atomAt, compareAt, nodeText, operandsText, wrote, Ends, Prints}
-use Rattle.tptp_writing.proofs.AddLaws.{Behind, behind-fits, behind-more, behind-then, behind-short, Left, left-none, left-more}
-use Rattle.tptp_writing.proofs.AddLaws.{left-end}
+use Rattle.tptp_putting.proofs.AddLaws.{Behind, behind-fits, behind-more, behind-then, behind-short, Left, left-none, left-more}
+use Rattle.tptp_putting.proofs.AddLaws.{left-end}
 use Rattle.tptp_writing.proofs.NodeTextLaws.{plain-same, atom-same, compare-same, quantifier-same, some-same}
 use Rattle.tptp_writing.proofs.NodeTextLaws.{restText, operands-first, operands-more, operands-none, join-text, quantifier-text}
 use Rattle.tptp_writing.proofs.NodeTextLaws.{some-text}

@@ -1,10 +1,9 @@
 // An accepted policy as text in the TPTP typed form, written into a buffer that may be too short.
-mod tokens;
 mod tree;
-mod tuples;
 
 use crate::tree::Printed;
 use text::writing::Put;
+use tptp_putting::tokens;
 ghost use mathlib.Core.Path.{_≡_};
 ghost use Rattle.model.specs.Answer.{passed};
 ghost use Rattle.model.specs.Tree.{Tree};

@@ -1,10 +1,9 @@
 // The walk over a policy's words, which writes each node's text.
-use crate::tokens;
-use crate::tuples;
 use policies::node;
 use policies::node::Tag;
-use tables::words;
 use text::writing::Put;
+use tptp_putting::tokens;
+use tptp_putting::tuples;
 ghost use mathlib.Core.Path.{_≡_};
 ghost use mathlib.Core.Bool.{true, cond};
 ghost use Prim.Native.Nat.{ℕ, _+_, _*_, _^_, _≤_, _<_};
@@ -13,7 +12,7 @@ ghost use Rattle.model.specs.Words as W;
 ghost use Rattle.model.specs.Tag as T;
 ghost use Rattle.model.specs.Tree as M;
 ghost use Rattle.model.specs.Bytes.{bytes};
-ghost use Rattle.tptp_writing.specs.Adding.{Fits};
+ghost use Rattle.tptp_putting.specs.Adding.{Fits};
 ghost use Rattle.tptp_writing.specs.Printing.{Here, HereAll, Prints};
 ghost use Rattle.tptp_writing.specs.Printing as P;
 

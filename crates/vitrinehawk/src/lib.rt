@@ -7,23 +7,23 @@ ghost use Rattle.model.specs.Answer.{number};
 ghost use Rattle.model.specs.Calls as C;
 ghost use Rattle.vitrinehawk.specs.Detail.{detailed};
 
-// The number of an answer.
-fn number_of(answer: Answer) -> u32
-    ensures { λ r. ⌜ r ≡ number answer ⌝ }
-{
-    match answer {
-        Answer::Accepted(_) => 0,
-        Answer::Refused(refusal, _) => model::number(refusal),
-    }
-}
+// The number of an accepted answer.
+const ACCEPTED: u32 = 0;
 
-// Its count, or its place.
-fn detail_of(answer: Answer) -> u64
-    ensures { λ r. ⌜ r ≡ detailed answer ⌝ }
+// Writes the count of an answer, or its place if refused, and returns its number.
+fn tell(answer: Answer, detail: &mut u64) -> u32
+    ensures { λ r. ⌜ r ≡ number answer ⌝ }
+    ensures { λ _. ⌜ now (detail .exit) ≡ detailed answer ⌝ }
 {
     match answer {
-        Answer::Accepted(count) => count as u64,
-        Answer::Refused(_, place) => place as u64,
+        Answer::Accepted(count) => {
+            *detail = count as u64;
+            ACCEPTED
+        }
+        Answer::Refused(refusal, place) => {
+            *detail = place as u64;
+            model::number(refusal)
+        }
     }
 }
 
@@ -33,9 +33,7 @@ pub extern "C" fn vh_check_policy(table: &[i32], policy: &[i32], detail: &mut u6
     ensures { λ r. ⌜ r ≡ number (C.checkPolicy (now (table .entry)) (now (policy .entry))) ⌝ }
     ensures { λ _. ⌜ now (detail .exit) ≡ detailed (C.checkPolicy (now (table .entry)) (now (policy .entry))) ⌝ }
 {
-    let answer = auditor::check_policy(table, policy);
-    *detail = detail_of(answer);
-    number_of(answer)
+    tell(auditor::check_policy(table, policy), detail)
 }
 
 // Checks a log: questions 1 and 8 to 10. The count is the number of its rows.
@@ -44,9 +42,7 @@ pub extern "C" fn vh_check_log(table: &[i32], log: &[i32], detail: &mut u64) -> 
     ensures { λ r. ⌜ r ≡ number (C.checkLog (now (table .entry)) (now (log .entry))) ⌝ }
     ensures { λ _. ⌜ now (detail .exit) ≡ detailed (C.checkLog (now (table .entry)) (now (log .entry))) ⌝ }
 {
-    let answer = auditor::check_log(table, log);
-    *detail = detail_of(answer);
-    number_of(answer)
+    tell(auditor::check_log(table, log), detail)
 }
 
 // Writes the dual of a policy: questions 1 to 7 and 12. The count is its length. The rest of the buffer, or all of it if the
@@ -69,9 +65,7 @@ pub extern "C" fn vh_dual(
         now (buffer .exit) ≡ C.dualCall (now (table .entry)) (now (policy .entry)) (length (now (buffer .entry))) .buffer
         ⌝ }
 {
-    let answer = auditor::dual(table, policy, buffer);
-    *detail = detail_of(answer);
-    number_of(answer)
+    tell(auditor::dual(table, policy, buffer), detail)
 }
 
 // Writes the residual of a policy over a log: questions 1 to 12. The count is its length. The rest of the buffer, or all of it if
@@ -104,9 +98,7 @@ pub extern "C" fn vh_reduce(
         ≡ C.reduceCall (now (table .entry)) (now (policy .entry)) (now (log .entry)) (length (now (scratch .entry))) (length (now (buffer .entry))) .scratch
         ⌝ }
 {
-    let answer = auditor::reduce(table, policy, log, scratch, buffer);
-    *detail = detail_of(answer);
-    number_of(answer)
+    tell(auditor::reduce(table, policy, log, scratch, buffer), detail)
 }
 
 // Reads a log from comma-separated text: questions 1, 13, 14, 8, 10 and 12. The count is the number of its rows. The rest of the
@@ -129,9 +121,7 @@ pub extern "C" fn vh_read_log(
         now (buffer .exit) ≡ C.readLogCall (now (table .entry)) (now (text .entry)) (length (now (buffer .entry))) .buffer
         ⌝ }
 {
-    let answer = auditor::read_log(table, text, buffer);
-    *detail = detail_of(answer);
-    number_of(answer)
+    tell(auditor::read_log(table, text, buffer), detail)
 }
 
 // Writes a log as comma-separated text: questions 1, 8 to 10 and 12. The count is the number of bytes. The rest of the buffer, or
@@ -154,9 +144,7 @@ pub extern "C" fn vh_write_log(
         now (buffer .exit) ≡ C.writeLogCall (now (table .entry)) (now (log .entry)) (length (now (buffer .entry))) .buffer
         ⌝ }
 {
-    let answer = auditor::write_log(table, log, buffer);
-    *detail = detail_of(answer);
-    number_of(answer)
+    tell(auditor::write_log(table, log, buffer), detail)
 }
 
 // Reads a policy from text in the TPTP typed form: questions 1, 15 (or 4, of parentheses), 2 to 7 of the words that it spells, and
@@ -179,9 +167,7 @@ pub extern "C" fn vh_read_policy(
         now (buffer .exit) ≡ C.readPolicyCall (now (table .entry)) (now (text .entry)) (length (now (buffer .entry))) .buffer
         ⌝ }
 {
-    let answer = auditor::read_policy(table, text, buffer);
-    *detail = detail_of(answer);
-    number_of(answer)
+    tell(auditor::read_policy(table, text, buffer), detail)
 }
 
 // Writes a policy as text in the TPTP typed form: questions 1 to 7 and 12. The count is the number of bytes. The rest of the
@@ -204,7 +190,5 @@ pub extern "C" fn vh_write_policy(
         now (buffer .exit) ≡ C.writePolicyCall (now (table .entry)) (now (policy .entry)) (length (now (buffer .entry))) .buffer
         ⌝ }
 {
-    let answer = auditor::write_policy(table, policy, buffer);
-    *detail = detail_of(answer);
-    number_of(answer)
+    tell(auditor::write_policy(table, policy, buffer), detail)
 }

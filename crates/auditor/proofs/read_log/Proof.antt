@@ -1,5 +1,5 @@
 -- `auditor::read_log` meets its contract: what the reading left, and zeros.
-use Rattle.auditor.proofs.LogReading.{read-cleared}
+use Rattle.log_texts.proofs.LogReading.{read-cleared}
 use borrow.Author.Needs.{needs}
 use Rattle.auditor.proofs.read_log.Statement.{statement}
 use Rattle.auditor.proofs.read_log.Tie as tie

@@ -1,5 +1,5 @@
 -- `auditor::read_policy` meets its contract: what the reading left, and zeros.
-use Rattle.auditor.proofs.PolicyReading.{policy-cleared}
+use Rattle.policy_texts.proofs.PolicyReading.{policy-cleared}
 use borrow.Author.Needs.{needs}
 use Rattle.auditor.proofs.read_policy.Statement.{statement}
 use Rattle.auditor.proofs.read_policy.Tie as tie

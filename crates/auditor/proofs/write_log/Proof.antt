@@ -1,6 +1,6 @@
 -- `auditor::write_log` meets its contract: what the writing left, and zeros.
 use Rattle.model.specs.Calls.{writeLogCall}
-use Rattle.auditor.proofs.TextWriting.{text-cleared}
+use Rattle.text.proofs.WrittenLaws.{text-cleared}
 use borrow.Author.Needs.{needs}
 use Rattle.auditor.proofs.write_log.Statement.{statement}
 use Rattle.auditor.proofs.write_log.Tie as tie

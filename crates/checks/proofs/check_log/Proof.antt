@@ -2,7 +2,6 @@
 use mathlib.Core.Path.{sym, ap, _∙_}
 use Rattle.model.specs.Log.{rowCount}
 use Rattle.laws.specs.Answer.{answers}
-use Rattle.laws.specs.Table.{accepted, short}
 use Rattle.tables.specs.Checked.{outcome}
 use Rattle.checks.proofs.Calls.{log-table-refused, log-refused, log-accepted}
 use borrow.Author.Needs.{needs}
@@ -19,10 +18,7 @@ enum-told : tie.Need-enum-told
 enum-told c = search needs
 
 check-rows-requires : tie.Need-check-rows-requires
-check-rows-requires c κs =
-    let k = c .before .before in
-    let a = k .before .args in
-    short (a .table .now) (accepted (a .table .now) (sym (k .check-table .ensures) ∙ ap outcome (c .enum-told .given .1)))
+check-rows-requires c κs = search needs
 
 enum-known-second : tie.Need-enum-known-second
 enum-known-second c = search needs

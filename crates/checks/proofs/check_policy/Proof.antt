@@ -18,8 +18,8 @@ enum-known-first c = search needs
 enum-told : tie.Need-enum-told
 enum-told c = search needs
 
-read-policy-requires : tie.Need-read-policy-requires
-read-policy-requires c κs = search needs
+ask-policy-requires : tie.Need-ask-policy-requires
+ask-policy-requires c κs = search needs
 
 enum-known-second : tie.Need-enum-known-second
 enum-known-second c = search needs
@@ -33,7 +33,7 @@ check-modes-requires c κs =
     let t = r .before in
     let a = t .before .before .before .args in
     let e = sym (t .before .before .check-table .ensures) ∙ ap outcome (t .enum-told .given .1) in
-    let (tree, is, level) = tree-read (a .table .now) (a .policy .now) e (sym (c .before .second2 .given .1) ∙ r .read-policy .ensures) in
+    let (tree, is, level) = tree-read (a .table .now) (a .policy .now) e (sym (c .before .second2 .given .1) ∙ r .ask-policy .ensures) in
     (accepted (a .table .now) e .few, (tree, _, read-node (a .table .now) (a .policy .now) tree is))
 
 enum-known-third : tie.Need-enum-known-third
@@ -56,7 +56,7 @@ returns-2 c =
     let t = r .before in
     let a = t .before .before .before .args in
     let e = sym (t .before .before .check-table .ensures) ∙ ap outcome (t .enum-told .given .1) in
-    answers (sym (policy-refused (a .table .now) (a .policy .now) e (sym (c .before .second .given .1) ∙ r .read-policy .ensures)))
+    answers (sym (policy-refused (a .table .now) (a .policy .now) e (sym (c .before .second .given .1) ∙ r .ask-policy .ensures)))
 
 returns-3 : tie.Need-returns-3
 returns-3 c =
@@ -65,7 +65,7 @@ returns-3 c =
     let t = r .before in
     let a = t .before .before .before .args in
     let e = sym (t .before .before .check-table .ensures) ∙ ap outcome (t .enum-told .given .1) in
-    let f = sym (m .before .before .second2 .given .1) ∙ r .read-policy .ensures in
+    let f = sym (m .before .before .second2 .given .1) ∙ r .ask-policy .ensures in
     let (tree, is, level) = tree-read (a .table .now) (a .policy .now) e f in
     let modes = m .check-modes .ensures tree _ (read-node (a .table .now) (a .policy .now) tree is) in
     answers (sym (modes-refused (a .table .now) (a .policy .now) e f (sym (ap outcome (c .before .third .given .1)) ∙ modes)))
@@ -77,7 +77,7 @@ returns-4 c =
     let t = r .before in
     let a = t .before .before .before .args in
     let e = sym (t .before .before .check-table .ensures) ∙ ap outcome (t .enum-told .given .1) in
-    let f = sym (m .before .before .second2 .given .1) ∙ r .read-policy .ensures in
+    let f = sym (m .before .before .second2 .given .1) ∙ r .ask-policy .ensures in
     let (tree, is, level) = tree-read (a .table .now) (a .policy .now) e f in
     let modes = m .check-modes .ensures tree _ (read-node (a .table .now) (a .policy .now) tree is) in
     answers (sym (policy-accepted (a .table .now) (a .policy .now) e f (sym (ap outcome (c .enum-told2 .given .1)) ∙ modes)))
@@ -89,7 +89,7 @@ check-policy-spec =
     check-table-requires
     enum-known-first
     enum-told
-    read-policy-requires
+    ask-policy-requires
     enum-known-second
     enum-known-second-2
     check-modes-requires

@@ -31,7 +31,7 @@ use Rattle.laws.specs.Words.Tests.{and-right, decide}
 use Rattle.laws.specs.Answer.{ask-passed}
 
 -- a refusal's place is at most n
-abbrev pub Within : {A : Type 0} → ℕ → Outcome A → Type 0
+abbrev pub Within : {A : Type 0} (n : ℕ) (outcome : Outcome A) → Type 0
 Within n (refused r p) = p ≤ n
 Within n (passed a) = Unit {0}
 
@@ -72,7 +72,7 @@ module _ (table words : Words) where
       There table words read →
       (tag : Tag) (role : Role) (above level scope at : ℕ) →
       Asked table words role above scope at tag →
-      Within (length words) (build table words read tag role level scope at)
+      Within (length words) (build words read tag role level scope at)
   unfolding build own
   build-within read b there (Tag.plain x) role above level scope at a = tt
   build-within read b there (Tag.atom x) role above level scope at a = tt

@@ -30,7 +30,7 @@ use Rattle.laws.specs.Listing.Fitting.{Agrees, Binds, Supported, Found, 
 use Rattle.laws.specs.Listing.Fitting.{same-or-not, fit-sound, fit-complete, fit-binds, fit-supported}
 
 -- every environment of a list binds those variables, and only the first n
-abbrev pub Fits : Variables → ℕ → List Environment → Type 0
+abbrev pub Fits : (b : Variables) (n : ℕ) (es : List Environment) → Type 0
 Fits b n es = (e : Environment) → List·Memᴰ e es → Binds b e × Supported n e
 
 -- what fits a scope fits the scope with one more variable

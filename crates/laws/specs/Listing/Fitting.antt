@@ -22,13 +22,13 @@ use Rattle.laws.specs.Lists.Membership.{mem-gather, gather-mem}
 use Rattle.laws.specs.Reading.Formed.{InScope, AllInScope}
 
 -- σ has the numbers that an environment binds; the environment binds at least those variables; it binds only the first n
-abbrev pub Agrees : Environment → List ℤ → Type 0
+abbrev pub Agrees : (e : Environment) (σ : List ℤ) → Type 0
 Agrees e σ = (x : ℕ) (k : ℤ) → e x ≡ bound k → getD σ x (pos 0) ≡ k
 
-abbrev pub Binds : Variables → Environment → Type 0
+abbrev pub Binds : (b : Variables) (e : Environment) → Type 0
 Binds b e = (x : ℕ) → b x ≡ true → (k : ℤ) × (e x ≡ bound k)
 
-abbrev pub Supported : ℕ → Environment → Type 0
+abbrev pub Supported : (n : ℕ) (e : Environment) → Type 0
 Supported n e = (x : ℕ) → n ≤ x → e x ≡ free
 
 -- what is bound is not free, and to one number only
@@ -132,7 +132,7 @@ met-sound {e} {a} σ (binding x v q s) g =
     (unbind e σ x a q g₀, ap (numberOf σ) v ∙ g₀ x a (bind-same e x a))
 
 -- the environments of a list that agree with σ
-abbrev pub Found : List Environment → List ℤ → Type 0
+abbrev pub Found : (es : List Environment) (σ : List ℤ) → Type 0
 Found es σ = (e : Environment) × List·Memᴰ e es × Agrees e σ
 
 -- a term meets its number under σ with an environment that agrees with σ

@@ -31,7 +31,7 @@ use Rattle.laws.specs.Listing.Fitting.{Agrees, Supported, Found, bound-f
 use Rattle.laws.specs.Listing.Exact.{Fits, list-fits, listed-true, true-listed, one-more}
 
 -- a set holds only variables below n
-abbrev pub Below : ℕ → Variables → Type 0
+abbrev pub Below : (n : ℕ) (b : Variables) → Type 0
 Below n b = (x : ℕ) → b x ≡ true → x < n
 
 -- such a set holds only variables below a greater number; the outer variables are such a set

@@ -1,8 +1,9 @@
 -- Spans of numbers, parts of lists, and tests over equal lists: by induction on the list.
-use Prim.Native.Nat.{ℕ, zero, suc, _+_, _≤_, _<_, min}
+use Prim.Native.Nat.{ℕ, zero, suc, _+_, _-_, _≤_, _<_, min}
 use native.Mathlib.Nat.{suc-add, zero-add, suc-min-suc, min-zero, zero-min, eq-or-lt-of-le}
+use native.Mathlib.Numerals.{add-one}
 use native.Mathlib.Omega.{arith}
-use mathlib.Core.Path.{_≡_, refl, sym, ap, ap₂}
+use mathlib.Core.Path.{_≡_, refl, sym, ap, ap₂, _∙_}
 use mathlib.Core.Logic.{_⊎_, inl, inr, ⊎-elim}
 use mathlib.Core.Bool.{Bool, true, false, cond, _||_, true≢false}
 use mathlib.Core.List.{List, [], _∷_, map, List·Memᴰ, List·Memᴰ·head, List·Memᴰ·tail, List·Memᴰ·not-nil, List·Memᴰ·cases-cons}
@@ -55,6 +56,17 @@ unfolding span
 take-span zero i n = rw zero-min
 take-span (suc k) i zero = rw min-zero
 take-span (suc k) i (suc n) = rw suc-min-suc (ap (λ (l : List ℕ). i ∷ l) (take-span k (suc i) n))
+
+-- the span from p to n begins with p
+pub span-step : (p n : ℕ) → p < n → span p (n - p) ≡ p ∷ span (p + 1) (n - (p + 1))
+unfolding span
+span-step p n h =
+    ap (span p) (let e : n - p ≡ suc (n - (p + 1)) = omega arith in e)
+    ∙ ap (λ (q : ℕ). p ∷ span q (n - (p + 1))) (sym (add-one p))
+
+pub span-end : (p n : ℕ) → n ≤ p → span p (n - p) ≡ []
+unfolding span
+span-end p n h = ap (span p) (let e : n - p ≡ 0 = omega arith in e)
 
 -- a disjunction that is false has no true part
 pub or-false-left : (a b : Bool) → a || b ≡ false → a ≡ false

@@ -39,10 +39,10 @@ ltb-shift n x y =
 
 module _ (ρ : List ℤ) where
   -- a set of variables with the outer ones left out; and a set that holds all outer ones
-  abbrev pub inner : Variables → Variables
+  abbrev pub inner : (b : Variables) → Variables
   inner b x = b (length ρ + x)
 
-  abbrev pub HoldsOuter : Variables → Type 0
+  abbrev pub HoldsOuter : (b : Variables) → Type 0
   HoldsOuter b = (x : ℕ) → x < length ρ → b x ≡ true
 
   -- a term is the variable x afterwards if it was the variable x behind the outer ones

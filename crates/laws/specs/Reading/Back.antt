@@ -5,7 +5,7 @@ use native.Mathlib.Omega.{arith}
 use mathlib.Core.Path.{_≡_, refl, ap}
 use mathlib.Core.Bool.{Bool, true, false, cond}
 use mathlib.Core.List.{List}
-use lib.ListN.{length}
+use lib.ListN.{length, length-append}
 use lib.IntN.{ℤ}
 use borrow.Author.Tests.{le-leb, eq-eqb}
 use Rattle.model.specs.declared.Refusal.the-variants.{PolicyLength, Shape}
@@ -14,9 +14,9 @@ use Rattle.model.specs.Lists.{all}
 use Rattle.model.specs.Answer.{Outcome, passed}
 use Rattle.model.specs.Table.{predicates}
 use Rattle.model.specs.Tag.{Tag}
-use Rattle.model.specs.Tree.{Tree, Trees, plain, atom, compare, join, quantifier, some, nil, cons, count, encode}
+use Rattle.model.specs.Tree.{Tree, Trees, plain, atom, compare, join, quantifier, some, nil, cons, count, encode, encodeAll}
 use Rattle.model.specs.Level.{Role, restriction, formula, operand, under, quantifierCost, cost, greatest}
-use Rattle.model.specs.Reading.{Read, isFormula, repeat, own, build, readNode, readPolicy}
+use Rattle.model.specs.Reading.{Read, isFormula, repeat, own, goodPredicate, build, readNode, readPolicy}
 use Rattle.laws.specs.Words.Tests.{and-true}
 use Rattle.laws.specs.Reading.Formed.{Formed}
 use Rattle.laws.specs.Answer.{ask-true, pass-then}
@@ -68,7 +68,7 @@ module _ (table words : Words) (role : Role) (above scope at next : ℕ) where
       (tree : Tree) →
       Node table words role above scope at tree next →
       Asked table words role above scope at (root tree)
-  unfolding encode Formed root own value all
+  unfolding encode Formed root own goodPredicate value all
   root-asked (plain b) node =
       record {
         shape = refl;
@@ -131,7 +131,7 @@ module _ (table words : Words) (role : Role) (above scope at next : ℕ) where
 
 module _ (table words : Words) where
   -- with so much depth left, a reader reads what stands at a place
-  abbrev pub Back : Reader → ℕ → Type 0
+  abbrev pub Back : (read : Reader) (depth : ℕ) → Type 0
   Back read depth =
       (role : Role) (above scope at next : ℕ) (tree : Tree) →
       levelLimit < depth + above →
@@ -163,7 +163,7 @@ module _ (table words : Words) where
       (role : Role) (above scope at next : ℕ) (tree : Tree) →
       levelLimit < suc depth + above →
       Node table words role above scope at tree next →
-      build table words read (root tree) role (above + cost role (root tree)) scope at
+      build words read (root tree) role (above + cost role (root tree)) scope at
       ≡ passed (record { tree = tree; next = next })
   unfolding build root cost value tuples
   build-back read depth back role above scope at next (plain b) h node =
@@ -212,6 +212,12 @@ encode-nonempty (compare b d x y) = omega arith
 encode-nonempty (join b ts) = omega arith
 encode-nonempty (quantifier b v excluded c f) = omega arith
 encode-nonempty (some c) = omega arith
+
+-- no more trees than words of them
+pub count-few : (ts : Trees) → count ts ≤ length (encodeAll ts)
+unfolding count encode
+count-few nil = omega arith
+count-few (cons t ts) = omega (arith, count-few ts, encode-nonempty t, length-append (encode t) (encodeAll ts))
 
 -- a tree that keeps the rules and the level limit stands at the beginning of its words
 pub whole-node :

@@ -19,7 +19,7 @@ use Rattle.model.specs.Table.{predicates, arity}
 use Rattle.model.specs.Tag.{Tag, tagOf}
 use Rattle.model.specs.Tree.{Tree, Trees, plain, atom, compare, join, quantifier, some, count, encode, encodeAll}
 use Rattle.model.specs.Level.{Role, restriction, formula, under, quantifierCost, cost, greatest}
-use Rattle.model.specs.Reading.{Read, isFormula, places, repeat, termAt, goodKind, inScope, own, build, readNode, readPolicy}
+use Rattle.model.specs.Reading.{Read, isFormula, places, repeat, termAt, goodKind, inScope, own, goodPredicate, build, readNode, readPolicy}
 use Rattle.laws.specs.Words.Tests.{and-left, and-right}
 use Rattle.laws.specs.Reading.Formed.{Formed}
 use Rattle.laws.specs.Answer.{ask-passed, passed-same, refused-passed, both-passed}
@@ -50,19 +50,19 @@ module _ (table words : Words) (role : Role) (above scope at : ℕ) where
       word words at ≡ pos (code (Tag.atom b)) →
       Asked table words role above scope at (Tag.atom b) →
       let n = value words (at + 2) in
-      let ts = map (termAt table words) (places (at + 3) n) in
+      let ts = map (termAt words) (places (at + 3) n) in
       Node table words role above scope at (atom b (value words (at + 1)) ts) (at + 3 + 2 * n)
-  unfolding own code cost encode Formed greatest value
+  unfolding own goodPredicate code cost encode Formed greatest value
   atom-there b w a =
       let p = value words (at + 1) in
       let n = value words (at + 2) in
       let known = below (predicates table) (word words (at + 1)) in
       let few = within 1 6 (word words (at + 2)) in
-      let number = length-terms table words (at + 3) n in
+      let number = length-terms words (at + 3) n in
       let predicate = below-value (predicates table) (word words (at + 1)) (and-left known _ (a .predicate)) in
       let same = eqb-true (arity table p) n (and-right known _ (a .predicate)) in
       let range = within-value 1 6 (word words (at + 2)) (and-left few _ (a .shape)) in
-      let terms = terms-there table words scope n (at + 3) (omega (arith, a .fits)) (and-right few _ (a .shape)) (a .range) in
+      let terms = terms-there words scope n (at + 3) (omega (arith, a .fits)) (and-right few _ (a .shape)) (a .range) in
       record {
         stands = rw number (stands-three words _ _ _ _ (omega (arith, a .fits)) w (predicate .0) (range .0) (terms .0));
         formed = rw number (predicate .1, same, range .1, range .2, terms .1);
@@ -74,19 +74,19 @@ module _ (table words : Words) (role : Role) (above scope at : ℕ) where
       (b : Bool) →
       word words at ≡ pos (code (Tag.compare b)) →
       Asked table words role above scope at (Tag.compare b) →
-      let x = termAt table words (at + 2) in
-      let y = termAt table words (at + 4) in
+      let x = termAt words (at + 2) in
+      let y = termAt words (at + 4) in
       Node table words role above scope at (compare b (word words (at + 1)) x y) (at + 6)
   unfolding own code cost encode Formed greatest all
   compare-there b w a =
       let kinds = rw two-places at (a .shape) in
       let range = rw two-places at (a .range) in
-      let kinds′ = and-right (goodKind table words (at + 2)) _ kinds in
-      let range′ = and-right (inScope table words scope (at + 2)) _ range in
+      let kinds′ = and-right (goodKind words (at + 2)) _ kinds in
+      let range′ = and-right (inScope words scope (at + 2)) _ range in
       let short : at + 4 ≤ length words = omega (arith, a .fits) in
-      let x = term-there table words scope (at + 2) (at + 4) (omega arith) short (and-left _ _ kinds) (and-left _ _ range) in
+      let x = term-there words scope (at + 2) (at + 4) (omega arith) short (and-left _ _ kinds) (and-left _ _ range) in
       let ends : at + 6 ≡ at + 4 + 2 = omega arith in
-      let y = term-there table words scope (at + 4) (at + 6) ends (a .fits) (and-left _ _ kinds′) (and-left _ _ range′) in
+      let y = term-there words scope (at + 4) (at + 6) ends (a .fits) (and-left _ _ kinds′) (and-left _ _ range′) in
       record {
         stands = stands-two words _ _ _ (omega arith) w refl (stands-both words _ _ (x .0) (y .0));
         formed = (x .1, y .1);
@@ -158,7 +158,7 @@ module _ (table words : Words) (role : Role) (above scope at : ℕ) where
 
 module _ (table words : Words) where
   -- what a reader reads stands where it was read
-  abbrev pub There : Reader → Type 0
+  abbrev pub There : (read : Reader) → Type 0
   There read =
       (role : Role) (above scope at : ℕ) (r : Read Tree) →
       read role above scope at ≡ passed r →
@@ -197,7 +197,7 @@ module _ (table words : Words) where
       (tag : Tag) (role : Role) (above scope at : ℕ) (r : Read Tree) →
       word words at ≡ pos (code tag) →
       Asked table words role above scope at tag →
-      build table words read tag role (above + cost role tag) scope at ≡ passed r →
+      build words read tag role (above + cost role tag) scope at ≡ passed r →
       Node table words role above scope at (r .tree) (r .next)
   unfolding build cost own tuples
   build-there read there (Tag.plain b) role above scope at r w a e =

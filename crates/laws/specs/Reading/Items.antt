@@ -56,8 +56,8 @@ unfolding places
 length-places first n = length-map (span 0 n) (λ i. first + 2 * i) ∙ length-span 0 n
 
 -- how many terms are read
-pub length-terms : (table words : Words) (first n : ℕ) → length (map (termAt table words) (places first n)) ≡ n
-length-terms table words first n = length-map (places first n) (termAt table words) ∙ length-places first n
+pub length-terms : (words : Words) (first n : ℕ) → length (map (termAt words) (places first n)) ≡ n
+length-terms words first n = length-map (places first n) (termAt words) ∙ length-places first n
 
 -- m tuples of v words each, the first at an index
 unfoldable pub tuples : Words → ℕ → ℕ → ℕ → List (List ℤ)
@@ -87,28 +87,28 @@ kind-one (pos zero) e f = clash refl f
 kind-one (pos (suc n)) e f = let r = within-value 0 1 (pos (suc n)) e in ap pos (omega arith)
 kind-one (negsuc n) e f = clash e refl
 
-module _ (table words : Words) (scope : ℕ) where
+module _ (words : Words) (scope : ℕ) where
   -- a term is read at an index, and passes its questions
   pub record ReadsTerm (i : ℕ) (t : Term) : Type 0 where
-    pub term : termAt table words i ≡ t
-    pub kind : goodKind table words i ≡ true
-    pub range : inScope table words scope i ≡ true
+    pub term : termAt words i ≡ t
+    pub kind : goodKind words i ≡ true
+    pub range : inScope words scope i ≡ true
 
   -- terms are read from an index on, and pass their questions
   pub record ReadsTerms (first : ℕ) (ts : List Term) : Type 0 where
-    pub terms : map (termAt table words) (places first (length ts)) ≡ ts
-    pub kinds : all (goodKind table words) (places first (length ts)) ≡ true
-    pub range : all (inScope table words scope) (places first (length ts)) ≡ true
+    pub terms : map (termAt words) (places first (length ts)) ≡ ts
+    pub kinds : all (goodKind words) (places first (length ts)) ≡ true
+    pub range : all (inScope words scope) (places first (length ts)) ≡ true
 
-module _ (table words : Words) (scope : ℕ) where
+module _ (words : Words) (scope : ℕ) where
   -- a term that is read: its words stand there, and it is in scope
   pub term-there :
       (i next : ℕ) →
       next ≡ i + 2 →
       next ≤ length words →
-      goodKind table words i ≡ true →
-      inScope table words scope i ≡ true →
-      Stands words i (encodeTerm (termAt table words i)) next × InScope scope (termAt table words i)
+      goodKind words i ≡ true →
+      inScope words scope i ≡ true →
+      Stands words i (encodeTerm (termAt words i)) next × InScope scope (termAt words i)
   unfolding termAt goodKind inScope encodeTerm InScope value
   term-there i next e h kind range = go (equal (word words i) (pos 0)) refl
     where
@@ -118,7 +118,7 @@ module _ (table words : Words) (scope : ℕ) where
       go :
           (b : Bool) →
           equal (word words i) (pos 0) ≡ b →
-          Stands words i (encodeTerm (termAt table words i)) next × InScope scope (termAt table words i)
+          Stands words i (encodeTerm (termAt words i)) next × InScope scope (termAt words i)
       go true f = rw f (two 0 (word words (i + 1)) (equal-true _ _ f) refl, tt)
       go false f =
           let inside = ⊎-elim (λ g. clash g f) (λ g. g) (or-cases (equal (word words i) (pos 0)) _ range) in
@@ -130,7 +130,7 @@ module _ (table words : Words) (scope : ℕ) where
       (i next : ℕ) (t : Term) →
       Stands words i (encodeTerm t) next →
       InScope scope t →
-      ReadsTerm table words scope i t × (next ≡ i + 2)
+      ReadsTerm words scope i t × (next ≡ i + 2)
   unfolding termAt goodKind inScope encodeTerm InScope value within equal
   term-back i next (constant k) s h =
       let two = two-stand words (pos 0) k [] s in
@@ -143,17 +143,17 @@ module _ (table words : Words) (scope : ℕ) where
   pub terms-there :
       (n first : ℕ) →
       first + 2 * n ≤ length words →
-      all (goodKind table words) (places first n) ≡ true →
-      all (inScope table words scope) (places first n) ≡ true →
-      let ts = map (termAt table words) (places first n) in
+      all (goodKind words) (places first n) ≡ true →
+      all (inScope words scope) (places first n) ≡ true →
+      let ts = map (termAt words) (places first n) in
       Stands words first (gather encodeTerm ts) (first + 2 * n) × AllInScope scope ts
   unfolding all gather AllInScope
   terms-there zero first h kinds range = rw places-zero (stands-none words (omega arith) h, tt)
   terms-there (suc n) first h kinds range =
-      let k : all (goodKind table words) (first ∷ places (first + 2) n) ≡ true = rw places-suc at kinds in
-      let r : all (inScope table words scope) (first ∷ places (first + 2) n) ≡ true = rw places-suc at range in
-      let k′ = and-right (goodKind table words first) _ k in
-      let r′ = and-right (inScope table words scope first) _ r in
+      let k : all (goodKind words) (first ∷ places (first + 2) n) ≡ true = rw places-suc at kinds in
+      let r : all (inScope words scope) (first ∷ places (first + 2) n) ≡ true = rw places-suc at range in
+      let k′ = and-right (goodKind words first) _ k in
+      let r′ = and-right (inScope words scope first) _ r in
       let one = term-there first (first + 2) refl (omega arith) (and-left _ _ k) (and-left _ _ r) in
       let rest = terms-there n (first + 2) (omega arith) k′ r′ in
       let ends : first + 2 * suc n ≡ first + 2 + 2 * n = omega arith in
@@ -164,7 +164,7 @@ module _ (table words : Words) (scope : ℕ) where
       (first next : ℕ) (ts : List Term) →
       Stands words first (gather encodeTerm ts) next →
       AllInScope scope ts →
-      ReadsTerms table words scope first ts × (next ≡ first + 2 * length ts)
+      ReadsTerms words scope first ts × (next ≡ first + 2 * length ts)
   unfolding all gather AllInScope
   terms-back first next [] s h =
       (record { terms = rw places-zero; kinds = rw places-zero; range = rw places-zero }, s .ends)

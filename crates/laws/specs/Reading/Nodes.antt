@@ -11,7 +11,7 @@ use Rattle.model.specs.Answer.{Outcome, passed}
 use Rattle.model.specs.Tag.{Tag}
 use Rattle.model.specs.Tree.{Tree, Trees, encode, encodeAll}
 use Rattle.model.specs.Level.{Role, restriction, formula, operand, under, cost, greatest, greatestAll}
-use Rattle.model.specs.Reading.{Read, isFormula, isRestriction, own, questions}
+use Rattle.model.specs.Reading.{Read, isFormula, isRestriction, own, goodPredicate, questions}
 use Rattle.laws.specs.Words.Tests.{and-left, and-right, and-true}
 use Rattle.laws.specs.Reading.Formed.{Formed, FormedAll}
 use Rattle.laws.specs.Answer.{ask-passed, ask-true, both-passed, pass-then}
@@ -36,11 +36,11 @@ module _ (table words : Words) (role : Role) (above scope at : ℕ) where
 
   -- the answers to the questions at a node are yes
   pub record Asked (tag : Tag) : Type 0 where
-    pub shape : own table words tag role scope at .shape ≡ true
-    pub fits : at + own table words tag role scope at .size ≤ length words
+    pub shape : own words tag role scope at .shape ≡ true
+    pub fits : at + own words tag role scope at .size ≤ length words
     pub level : above + cost role tag ≤ levelLimit
-    pub predicate : own table words tag role scope at .predicate ≡ true
-    pub range : own table words tag role scope at .scope ≡ true
+    pub predicate : goodPredicate table words tag at ≡ true
+    pub range : own words tag role scope at .scope ≡ true
 
 module _ (table words : Words) (role : Role) (above scope at : ℕ) (tag : Tag) where
   -- questions that passed were answered yes
@@ -53,7 +53,7 @@ module _ (table words : Words) (role : Role) (above scope at : ℕ) (tag : Tag) 
       let shape = ask-passed _ Shape at first in
       record {
         shape = and-left _ _ shape;
-        fits = leb-true _ _ (and-right (own table words tag role scope at .shape) _ shape);
+        fits = leb-true _ _ (and-right (own words tag role scope at .shape) _ shape);
         level = leb-true _ _ (ask-passed _ Level at second);
         predicate = ask-passed _ Predicate at third;
         range = ask-passed _ Variable at fourth;

@@ -29,21 +29,22 @@ root (join b ts) = Tag.join b
 root (quantifier b v excluded c f) = Tag.quantifier b
 root (some c) = Tag.some
 
-module _ (table words : Words) (scope at next : ℕ) where
+module _ (words : Words) (scope at next : ℕ) where
   -- an atom: its predicate, the number of its terms, and they
   pub record AtomParts (p : ℕ) (ts : List Term) : Type 0 where
     pub predicate : word words (at + 1) ≡ pos p
     pub number : word words (at + 2) ≡ pos (length ts)
-    pub reads : ReadsTerms table words scope (at + 3) ts
+    pub reads : ReadsTerms words scope (at + 3) ts
     pub ends : next ≡ at + 3 + 2 * length ts
 
   -- a comparison: its number and its two terms
   pub record CompareParts (d : ℤ) (x y : Term) : Type 0 where
     pub number : word words (at + 1) ≡ d
-    pub left : ReadsTerm table words scope (at + 2) x
-    pub right : ReadsTerm table words scope (at + 4) y
+    pub left : ReadsTerm words scope (at + 2) x
+    pub right : ReadsTerm words scope (at + 4) y
     pub ends : next ≡ at + 6
 
+module _ (table words : Words) (scope at next : ℕ) where
   -- a quantifier: the numbers of its variables and tuples, the tuples, its restriction at `start`, and its body
   pub record QuantifierParts (v : ℕ) (excluded : List (List ℤ)) (c f : Tree) (level start : ℕ) : Type 0 where
     pub variables : word words (at + 1) ≡ pos v
@@ -81,25 +82,25 @@ module _ (table words : Words) (role : Role) (above scope at next : ℕ) where
   pub atom-parts :
       (b : Bool) (p : ℕ) (ts : List Term) →
       Node table words role above scope at (atom b p ts) next →
-      AtomParts table words scope at next p ts
+      AtomParts words scope at next p ts
   unfolding encode Formed
   atom-parts b p ts node =
       let own = three-stand words _ _ _ _ (node .stands) in
-      let terms = terms-back table words scope (at + 3) next ts (own .3) (node .formed .4) in
+      let terms = terms-back words scope (at + 3) next ts (own .3) (node .formed .4) in
       record { predicate = own .1; number = own .2; reads = terms .0; ends = terms .1 }
 
   -- a comparison taken apart
   pub compare-parts :
       (b : Bool) (d : ℤ) (x y : Term) →
       Node table words role above scope at (compare b d x y) next →
-      CompareParts table words scope at next d x y
+      CompareParts words scope at next d x y
   unfolding encode Formed
   compare-parts b d x y node =
       let own = two-stand words _ _ _ (node .stands) in
-      let left = term-back table words scope _ _ x (stands-left words (encodeTerm x) (encodeTerm y) (own .2)) (node .formed .0) in
+      let left = term-back words scope _ _ x (stands-left words (encodeTerm x) (encodeTerm y) (own .2)) (node .formed .0) in
       let start : at + 2 + length (encodeTerm x) ≡ at + 4 = left .1 ∙ omega arith in
       let rest = rw start at (stands-right words (encodeTerm x) (encodeTerm y) (own .2)) in
-      let right = term-back table words scope (at + 4) next y rest (node .formed .1) in
+      let right = term-back words scope (at + 4) next y rest (node .formed .1) in
       record { number = own .1; left = left .0; right = right .0; ends = right .1 ∙ omega arith }
 
   -- an all-of or any-of taken apart

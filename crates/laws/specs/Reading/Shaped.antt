@@ -1,7 +1,6 @@
 -- What is good by question 3: of a tree whose words have 32 bits, exactly that its excluded tuples have as many numbers as the
 -- quantifier has variables, so that the words are laid as the tree says, and that question 3, asked of the words, passes at each node.
 use Prim.Native.Nat.{ℕ, _+_, _*_}
-use native.Mathlib.Omega.{arith}
 use mathlib.Core.Path.{_≡_, refl, ap, _∙_}
 use mathlib.Core.Logic.{_↔_}
 use mathlib.Core.Bool.{Bool, true, not, _&&_}
@@ -16,7 +15,7 @@ use Rattle.model.specs.Answer.{ask, _>>=_}
 use Rattle.model.specs.Tag.{Tag, tagOf}
 use Rattle.model.specs.Tree.{Tree, Trees, plain, atom, compare, join, quantifier, some, nil, cons, count, encode, encodeAll}
 use Rattle.model.specs.Level.{Role, restriction, formula, under, cost}
-use Rattle.model.specs.Reading.{isFormula, own, questions}
+use Rattle.model.specs.Reading.{isFormula, own, goodPredicate, questions}
 use Rattle.model.specs.Mode.{size}
 use Rattle.model.specs.Tptp.{goodTree, goodTrees}
 use Rattle.laws.specs.Words.Tests.{and-left, and-right, and-true}
@@ -24,10 +23,10 @@ use Rattle.laws.specs.Words.Standing.{Stands, stands-whole, stands-left,
 use Rattle.laws.specs.Words.Standing.{three-stand, code, tag-code, atLeast-value, within-value}
 use Rattle.laws.specs.Reading.Formed.{AllOfLength}
 use Rattle.laws.specs.Reading.Nodes.{under-kind, restriction-kind}
-use Rattle.laws.specs.Reading.Trees.{Known, plain-known, atom-known, compare-known, join-known, quantifier-known, some-known}
-use Rattle.laws.specs.Reading.Trees.{node-asks, nodes-ask, quantifier-parts, tuples-length}
-use Rattle.laws.specs.Tptp.Good.{atom-good, quantifier-good, good-join, good-quantifier, good-some, good-trees}
-use Rattle.laws.specs.Tptp.Sized.{sized-atom, sized-compare, sized-join, sized-quantifier, sized-some, sized-trees}
+use Rattle.laws.specs.Reading.Trees.{OwnAsked, plain-asked, atom-asked, compare-asked, join-asked, quantifier-asked, some-asked}
+use Rattle.laws.specs.Reading.Trees.{quantifier-parts, tuples-length}
+use Rattle.laws.specs.Tptp.Spelling.Good.{atom-good, quantifier-good, good-join, good-quantifier, good-some, good-trees}
+use Rattle.laws.specs.Tptp.Spelling.Sized.{sized-atom, sized-compare, sized-join, sized-quantifier, sized-some, sized-trees}
 
 -- each excluded tuple has as many numbers as its quantifier has variables
 unfoldable mutual
@@ -44,41 +43,41 @@ unfoldable mutual
   LaidAll (cons t ts) = Laid t × LaidAll ts
 
 -- question 3 at the node at an index, as the reading asks it of the words
-unfoldable pub third : Words → Words → Role → ℕ → ℕ → Bool
-third table words role scope at =
-    let node = own table words (tagOf (word words at)) role scope at in node .shape && leb (at + node .size) (length words)
+unfoldable pub third : Words → Role → ℕ → ℕ → Bool
+third words role scope at =
+    let node = own words (tagOf (word words at)) role scope at in node .shape && leb (at + node .size) (length words)
 
 -- it is the first question of the reading at a node
 pub third-first :
     (table words : Words) (role : Role) (above scope at : ℕ) →
     let tag = tagOf (word words at) in
     questions table words tag role above scope at
-    ≡ (ask (third table words role scope at) Shape at >>= λ _.
+    ≡ (ask (third words role scope at) Shape at >>= λ _.
     ask (leb (above + cost role tag) levelLimit) Level at >>= λ _.
-    ask (own table words tag role scope at .predicate) Predicate at >>= λ _.
-    ask (own table words tag role scope at .scope) Variable at)
+    ask (goodPredicate table words tag at) Predicate at >>= λ _.
+    ask (own words tag role scope at .scope) Variable at)
 unfolding third questions
 third-first table words role above scope at = refl
 
 -- it passes at each node of a tree, where the node stands in the words
 unfoldable mutual
-  pub Shaped : Tree → Words → Words → Role → ℕ → ℕ → Type 0
-  Shaped (plain b) table words role scope at = third table words role scope at ≡ true
-  Shaped (atom b p ts) table words role scope at = third table words role scope at ≡ true
-  Shaped (compare b d x y) table words role scope at = third table words role scope at ≡ true
-  Shaped (join b ts) table words role scope at =
-      (third table words role scope at ≡ true) × ShapedAll ts table words (under role b) scope (at + 2)
-  Shaped (quantifier b v excluded c f) table words role scope at =
-      (third table words role scope at ≡ true)
-      × Shaped c table words restriction (scope + v) (at + 3 + v * length excluded)
-      × Shaped f table words formula (scope + v) (at + 3 + v * length excluded + size c)
-  Shaped (some c) table words role scope at =
-      (third table words role scope at ≡ true) × Shaped c table words restriction (scope + 1) (at + 1)
+  pub Shaped : Tree → Words → Role → ℕ → ℕ → Type 0
+  Shaped (plain b) words role scope at = third words role scope at ≡ true
+  Shaped (atom b p ts) words role scope at = third words role scope at ≡ true
+  Shaped (compare b d x y) words role scope at = third words role scope at ≡ true
+  Shaped (join b ts) words role scope at =
+      (third words role scope at ≡ true) × ShapedAll ts words (under role b) scope (at + 2)
+  Shaped (quantifier b v excluded c f) words role scope at =
+      (third words role scope at ≡ true)
+      × Shaped c words restriction (scope + v) (at + 3 + v * length excluded)
+      × Shaped f words formula (scope + v) (at + 3 + v * length excluded + size c)
+  Shaped (some c) words role scope at =
+      (third words role scope at ≡ true) × Shaped c words restriction (scope + 1) (at + 1)
 
-  pub ShapedAll : Trees → Words → Words → Role → ℕ → ℕ → Type 0
-  ShapedAll nil table words role scope at = Unit {0}
-  ShapedAll (cons t ts) table words role scope at =
-      Shaped t table words role scope at × ShapedAll ts table words role scope (at + size t)
+  pub ShapedAll : Trees → Words → Role → ℕ → ℕ → Type 0
+  ShapedAll nil words role scope at = Unit {0}
+  ShapedAll (cons t ts) words role scope at =
+      Shaped t words role scope at × ShapedAll ts words role scope (at + size t)
 
 -- the tuples of a good tree
 mutual
@@ -99,25 +98,25 @@ mutual
   goods-laid (cons t ts) kind good =
       let (first, rest) = good-trees t ts kind good in (good-laid t kind first, goods-laid ts kind rest)
 
-module _ (table words : Words) where
+module _ (words : Words) where
   -- question 3 of a node whose tag is known
   third-tagged :
       (tag : Tag) (role : Role) (scope at : ℕ) →
       word words at ≡ pos (code tag) →
-      third table words role scope at ≡ true →
-      own table words tag role scope at .shape ≡ true
+      third words role scope at ≡ true →
+      own words tag role scope at .shape ≡ true
   unfolding third
   third-tagged tag role scope at e h =
-      let is = ap tagOf e ∙ tag-code tag in and-left (own table words tag role scope at .shape) _ (rw is at h)
+      let is = ap tagOf e ∙ tag-code tag in and-left (own words tag role scope at .shape) _ (rw is at h)
 
   -- and where it is known to pass
-  known-third :
-      {tag : Tag} {depth : ℕ} {role : Role} {above scope at : ℕ} {known inside : Bool} {rest : _} →
-      Known table words tag depth role above scope at known inside rest →
-      third table words role scope at ≡ true
+  asked-third :
+      {tag : Tag} {role : Role} {scope at : ℕ} {inside : Bool} →
+      OwnAsked words tag role scope at inside →
+      third words role scope at ≡ true
   unfolding third
-  known-third {tag} k =
-      let is = ap tagOf (k .tagged) ∙ tag-code tag in rw is (and-true (k .shape) (le-leb _ _ (k .fits)))
+  asked-third {tag} a =
+      let is = ap tagOf (a .tagged) ∙ tag-code tag in rw is (and-true (a .shape) (le-leb _ _ (a .fits)))
 
   -- where the words of a good tree stand, question 3 passes at each node
   mutual
@@ -127,43 +126,34 @@ module _ (table words : Words) where
         (t : Tree) (role : Role) (scope at next : ℕ) →
         goodTree t (isFormula role) ≡ true →
         Stands words at (encode t) next →
-        Shaped t table words role scope at
-    good-shaped (plain b) role scope at next good s = known-third (plain-known table words 0 role 0 scope at next b s)
-    good-shaped (atom b p ts) role scope at next good s =
-        known-third (atom-known table words 0 role 0 scope at next b p ts good s)
+        Shaped t words role scope at
+    good-shaped (plain b) role scope at next good s = asked-third (plain-asked words role scope at next b s)
+    good-shaped (atom b p ts) role scope at next good s = asked-third (atom-asked words role scope at next b p ts good s)
     good-shaped (compare b d x y) role scope at next good s =
-        known-third (compare-known table words 0 role 0 scope at next b d x y good s)
+        asked-third (compare-asked words role scope at next b d x y good s)
     good-shaped (join b ts) role scope at next good s =
         let each : goodTrees ts (isFormula (under role b)) ≡ true = rw under-kind (good-join b ts (isFormula role) good .1) in
         let (tagged, number, stand) = two-stand words _ _ _ s in (
-          known-third
-              (join-known table words (levelLimit + 1) role 0 scope at next b ts good s
-              (nodes-ask table words ts (levelLimit + 1) (under role b) _ scope (at + 2) next (omega arith) each)),
+          asked-third (join-asked words role scope at next b ts good s),
           goods-shaped ts (under role b) scope (at + 2) next each stand,
         )
     good-shaped (quantifier b v excluded c f) role scope at next good s =
         let is = good-quantifier b v excluded c f (isFormula role) good in
         let parts = quantifier-parts words at next b v excluded c f (tuples-length v excluded (is .tuples)) s in (
-          known-third
-              (quantifier-known table words (levelLimit + 1) role 0 scope at next b v excluded c f good s
-              (node-asks table words c (levelLimit + 1) restriction _ (scope + v) _ _ (omega arith) (is .restriction))
-              (node-asks table words f (levelLimit + 1) formula _ (scope + v) _ next (omega arith) (is .body))),
+          asked-third (quantifier-asked words role scope at next b v excluded c f good parts),
           good-shaped c restriction (scope + v) _ _ (is .restriction) (parts .inner),
           good-shaped f formula (scope + v) _ next (is .body) (parts .body),
         )
-    good-shaped (some c) role scope at next good s =
-        let inner = good-some c (isFormula role) good .1 in (
-          known-third
-              (some-known table words (levelLimit + 1) role 0 scope at next c good s
-              (node-asks table words c (levelLimit + 1) restriction _ (scope + 1) (at + 1) next (omega arith) inner)),
-          good-shaped c restriction (scope + 1) (at + 1) next inner (stands-rest words _ _ s),
-        )
+    good-shaped (some c) role scope at next good s = (
+      asked-third (some-asked words role scope at next c good s),
+      good-shaped c restriction (scope + 1) (at + 1) next (good-some c (isFormula role) good .1) (stands-rest words _ _ s),
+    )
 
     goods-shaped :
         (ts : Trees) (role : Role) (scope at next : ℕ) →
         goodTrees ts (isFormula role) ≡ true →
         Stands words at (encodeAll ts) next →
-        ShapedAll ts table words role scope at
+        ShapedAll ts words role scope at
     goods-shaped nil role scope at next good s = tt
     goods-shaped (cons t ts) role scope at next good s =
         let (first, rest) = good-trees t ts (isFormula role) good in (
@@ -180,7 +170,7 @@ module _ (table words : Words) where
         all wordSized (encode t) ≡ true →
         Laid t →
         Stands words at (encode t) next →
-        Shaped t table words role scope at →
+        Shaped t words role scope at →
         goodTree t (isFormula role) ≡ true
     shaped-good (plain b) role scope at next sized laid s h = refl
     shaped-good (atom b p ts) role scope at next sized laid s h =
@@ -222,7 +212,7 @@ module _ (table words : Words) where
         all wordSized (encodeAll ts) ≡ true →
         LaidAll ts →
         Stands words at (encodeAll ts) next →
-        ShapedAll ts table words role scope at →
+        ShapedAll ts words role scope at →
         goodTrees ts (isFormula role) ≡ true
     shaped-goods nil role scope at next sized laid s h = refl
     shaped-goods (cons t ts) role scope at next sized (first, others) s (h, rest) =
@@ -233,11 +223,11 @@ module _ (table words : Words) where
 
 -- a tree whose words have 32 bits is good exactly if its tuples are laid and question 3 passes at each node of its words
 pub good-exactly :
-    (table : Words) (tree : Tree) →
+    (tree : Tree) →
     all wordSized (encode tree) ≡ true →
-    (goodTree tree true ≡ true) ↔ (Laid tree × Shaped tree table (encode tree) formula 0 0)
+    (goodTree tree true ≡ true) ↔ (Laid tree × Shaped tree (encode tree) formula 0 0)
 unfolding isFormula
-good-exactly table tree sized = (
-  λ good. (good-laid tree true good, good-shaped table (encode tree) tree formula 0 0 _ good (stands-whole (encode tree))),
-  λ h. shaped-good table (encode tree) tree formula 0 0 _ sized (h .0) (stands-whole (encode tree)) (h .1),
+good-exactly tree sized = (
+  λ good. (good-laid tree true good, good-shaped (encode tree) tree formula 0 0 _ good (stands-whole (encode tree))),
+  λ h. shaped-good (encode tree) tree formula 0 0 _ sized (h .0) (stands-whole (encode tree)) (h .1),
 )

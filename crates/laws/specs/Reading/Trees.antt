@@ -18,7 +18,7 @@ use Rattle.model.specs.Tag.{Tag, tagOf}
 use Rattle.model.specs.Tree.{Term, constant, variable, Tree, Trees, plain, atom, compare, join, quantifier, some, nil, cons, count}
 use Rattle.model.specs.Tree.{encodeTerm, encode, encodeAll}
 use Rattle.model.specs.Level.{Role, restriction, formula, under, quantifierCost, cost}
-use Rattle.model.specs.Reading.{Read, isFormula, places, repeat, termAt, goodKind, inScope, own, questions, build, readNode, readPolicy}
+use Rattle.model.specs.Reading.{Read, isFormula, places, repeat, termAt, goodKind, inScope, own, goodPredicate, build, questions, readNode, readPolicy}
 use Rattle.model.specs.Mode.{size, askModes}
 use Rattle.model.specs.Calls.{askPolicy}
 use Rattle.model.specs.Tptp.{greatestNumber, goodTerm, goodTuple, goodTree, goodTrees}
@@ -30,7 +30,7 @@ use Rattle.laws.specs.Reading.Items.{tuples, two-places, term-back, term
 use Rattle.laws.specs.Reading.Nodes.{under-kind, kind-restriction}
 use Rattle.laws.specs.Reading.Back.{cost-one, encode-nonempty}
 use Rattle.laws.specs.Lists.Membership.{all-mem, all-map}
-use Rattle.laws.specs.Tptp.Good.{good-atom, good-compare, good-join, good-quantifier, good-some, good-trees, good-tuple}
+use Rattle.laws.specs.Tptp.Spelling.Good.{good-atom, good-compare, good-join, good-quantifier, good-some, good-trees, good-tuple}
 use Rattle.laws.specs.Answer.{ask-true, pass-then, then-both, then-assoc}
 
 -- a term is no variable, or one of those in scope
@@ -132,19 +132,19 @@ quantifier-parts words at next b v excluded c f lengths s =
       body = rw middle at (stands-right words (τs ++ encode c) (encode f) stand);
     }
 
-module _ (table words : Words) where
+module _ (words : Words) where
   -- a term that is in the widest scope is in a narrower one if its words say so
   term-scope :
       (scope i : ℕ) →
-      inScope table words widest i ≡ true →
-      inScope table words scope i ≡ termInScope scope (termAt table words i)
+      inScope words widest i ≡ true →
+      inScope words scope i ≡ termInScope scope (termAt words i)
   unfolding termAt inScope termInScope value
   term-scope scope i e = go (equal (word words i) (pos 0)) refl
     where
       go :
           (b : Bool) →
           equal (word words i) (pos 0) ≡ b →
-          inScope table words scope i ≡ termInScope scope (termAt table words i)
+          inScope words scope i ≡ termInScope scope (termAt words i)
       go true k = rw k
       go false k =
           let (number, small) = below-value widest (word words (i + 1)) (rw k at e) in
@@ -152,9 +152,9 @@ module _ (table words : Words) where
 
   -- what is asked of the terms from an index on, where their words stand
   record TermsAsked (scope first next : ℕ) (ts : List Term) : Type 0 where
-    terms : map (termAt table words) (places first (length ts)) ≡ ts
-    kinds : all (goodKind table words) (places first (length ts)) ≡ true
-    range : all (inScope table words scope) (places first (length ts)) ≡ all (termInScope scope) ts
+    terms : map (termAt words) (places first (length ts)) ≡ ts
+    kinds : all (goodKind words) (places first (length ts)) ≡ true
+    range : all (inScope words scope) (places first (length ts)) ≡ all (termInScope scope) ts
     ends : next ≡ first + 2 * length ts
 
   terms-asked :
@@ -163,17 +163,17 @@ module _ (table words : Words) where
       Stands words first (gather encodeTerm ts) next →
       TermsAsked scope first next ts
   terms-asked scope first next ts good s =
-      let (reads, ends) = terms-back table words widest first next ts s (terms-widest ts good) in
-      let each = all-map (inScope table words scope) (termInScope scope) (termAt table words) _
+      let (reads, ends) = terms-back words widest first next ts s (terms-widest ts good) in
+      let each = all-map (inScope words scope) (termInScope scope) (termAt words) _
       (λ i m. term-scope scope i (all-mem _ (reads .range) m)) in
       let range = each ∙ ap (all (termInScope scope)) (reads .terms) in
       record { terms = reads .terms; kinds = reads .kinds; range = range; ends = ends }
 
   -- the same of one term
   record TermAsked (scope i next : ℕ) (t : Term) : Type 0 where
-    term : termAt table words i ≡ t
-    kind : goodKind table words i ≡ true
-    range : inScope table words scope i ≡ termInScope scope t
+    term : termAt words i ≡ t
+    kind : goodKind words i ≡ true
+    range : inScope words scope i ≡ termInScope scope t
     ends : next ≡ i + 2
 
   term-asked :
@@ -182,32 +182,124 @@ module _ (table words : Words) where
       Stands words i (encodeTerm t) next →
       TermAsked scope i next t
   term-asked scope i next t good s =
-      let (reads, ends) = term-back table words widest i next t s (term-widest t good) in
+      let (reads, ends) = term-back words widest i next t s (term-widest t good) in
       let range = term-scope scope i (reads .range) ∙ ap (termInScope scope) (reads .term) in
       record { term = reads .term; kind = reads .kind; range = range; ends = ends }
 
-  -- the questions at a node whose own words are good by question 3
-  questions-asked :
-      (tag : Tag) (role : Role) (above scope at : ℕ) →
-      own table words tag role scope at .shape ≡ true →
-      at + own table words tag role scope at .size ≤ length words →
-      questions table words tag role above scope at
-      ≡ (ask (leb (above + cost role tag) levelLimit) Level at >>= λ _.
-      ask (own table words tag role scope at .predicate) Predicate at >>= λ _.
-      ask (own table words tag role scope at .scope) Variable at)
-  unfolding questions
-  questions-asked tag role above scope at shape fits =
-      pass-then _ (ask-true Shape at (and-true shape (le-leb _ _ fits))) refl
-
-  -- what is known of a node: its tag, its answers to the questions, and what is built of it
-  pub record Known
-      (tag : Tag) (depth : ℕ) (role : Role) (above scope at : ℕ) (known inside : Bool) (rest : Outcome (Read Tree)) : Type 0 where
+  -- what is asked of the own words of a node, where they stand: its tag, questions 3 and 6
+  pub record OwnAsked (tag : Tag) (role : Role) (scope at : ℕ) (inside : Bool) : Type 0 where
     pub tagged : word words at ≡ pos (code tag)
-    pub shape : own table words tag role scope at .shape ≡ true
-    pub fits : at + own table words tag role scope at .size ≤ length words
-    predicate : own table words tag role scope at .predicate ≡ known
-    range : own table words tag role scope at .scope ≡ inside
-    built : build table words (readNode table words depth) tag role (above + cost role tag) scope at ≡ rest
+    pub shape : own words tag role scope at .shape ≡ true
+    pub fits : at + own words tag role scope at .size ≤ length words
+    range : own words tag role scope at .scope ≡ inside
+
+  -- where the words of a node stand, good by question 3
+  module _ (role : Role) (scope at next : ℕ) where
+    pub plain-asked : (b : Bool) → Stands words at (encode (plain b)) next → OwnAsked (Tag.plain b) role scope at true
+    unfolding encode own code
+    plain-asked b s =
+        record { tagged = stands-first words _ _ s; shape = refl; fits = omega (arith, s .ends, s .fits); range = refl }
+
+    pub atom-asked :
+        (b : Bool) (p : ℕ) (ts : List Term) →
+        goodTree (atom b p ts) (isFormula role) ≡ true →
+        Stands words at (encode (atom b p ts)) next →
+        OwnAsked (Tag.atom b) role scope at (all (termInScope scope) ts)
+    unfolding encode own code value
+    atom-asked b p ts good s =
+        let (tagged, predicate, number, stand) = three-stand words _ _ _ _ s in
+        let is = good-atom b p ts (isFormula role) good in
+        let terms = terms-asked scope (at + 3) next ts (is .each) stand in
+        record {
+          tagged = tagged;
+          shape = rw number (and-true (within-pos 1 6 (length ts) (is .some) (is .few)) (terms .kinds));
+          fits = rw number (omega (arith, terms .ends, s .fits));
+          range = rw number (terms .range);
+        }
+
+    -- the terms of a comparison
+    compare-terms :
+        (b : Bool) (d : ℤ) (x y : Term) →
+        goodTree (compare b d x y) (isFormula role) ≡ true →
+        Stands words at (encode (compare b d x y)) next →
+        TermAsked scope (at + 2) (at + 4) x × TermAsked scope (at + 4) next y
+    unfolding encode
+    compare-terms b d x y good s =
+        let (tagged, number, stand) = two-stand words _ _ _ s in
+        let (sized, goodX, goodY) = good-compare b d x y (isFormula role) good in
+        let left = term-asked scope (at + 2) _ x goodX (stands-left words (encodeTerm x) (encodeTerm y) stand) in
+        let start : at + 2 + length (encodeTerm x) ≡ at + 4 = left .ends ∙ omega arith in
+        let second = rw start at (stands-right words (encodeTerm x) (encodeTerm y) stand) in
+        (rw start at left, term-asked scope (at + 4) next y goodY second)
+
+    pub compare-asked :
+        (b : Bool) (d : ℤ) (x y : Term) →
+        goodTree (compare b d x y) (isFormula role) ≡ true →
+        Stands words at (encode (compare b d x y)) next →
+        OwnAsked (Tag.compare b) role scope at (termInScope scope x && termInScope scope y)
+    unfolding all encode own code
+    compare-asked b d x y good s =
+        let (left, right) = compare-terms b d x y good s in
+        record {
+          tagged = stands-first words _ _ s;
+          shape = rw two-places (and-true (left .kind) (and-true (right .kind) refl));
+          fits = omega (arith, right .ends, s .fits);
+          range = rw (two-places, left .range, right .range, and-one);
+        }
+
+    pub join-asked :
+        (b : Bool) (ts : Trees) →
+        goodTree (join b ts) (isFormula role) ≡ true →
+        Stands words at (encode (join b ts)) next →
+        OwnAsked (Tag.join b) role scope at true
+    unfolding encode own code
+    join-asked b ts good s =
+        let (tagged, number, stand) = two-stand words _ _ _ s in
+        record {
+          tagged = tagged;
+          shape = rw number (atLeast-pos 2 (count ts) (good-join b ts (isFormula role) good .0));
+          fits = omega (arith, stand .ends, stand .fits);
+          range = refl;
+        }
+
+    pub quantifier-asked :
+        (b : Bool) (v : ℕ) (excluded : List (List ℤ)) (c f : Tree) →
+        goodTree (quantifier b v excluded c f) (isFormula role) ≡ true →
+        QuantifierParts words at next b v excluded c f →
+        OwnAsked (Tag.quantifier b) role scope at (leb (scope + v) scopeLimit)
+    unfolding own code value
+    quantifier-asked b v excluded c f good parts =
+        let is = good-quantifier b v excluded c f (isFormula role) good in
+        let few = within-pos 1 4 v (is .some) (is .few) in
+        let counted = atLeast-pos 0 (length excluded) (omega arith) in
+        record {
+          tagged = parts .tagged;
+          shape = rw (parts .variables, parts .number) (and-true (and-true (is .kind) few) counted);
+          fits = rw (parts .variables, parts .number) (omega (arith, parts .inner .ends, parts .inner .fits));
+          range = rw (parts .variables);
+        }
+
+    pub some-asked :
+        (c : Tree) →
+        goodTree (some c) (isFormula role) ≡ true →
+        Stands words at (encode (some c)) next →
+        OwnAsked Tag.some role scope at (leb (scope + 1) scopeLimit)
+    unfolding encode own code
+    some-asked c good s =
+        record {
+          tagged = stands-first words _ _ s;
+          shape = kind-restriction role (good-some c (isFormula role) good .0);
+          fits = omega (arith, s .ends, s .fits);
+          range = refl;
+        }
+
+module _ (table words : Words) where
+  -- what is known of a node: its own words, its answer to question 5, and what is built of it
+  record Known
+      (tag : Tag) (depth : ℕ) (role : Role) (above scope at : ℕ) (known inside : Bool) (rest : Outcome (Read Tree)) : Type 0 where
+    asked : OwnAsked words tag role scope at inside
+    predicate : goodPredicate table words tag at ≡ known
+    built : build words (readNode table words depth) tag role (above + cost role tag) scope at ≡ rest
 
   -- a node behind its questions
   node-step :
@@ -218,103 +310,82 @@ module _ (table words : Words) where
       ask known Predicate at >>= λ _.
       ask inside Variable at >>= λ _.
       rest)
-  unfolding readNode
-  node-step {tag} {depth} {role} {above} {scope} {at} k =
-      let is = ap tagOf (k .tagged) ∙ tag-code tag in
-      let asked = questions-asked tag role above scope at (k .shape) (k .fits) in
-      rw (is, asked, k .predicate, k .range, k .built) (simp then-assoc)
+  unfolding readNode questions
+  node-step {tag} k =
+      let is = ap tagOf (k .asked .tagged) ∙ tag-code tag in
+      let shape = ask-true Shape _ (and-true (k .asked .shape) (le-leb _ _ (k .asked .fits))) in
+      rw (is, k .predicate, k .asked .range, k .built) (simp then-assoc (pass-then _ shape refl))
 
   -- a tree whose words stand at an index is read there, if it passes its questions; trees one behind another
-  abbrev pub Asks : ℕ → Tree → Role → ℕ → ℕ → ℕ → ℕ → Type 0
+  abbrev pub Asks : (depth : ℕ) (tree : Tree) (role : Role) (above scope at next : ℕ) → Type 0
   Asks depth tree role above scope at next =
       readNode table words depth role above scope at
       ≡ (askTree tree table role above scope at >>= λ _. passed (record { tree = tree; next = next }))
 
-  abbrev pub AllAsk : ℕ → Trees → Role → ℕ → ℕ → ℕ → ℕ → Type 0
+  abbrev AllAsk : ℕ → Trees → Role → ℕ → ℕ → ℕ → ℕ → Type 0
   AllAsk depth ts role above scope at next =
       repeat (count ts) (readNode table words depth role above scope) at
       ≡ (askTrees ts table role above scope at >>= λ _. passed (record { tree = ts; next = next }))
 
   -- where the words of a node stand, good by question 3, this is known of it
   module _ (depth : ℕ) (role : Role) (above scope at next : ℕ) where
-    pub plain-known :
+    plain-known :
         (b : Bool) →
         Stands words at (encode (plain b)) next →
         Known (Tag.plain b) depth role above scope at true true (passed (record { tree = plain b; next = next }))
-    unfolding encode own build code
-    plain-known b s = record {
-      tagged = stands-first words _ _ s;
-      shape = refl;
-      fits = omega (arith, s .ends, s .fits);
-      predicate = refl;
-      range = refl;
-      built = rw (s .ends);
-    }
+    unfolding encode goodPredicate build
+    plain-known b s = record { asked = plain-asked words role scope at next b s; predicate = refl; built = rw (s .ends) }
 
-    pub atom-known :
+    atom-known :
         (b : Bool) (p : ℕ) (ts : List Term) →
         goodTree (atom b p ts) (isFormula role) ≡ true →
         Stands words at (encode (atom b p ts)) next →
         Known (Tag.atom b) depth role above scope at (ltb p (predicates table) && eqb (arity table p) (length ts))
         (all (termInScope scope) ts) (passed (record { tree = atom b p ts; next = next }))
-    unfolding encode own build code value
+    unfolding encode goodPredicate build value
     atom-known b p ts good s =
         let (tagged, predicate, number, stand) = three-stand words _ _ _ _ s in
-        let is = good-atom b p ts (isFormula role) good in
-        let terms = terms-asked scope (at + 3) next ts (is .each) stand in
+        let terms = terms-asked words scope (at + 3) next ts (good-atom b p ts (isFormula role) good .each) stand in
         record {
-          tagged = tagged;
-          shape = rw number (and-true (within-pos 1 6 (length ts) (is .some) (is .few)) (terms .kinds));
-          fits = rw number (omega (arith, terms .ends, s .fits));
+          asked = atom-asked words role scope at next b p ts good s;
           predicate = rw (predicate, number, below-number);
-          range = rw number (terms .range);
           built = rw (predicate, number, terms .terms, terms .ends);
         }
 
-    pub compare-known :
+    compare-known :
         (b : Bool) (d : ℤ) (x y : Term) →
         goodTree (compare b d x y) (isFormula role) ≡ true →
         Stands words at (encode (compare b d x y)) next →
         Known (Tag.compare b) depth role above scope at true (termInScope scope x && termInScope scope y)
         (passed (record { tree = compare b d x y; next = next }))
-    unfolding all encode own build code
+    unfolding encode goodPredicate build
     compare-known b d x y good s =
         let (tagged, number, stand) = two-stand words _ _ _ s in
-        let (sized, goodX, goodY) = good-compare b d x y (isFormula role) good in
-        let left = term-asked scope (at + 2) _ x goodX (stands-left words (encodeTerm x) (encodeTerm y) stand) in
-        let start : at + 2 + length (encodeTerm x) ≡ at + 4 = left .ends ∙ omega arith in
-        let second = rw start at (stands-right words (encodeTerm x) (encodeTerm y) stand) in
-        let right = term-asked scope (at + 4) next y goodY second in
+        let (left, right) = compare-terms words role scope at next b d x y good s in
         let ends : next ≡ at + 6 = right .ends ∙ omega arith in
         record {
-          tagged = tagged;
-          shape = rw two-places (and-true (left .kind) (and-true (right .kind) refl));
-          fits = omega (arith, s .fits);
+          asked = compare-asked words role scope at next b d x y good s;
           predicate = refl;
-          range = rw (two-places, left .range, right .range, and-one);
           built = rw (number, left .term, right .term, ends);
         }
 
-    pub join-known :
+    join-known :
         (b : Bool) (ts : Trees) →
         goodTree (join b ts) (isFormula role) ≡ true →
         Stands words at (encode (join b ts)) next →
         (Stands words (at + 2) (encodeAll ts) next → AllAsk depth ts (under role b) (above + 1) scope (at + 2) next) →
         Known (Tag.join b) depth role above scope at true true
         (askTrees ts table (under role b) (above + 1) scope (at + 2) >>= λ _. passed (record { tree = join b ts; next = next }))
-    unfolding encode own build code cost value _>>=_
+    unfolding encode goodPredicate build cost value _>>=_
     join-known b ts good s k =
         let (tagged, number, stand) = two-stand words _ _ _ s in
         record {
-          tagged = tagged;
-          shape = rw number (atLeast-pos 2 (count ts) (good-join b ts (isFormula role) good .0));
-          fits = omega (arith, stand .ends, stand .fits);
+          asked = join-asked words role scope at next b ts good s;
           predicate = refl;
-          range = refl;
           built = rw (number, k stand) (simp then-assoc);
         }
 
-    pub quantifier-known :
+    quantifier-known :
         (b : Bool) (v : ℕ) (excluded : List (List ℤ)) (c f : Tree) →
         goodTree (quantifier b v excluded c f) (isFormula role) ≡ true →
         Stands words at (encode (quantifier b v excluded c f)) next →
@@ -327,20 +398,15 @@ module _ (table words : Words) where
         (askTree c table restriction level (scope + v) start >>= λ _.
         askTree f table formula level (scope + v) middle >>= λ _.
         passed (record { tree = quantifier b v excluded c f; next = next }))
-    unfolding encode own build code cost value size tuples _>>=_
+    unfolding goodPredicate build cost value tuples _>>=_
     quantifier-known b v excluded c f good s k l =
         let is = good-quantifier b v excluded c f (isFormula role) good in
         let parts = quantifier-parts words at next b v excluded c f (tuples-length v excluded (is .tuples)) s in
-        let few = within-pos 1 4 v (is .some) (is .few) in
-        let counted = atLeast-pos 0 (length excluded) (omega arith) in
         let level = above + quantifierCost role b in
         let start = at + 3 + v * length excluded in
         record {
-          tagged = parts .tagged;
-          shape = rw (parts .variables, parts .number) (and-true (and-true (is .kind) few) counted);
-          fits = rw (parts .variables, parts .number) (omega (arith, parts .inner .ends, parts .inner .fits));
+          asked = quantifier-asked words role scope at next b v excluded c f good parts;
           predicate = refl;
-          range = rw (parts .variables);
           built =
               rw (parts .variables, parts .number, k (parts .inner))
               (then-assoc (askTree c table restriction level (scope + v) start) _ _
@@ -348,21 +414,18 @@ module _ (table words : Words) where
               (λ _. rw (l (parts .body), parts .reads) (simp then-assoc)));
         }
 
-    pub some-known :
+    some-known :
         (c : Tree) →
         goodTree (some c) (isFormula role) ≡ true →
         Stands words at (encode (some c)) next →
         (Stands words (at + 1) (encode c) next → Asks depth c restriction (above + 1) (scope + 1) (at + 1) next) →
         Known Tag.some depth role above scope at true (leb (scope + 1) scopeLimit)
         (askTree c table restriction (above + 1) (scope + 1) (at + 1) >>= λ _. passed (record { tree = some c; next = next }))
-    unfolding encode own build code cost _>>=_
+    unfolding encode goodPredicate build cost _>>=_
     some-known c good s k =
         record {
-          tagged = stands-first words _ _ s;
-          shape = kind-restriction role (good-some c (isFormula role) good .0);
-          fits = omega (arith, s .ends, s .fits);
+          asked = some-asked words role scope at next c good s;
           predicate = refl;
-          range = refl;
           built = rw (k (stands-rest words _ _ s)) (simp then-assoc);
         }
 
@@ -433,7 +496,7 @@ module _ (table words : Words) where
         node-asks c d restriction (above + 1) (scope + 1) (at + 1) next (omega arith) inner stand)
         ∙ simp then-assoc
 
-    pub nodes-ask :
+    nodes-ask :
         (ts : Trees) (depth : ℕ) (role : Role) (above scope at next : ℕ) →
         levelLimit < depth + above →
         goodTrees ts (isFormula role) ≡ true →

@@ -31,9 +31,9 @@ use Rattle.laws.specs.Joining.{All, joined-has, result-all}
 use Rattle.laws.specs.Calls.Policy.{accepted-rules}
 use Rattle.laws.specs.Reduction.Instances.{fresh-mem, instances-length}
 use Rattle.laws.specs.Reduction.Accepted.{settle-has}
-use Rattle.laws.specs.Tptp.Good.{atom-good, quantifier-good, good-atom, good-compare, good-join, good-quantifier, good-some}
-use Rattle.laws.specs.Tptp.Good.{good-trees}
-use Rattle.laws.specs.Tptp.Sized.{formed-good, good-sized}
+use Rattle.laws.specs.Tptp.Spelling.Good.{atom-good, quantifier-good, good-atom, good-compare, good-join, good-quantifier, good-some}
+use Rattle.laws.specs.Tptp.Spelling.Good.{good-trees}
+use Rattle.laws.specs.Tptp.Spelling.Sized.{formed-good, good-sized}
 
 -- an environment binds numbers of 32 bits only
 abbrev Sized : Environment → Type 0

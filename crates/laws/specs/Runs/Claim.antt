@@ -76,7 +76,7 @@ filled-take buffer ws = take-at ws (zeros (buffer - length ws)) (length ws) refl
 
 -- one call over a front part of an accepted log, given an accepted policy
 module _ (table log : Words) (logged : askLog table log ≡ passed tt) where
-  abbrev pub residual : Tree → Call → Tree
+  abbrev pub residual : (tree : Tree) (call : Call) → Tree
   residual tree call = reduce table (rows (front (call .part) log)) tree []
 
   -- what comes of its questions

@@ -2,7 +2,7 @@
 use mathlib.Core.Path.{_∙_}
 use Rattle.model.specs.Bytes.{bytes}
 use Rattle.text.specs.declared.writing.Put.the-variants as P
-use Rattle.tptp_writing.proofs.AddLaws.{Behind, behind-fits}
+use Rattle.tptp_putting.proofs.AddLaws.{Behind, behind-fits}
 use Rattle.tptp_writing.proofs.PolicyLaws.{policy-here, policy-full, root-fits, policy-writes}
 use borrow.Author.Needs.{needs}
 use Rattle.tptp_writing.proofs.write_tree.Statement.{statement}

@@ -9,20 +9,13 @@ use Rattle.vitrinehawk.proofs.vh_check_log.Tie as tie
 check-log-requires : tie.Need-check-log-requires
 check-log-requires c κs = search needs
 
-detail-of-requires : tie.Need-detail-of-requires
-detail-of-requires c κs = search needs
-
-number-of-requires : tie.Need-number-of-requires
-number-of-requires c κs = search needs
+tell-requires : tie.Need-tell-requires
+tell-requires c κs = search needs
 
 returns : tie.Need-returns
 returns c =
-    let at-check-log = c .before .before in
-    let check-log = at-check-log .check-log in (
-      c .number-of .ensures ∙ ap number (check-log .ensures .same),
-      c .before .detail-of .ensures ∙ ap detailed
-          (check-log .ensures .same),
-    )
+    let same = c .before .before .check-log .ensures .same in
+    (c .tell .ensures .0 ∙ ap number same, c .tell .ensures .1 ∙ ap detailed same)
 
 pub vh-check-log-spec : {M : Type 1} → statement M
-vh-check-log-spec = tie.close (tie.spec check-log-requires detail-of-requires number-of-requires returns)
+vh-check-log-spec = tie.close (tie.spec check-log-requires tell-requires returns)

@@ -9,22 +9,17 @@ use Rattle.vitrinehawk.proofs.vh_dual.Tie as tie
 dual-requires : tie.Need-dual-requires
 dual-requires c κs = search needs
 
-detail-of-requires : tie.Need-detail-of-requires
-detail-of-requires c κs = search needs
-
-number-of-requires : tie.Need-number-of-requires
-number-of-requires c κs = search needs
+tell-requires : tie.Need-tell-requires
+tell-requires c κs = search needs
 
 same-length : tie.Need-same-length
 same-length c = search needs
 
 returns : tie.Need-returns
 returns c =
-    let at-dual = c .before .before .before in
-    let dual = at-dual .dual in (
-      c .number-of .ensures ∙ ap number (dual .ensures .0 .same),
-      (c .before .detail-of .ensures ∙ ap detailed (dual .ensures .0 .same), dual .ensures .1),
-    )
+    let dual = c .before .before .before .dual .ensures in
+    let same = dual .0 .same in
+    (c .tell .ensures .0 ∙ ap number same, (c .tell .ensures .1 ∙ ap detailed same, dual .1))
 
 pub vh-dual-spec : {M : Type 1} → statement M
-vh-dual-spec = tie.close (tie.spec dual-requires detail-of-requires number-of-requires same-length returns)
+vh-dual-spec = tie.close (tie.spec dual-requires tell-requires same-length returns)

@@ -9,22 +9,17 @@ use Rattle.vitrinehawk.proofs.vh_read_log.Tie as tie
 read-log-requires : tie.Need-read-log-requires
 read-log-requires c κs = search needs
 
-detail-of-requires : tie.Need-detail-of-requires
-detail-of-requires c κs = search needs
-
-number-of-requires : tie.Need-number-of-requires
-number-of-requires c κs = search needs
+tell-requires : tie.Need-tell-requires
+tell-requires c κs = search needs
 
 same-length : tie.Need-same-length
 same-length c = search needs
 
 returns : tie.Need-returns
 returns c =
-    let at-read-log = c .before .before .before in
-    let d = at-read-log .read-log .ensures in
-    (c .number-of .ensures ∙ ap number (d .0 .same), (c .before .detail-of .ensures ∙ ap detailed (d .0 .same), d .1))
+    let read-log = c .before .before .before .read-log .ensures in
+    let same = read-log .0 .same in
+    (c .tell .ensures .0 ∙ ap number same, (c .tell .ensures .1 ∙ ap detailed same, read-log .1))
 
 pub vh-read-log-spec : {M : Type 1} → statement M
-vh-read-log-spec =
-    tie.close
-    (tie.spec read-log-requires detail-of-requires number-of-requires same-length returns)
+vh-read-log-spec = tie.close (tie.spec read-log-requires tell-requires same-length returns)

@@ -9,11 +9,8 @@ use Rattle.vitrinehawk.proofs.vh_reduce.Tie as tie
 reduce-requires : tie.Need-reduce-requires
 reduce-requires c κs = search needs
 
-detail-of-requires : tie.Need-detail-of-requires
-detail-of-requires c κs = search needs
-
-number-of-requires : tie.Need-number-of-requires
-number-of-requires c κs = search needs
+tell-requires : tie.Need-tell-requires
+tell-requires c κs = search needs
 
 same-length : tie.Need-same-length
 same-length c = search needs
@@ -23,14 +20,10 @@ same-length-2 c = search needs
 
 returns : tie.Need-returns
 returns c =
-    let at-reduce = c .before .before .before .before in
-    let reduce = at-reduce .reduce in (
-      c .number-of .ensures ∙ ap number (reduce .ensures .answered .same),
-      (
-        c .before .detail-of .ensures ∙ ap detailed (reduce .ensures .answered .same),
-        (reduce .ensures .wrote, reduce .ensures .cleared),
-      ),
-    )
+    let reduce = c .before .before .before .before .reduce .ensures in
+    let same = reduce .answered .same in
+    (c .tell .ensures .0 ∙ ap number same, (c .tell .ensures .1 ∙ ap detailed same, (reduce .wrote, reduce .cleared)))
 
 pub vh-reduce-spec : {M : Type 1} → statement M
-vh-reduce-spec = tie.close (tie.spec reduce-requires detail-of-requires number-of-requires same-length same-length-2 returns)
+vh-reduce-spec =
+    tie.close (tie.spec reduce-requires tell-requires same-length same-length-2 returns)

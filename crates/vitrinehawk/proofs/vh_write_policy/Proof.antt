@@ -9,21 +9,17 @@ use Rattle.vitrinehawk.proofs.vh_write_policy.Tie as tie
 write-policy-requires : tie.Need-write-policy-requires
 write-policy-requires c κs = search needs
 
-detail-of-requires : tie.Need-detail-of-requires
-detail-of-requires c κs = search needs
-
-number-of-requires : tie.Need-number-of-requires
-number-of-requires c κs = search needs
+tell-requires : tie.Need-tell-requires
+tell-requires c κs = search needs
 
 same-length : tie.Need-same-length
 same-length c = search needs
 
 returns : tie.Need-returns
 returns c =
-    let (answered, wrote) = c .before .before .before .before .write-policy .ensures in
-    (c .number-of .ensures ∙ ap number (answered .same), (c .before .detail-of .ensures ∙ ap detailed (answered .same), wrote))
+    let write-policy = c .before .before .before .before .write-policy .ensures in
+    let same = write-policy .0 .same in
+    (c .tell .ensures .0 ∙ ap number same, (c .tell .ensures .1 ∙ ap detailed same, write-policy .1))
 
 pub vh-write-policy-spec : {M : Type 1} → statement M
-vh-write-policy-spec =
-    tie.close
-    (tie.spec write-policy-requires detail-of-requires number-of-requires same-length returns)
+vh-write-policy-spec = tie.close (tie.spec write-policy-requires tell-requires same-length returns)

@@ -1,6 +1,5 @@
--- `cases::print::words` meets its contract. The words behind the index are left.
+-- `cases::print::words` is safe and ends. The words behind the index are left.
 use Prim.Native.Nat.{_-_}
-use mathlib.Core.Path.{refl}
 use lib.ListN.{length}
 use borrow.Author.Needs.{needs}
 use Rattle.cases.proofs.print.words.Statement.{statement}
@@ -13,16 +12,28 @@ abbrev μ-loop : tie.MeasureT-loop
 μ-loop words i₀ t3 t4 i = length words - i
 
 loop-holds : tie.Need-loop-holds Inv-loop μ-loop
-loop-holds c = tt
+loop-holds c = search needs
+
+negative-requires : tie.Need-negative-requires Inv-loop μ-loop
+negative-requires c κs = search needs
 
 slice-aggregate-write-all : tie.Need-slice-aggregate-write-all Inv-loop μ-loop
-slice-aggregate-write-all c = refl
+slice-aggregate-write-all c = search needs
 
 write-all-requires : tie.Need-write-all-requires Inv-loop μ-loop
-write-all-requires c κs = tt
+write-all-requires c κs = search needs
 
-word-requires : tie.Need-word-requires Inv-loop μ-loop
-word-requires c κs = tt
+value-requires : tie.Need-value-requires Inv-loop μ-loop
+value-requires c κs = search needs
+
+print-decimal-requires : tie.Need-print-decimal-requires Inv-loop μ-loop
+print-decimal-requires c κs = search needs
+
+value-requires-2 : tie.Need-value-requires-2 Inv-loop μ-loop
+value-requires-2 c κs = search needs
+
+number-requires : tie.Need-number-requires Inv-loop μ-loop
+number-requires c κs = search needs
 
 add-i : tie.Need-add-i Inv-loop μ-loop
 add-i c = search needs
@@ -31,16 +42,16 @@ loop-less : tie.Need-loop-less Inv-loop μ-loop
 loop-less c = search needs
 
 loop-again : tie.Need-loop-again Inv-loop μ-loop
-loop-again c = tt
+loop-again c = search needs
 
 slice-aggregate-write-all-2 : tie.Need-slice-aggregate-write-all-2 Inv-loop μ-loop
-slice-aggregate-write-all-2 c = refl
+slice-aggregate-write-all-2 c = search needs
 
 write-all-requires-2 : tie.Need-write-all-requires-2 Inv-loop μ-loop
-write-all-requires-2 c κs = tt
+write-all-requires-2 c κs = search needs
 
 returns : tie.Need-returns Inv-loop μ-loop
-returns c = tt
+returns c = search needs
 
 pub words-spec : {M : Type 1} → statement M
 words-spec =
@@ -49,9 +60,13 @@ words-spec =
     Inv-loop
     μ-loop
     loop-holds
+    negative-requires
     slice-aggregate-write-all
     write-all-requires
-    word-requires
+    value-requires
+    print-decimal-requires
+    value-requires-2
+    number-requires
     add-i
     loop-less
     loop-again

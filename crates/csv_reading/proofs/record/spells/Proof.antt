@@ -5,7 +5,6 @@ use mathlib.Core.Path.{_≡_, sym, ap, _∙_}
 use borrow.Author.Tests.{not-true, not-false}
 use Rattle.model.specs.Words.{value}
 use Rattle.model.specs.Table.{predicates, arity}
-use Rattle.laws.specs.Table.{accepted, short}
 use Rattle.laws.specs.LogText.Back.{good-arity}
 use Rattle.csv_reading.proofs.RecordLaws.{spells-bad, spells-good}
 use borrow.Author.Needs.{needs}
@@ -17,8 +16,7 @@ clear-requires c κs = search needs
 
 good-row-requires : tie.Need-good-row-requires
 good-row-requires c κs =
-    let s = c .before .before .before .before in
-    (short (s .args .table .now) (accepted (s .args .table .now) (s .pre .0)), c .before .before .clear .kept .0 ∙ s .pre .1)
+    let s = c .before .before .before .before in c .before .before .clear .kept .0 ∙ s .pre .1
 
 same-length : tie.Need-same-length
 same-length c = search needs
@@ -47,9 +45,7 @@ there c =
     good-arity (s .args .table .now) (s .pre .0) (k .clear .last .0) (sym (g .good-row .ensures) ∙ not-false _ (c .if1 .left))
 
 arity-requires : tie.Need-arity-requires
-arity-requires c κs =
-    let t = c .before .before .before .before .before .before .before .before in
-    omega (arith, c .value .ensures, there (c .before .before) .0, accepted (t .args .table .now) (t .pre .0) .few)
+arity-requires c κs = search needs
 
 -- its arity
 arity-is :

@@ -4,7 +4,7 @@ use mathlib.Core.List.{[], _∷_}
 use Rattle.model.specs.Bytes.{cr, lf}
 use Rattle.csv_writing.specs.Row.{lineOf}
 use Rattle.text.proofs.PutLaws.{Part, part-none, part-more, part-full, part-last}
-use Rattle.csv_writing.proofs.RowLaws.{predicate-few, arity-few, line-parts}
+use Rattle.csv_writing.proofs.RowLaws.{arity-few, line-parts}
 use borrow.Author.Needs.{needs}
 use Rattle.csv_writing.proofs.row.put_row.Statement.{statement}
 use Rattle.csv_writing.proofs.row.put_row.Tie as tie
@@ -13,9 +13,7 @@ value-requires : tie.Need-value-requires
 value-requires c κs = search needs
 
 arity-requires : tie.Need-arity-requires
-arity-requires c κs =
-    let s = c .before .before in
-    omega (arith, predicate-few (s .args .table .now) (s .args .row .now) (s .pre .0) (s .pre .2), c .value .ensures)
+arity-requires c κs = search needs
 
 add-n : tie.Need-add-n
 add-n c =

@@ -6,7 +6,7 @@ use mathlib.Core.Bool.{false}
 use lib.ListN.{length, getD, drop, length-drop, drop-of-length-le}
 use borrow.Author.Needs.{needs}
 use Rattle.environments.specs.Environment.{bits}
-use Rattle.environments.specs.Places.{bits-small}
+use Rattle.environments.proofs.Places.{bits-small}
 use Rattle.environments.proofs.Filling.{byte-small, bits-more}
 use Rattle.environments.proofs.environment.marks_word.Statement.{statement}
 use Rattle.environments.proofs.environment.marks_word.Tie as tie

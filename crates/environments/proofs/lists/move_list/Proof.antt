@@ -3,7 +3,8 @@ use Prim.Native.Nat.{_-_, _≤_}
 use native.Mathlib.Omega.{arith}
 use mathlib.Core.Path.{subst}
 use borrow.Author.Needs.{needs}
-use Rattle.environments.specs.Lists.{Moved, moved-none, moved-same, moved-on}
+use Rattle.environments.specs.Lists.{Moved}
+use Rattle.environments.proofs.ListsLaws.{moved-none, moved-same, moved-on}
 use Rattle.environments.proofs.lists.move_list.Statement.{statement}
 use Rattle.environments.proofs.lists.move_list.Tie as tie
 

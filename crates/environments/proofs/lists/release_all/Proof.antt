@@ -8,8 +8,10 @@ use lib.ListN.{length, take}
 use lib.Seq.{length-take-le}
 use borrow.Author.Needs.{needs}
 use Rattle.model.specs.Listing.{Environment}
-use Rattle.environments.specs.Listed.{Listed, environmentOf}
-use Rattle.environments.specs.Lists.{Released, listed-take, released-none, released-next, released-on}
+use Rattle.environments.specs.Listed.{Listed}
+use Rattle.environments.proofs.ListedLaws.{environmentOf}
+use Rattle.environments.specs.Lists.{Released}
+use Rattle.environments.proofs.ListsLaws.{listed-take, released-none, released-next, released-on}
 use Rattle.environments.proofs.lists.release_all.Statement.{statement}
 use Rattle.environments.proofs.lists.release_all.Tie as tie
 

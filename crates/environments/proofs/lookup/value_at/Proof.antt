@@ -4,7 +4,6 @@ use Prim.Native.Nat.{ℕ, _+_, _*_, _^_, _≤_, _<_}
 use mathlib.Core.Path.{_≡_, refl, sym, subst}
 use mathlib.Core.Bool.{true}
 use borrow.Author.Needs.{needs}
-use Rattle.model.specs.Words.{Words}
 use Rattle.model.specs.Lists.{all}
 use Rattle.model.specs.Reading.{places, inScope}
 use Rattle.environments.proofs.LookupLaws.{atom-value}
@@ -41,7 +40,7 @@ arguments-requires c κs =
       search (needs, s .good .1 .1 .1 .1 .0),
       subst (λ (k : ℕ). k ≤ 6) n (here .1),
       subst (λ (k : ℕ). s .args .at + 3 + 2 * k < 2 ^ 64) n (here .2),
-      subst (λ (k : ℕ). (t : Words) → all (inScope t (s .args .words .now) 16) (places (s .args .at + 3) k) ≡ true) n (here .3),
+      subst (λ (k : ℕ). all (inScope (s .args .words .now) 16) (places (s .args .at + 3) k) ≡ true) n (here .3),
       refl,
     )
 
@@ -58,7 +57,7 @@ returns c =
     let a = n .before .before .before .args in
     atom-value (a .table .now) (a .words .now) (a .log .now) (a .environment) (a .at)
     (n .before .value .result) (n .value2 .result) _ (c .value-of .result)
-    (n .before .value .ensures) (n .value2 .ensures) (λ e table h. filled .arguments2 .ensures e table (h .numbers)) (c .value-of .ensures)
+    (n .before .value .ensures) (n .value2 .ensures) (λ e h. filled .arguments2 .ensures e (h .numbers)) (c .value-of .ensures)
 
 pub value-at-spec : {M : Type 1} → statement M
 value-at-spec =

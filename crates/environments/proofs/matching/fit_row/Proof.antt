@@ -3,7 +3,6 @@
 use Prim.Native.Nat.{_+_, _*_, _-_, _≤_, _<_}
 use native.Mathlib.Omega.{arith}
 use mathlib.Core.Path.{sym, subst, _∙_}
-use mathlib.Core.List.{[]}
 use lib.ListN.{getD}
 use lib.IntN.{ℤ, pos}
 use mir.Syntax.{w32}
@@ -14,10 +13,11 @@ use borrow.Author.Tests.{not-true, not-false}
 use Rattle.model.specs.Words.{word, value}
 use Rattle.model.specs.Reading.{inScope}
 use Rattle.model.specs.Listing.{bind}
-use Rattle.policies.proofs.ModeTerms.{place-holds, variable-small}
+use Rattle.policies.proofs.TermLaws.{place-holds, variable-small}
 use Rattle.environments.specs.Environment.{Holds}
 use Rattle.environments.proofs.FitLaws.{Going, Turn, going-first, going-last, constant-on, constant-left, variable-on, variable-left}
-use Rattle.environments.proofs.FitLaws.{variable-bound, bits-equal, bits-unequal}
+use Rattle.environments.proofs.FitLaws.{variable-bound}
+use Rattle.words.proofs.Signed.{bits-equal, bits-unequal}
 use Rattle.environments.proofs.matching.fit_row.Statement.{statement}
 use Rattle.environments.proofs.matching.fit_row.Tie as tie
 
@@ -66,8 +66,8 @@ small c =
     let t = turn (c .before .before) in
     let s = c .before .before .before .before .before .before in
     let v =
-    variable-small [] (t .words) (t .first + 2 * t .i) 16
-    (place-holds (inScope [] (t .words) 16) (t .first) (t .n) (t .i) (s .pre .3 []) (t .more))
+    variable-small (t .words) (t .first + 2 * t .i) 16
+    (place-holds (inScope (t .words) 16) (t .first) (t .n) (t .i) (s .pre .3) (t .more))
     (sym (c .before .before .is .ensures) ∙ c .before .if1 .left) in
     omega (arith, c .value .ensures, v)
 

@@ -12,16 +12,16 @@ mul-walk-rows : tie.Need-mul-walk-rows
 mul-walk-rows c =
     let start = c .before .before in
     let a = start .args in
-    omega (arith, c .lead .ensures (a .log .now) (a .trues .now) (start .pre .3) .1, start .good)
+    omega (arith, c .lead .ensures (a .log .now) (a .links .now) (start .pre .3) .1, start .good)
 
 sub-walk-rows : tie.Need-sub-walk-rows
-sub-walk-rows c = c .lead .ensures (c .before .before .args .log .now) (c .before .before .args .trues .now) (c .before .before .pre .3) .1
+sub-walk-rows c = c .lead .ensures (c .before .before .args .log .now) (c .before .before .args .links .now) (c .before .before .pre .3) .1
 
 part-walk-rows-start : tie.Need-part-walk-rows-start
 part-walk-rows-start c =
     let start = c .before .before in
     let a = start .args in
-    c .lead .ensures (a .log .now) (a .trues .now) (start .pre .3) .1
+    c .lead .ensures (a .log .now) (a .links .now) (start .pre .3) .1
 
 part-walk-rows-end : tie.Need-part-walk-rows-end
 part-walk-rows-end c = search needs
@@ -35,8 +35,8 @@ walk-rows-requires c κs =
       start .pre .0,
       start .pre .1,
       start .pre .2,
-      leads-lent (a .trues .now) (lead .result .from)
-          (lead .ensures (a .log .now) (a .trues .now) (start .pre .3) .0),
+      leads-lent (a .links .now) (lead .result .from)
+          (lead .ensures (a .log .now) (a .links .now) (start .pre .3) .0),
       start .pre .5,
       start .pre .6,
     )

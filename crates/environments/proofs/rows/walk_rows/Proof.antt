@@ -5,11 +5,10 @@ use native.Mathlib.Omega.{arith}
 use mathlib.Core.Path.{_≡_, refl, sym, _∙_}
 use lib.ListN.{length}
 use borrow.Author.Tests.{not-true, not-false}
-use Rattle.model.specs.Words.{Words}
 use Rattle.model.specs.Log.{rowCount}
 use Rattle.model.specs.Listing.{Environment}
 use Rattle.logs.specs.Chain as C
-use Rattle.policies.specs.Mode.{termsAt}
+use Rattle.policies.specs.Standing.{termsAt}
 use Rattle.environments.specs.Environment.{Holds}
 use Rattle.environments.proofs.RowLaws.{SoFar, found-here, found-not, row-inside, next-link, next-less, far-start, far-end, far-none}
 use Rattle.environments.proofs.RowLaws.{far-one, far-short}
@@ -24,7 +23,7 @@ Inv-loop environment words first n log links keys key predicate scratch₀ base 
     × (link ≡ C.link rows (C.chain f key from rows))
     × (made ≤ left)
     × (length scratch ≡ length scratch₀)
-    × ((e : Environment) (table : Words) → Holds environment e → SoFar log predicate (termsAt table words first n) e f key from base made scratch₀ scratch)
+    × ((e : Environment) → Holds environment e → SoFar log predicate (termsAt words first n) e f key from base made scratch₀ scratch)
 
 abbrev μ-loop : tie.MeasureT-loop
 μ-loop environment words first n log links keys key predicate scratch₀ base left rows made₀ link₀ scratch made link = link
@@ -52,8 +51,8 @@ loop-holds c =
       omega
           arith,
       refl,
-      λ e table h. far-start (a .log .now) (a .predicate) (termsAt table (a .words .now) (a .first) (a .n)) e
-          (start .pre .3 .key) (a .key) (start .pre .3 .whole e table h) (a .base) (a .scratch .now),
+      λ e h. far-start (a .log .now) (a .predicate) (termsAt (a .words .now) (a .first) (a .n)) e
+          (start .pre .3 .key) (a .key) (start .pre .3 .whole e h) (a .base) (a .scratch .now),
     )
 
 sub-row : tie.Need-sub-row Inv-loop μ-loop
@@ -150,10 +149,10 @@ loop-again c =
           (loop .inv .1),
       loop .inv .4,
       loop .inv .5,
-      λ e table h. far-none (a .log .now) (a .predicate)
-          (termsAt table (a .words .now) (a .first) (a .n)) e (loop .inv .0) (a .key) (loop .inv .2) (a .base) (loop .made)
-          (loop .link) (a .scratch .now) (loop .scratch) (loop .inv .6 e table h) (loop .inv .3) (loop-test .taken)
-          (found-not (a .log .now) (a .predicate) (termsAt table (a .words .now) (a .first) (a .n)) e _
+      λ e h. far-none (a .log .now) (a .predicate)
+          (termsAt (a .words .now) (a .first) (a .n)) e (loop .inv .0) (a .key) (loop .inv .2) (a .base) (loop .made)
+          (loop .link) (a .scratch .now) (loop .scratch) (loop .inv .6 e h) (loop .inv .3) (loop-test .taken)
+          (found-not (a .log .now) (a .predicate) (termsAt (a .words .now) (a .first) (a .n)) e _
           (sym (c .before .is .ensures) ∙ not-true _ (c .if1 .taken))),
     )
 
@@ -183,14 +182,14 @@ returns c =
     let at-loop = at-loop-test .before in
     let loop = at-loop .loop in
     let a = at-loop .before .before .before .args in
-    λ e table h. let (g, one, holds) = at-fit-row .fit-row .ensures e table h .one (c .before .if2 .taken) in record {
-      came = far-short (a .log .now) (a .predicate) (termsAt table (a .words .now) (a .first) (a .n)) e (loop .inv .0)
+    λ e h. let (g, one, holds) = at-fit-row .fit-row .ensures e h .one (c .before .if2 .taken) in record {
+      came = far-short (a .log .now) (a .predicate) (termsAt (a .words .now) (a .first) (a .n)) e (loop .inv .0)
           (a .key) (loop .inv .2) (a .base) (loop .made) (loop .link) (a .scratch .now) (loop .scratch)
-          (loop .inv .6 e table h) (loop .inv .3) (at-loop-test .loop-test .taken) g
-          (found-here (a .log .now) (a .predicate) (termsAt table (a .words .now) (a .first) (a .n)) e _
+          (loop .inv .6 e h) (loop .inv .3) (at-loop-test .loop-test .taken) g
+          (found-here (a .log .now) (a .predicate) (termsAt (a .words .now) (a .first) (a .n)) e _
           (sym (at-is .is .ensures) ∙ not-false _ (at-if1 .if1 .left)) ∙ one) (a .left) (c .if3 .taken);
       long = loop .inv .5;
-      front = loop .inv .6 e table h .front;
+      front = loop .inv .6 e h .front;
     }
 
 add-write : tie.Need-add-write Inv-loop μ-loop
@@ -254,11 +253,11 @@ loop-again-2 c =
           (loop .inv .1),
       omega arith,
       write .kept .1 .0 ∙ loop .inv .5,
-      λ e table h. let (g, one, holds)
-          = at-fit-row .fit-row .ensures e table h .one (at-if2 .if2 .taken) in far-one (a .log .now) (a .predicate)
-          (termsAt table (a .words .now) (a .first) (a .n)) e (loop .inv .0) (a .key) (loop .inv .2) (a .base) (loop .made)
-          (loop .link) (a .scratch .now) (loop .scratch) (loop .inv .6 e table h) (loop .inv .3) (loop-test .taken) g
-          (found-here (a .log .now) (a .predicate) (termsAt table (a .words .now) (a .first) (a .n)) e _
+      λ e h. let (g, one, holds)
+          = at-fit-row .fit-row .ensures e h .one (at-if2 .if2 .taken) in far-one (a .log .now) (a .predicate)
+          (termsAt (a .words .now) (a .first) (a .n)) e (loop .inv .0) (a .key) (loop .inv .2) (a .base) (loop .made)
+          (loop .link) (a .scratch .now) (loop .scratch) (loop .inv .6 e h) (loop .inv .3) (loop-test .taken) g
+          (found-here (a .log .now) (a .predicate) (termsAt (a .words .now) (a .first) (a .n)) e _
           (sym (at-is .is .ensures) ∙ not-false _ (at-if1 .if1 .left)) ∙ one) (omega arith) (write .ensures g holds),
     )
 
@@ -290,11 +289,11 @@ loop-again-3 c =
           (loop .inv .1),
       loop .inv .4,
       loop .inv .5,
-      λ e table h. far-none (a .log .now) (a .predicate)
-          (termsAt table (a .words .now) (a .first) (a .n)) e (loop .inv .0) (a .key) (loop .inv .2) (a .base) (loop .made)
-          (loop .link) (a .scratch .now) (loop .scratch) (loop .inv .6 e table h) (loop .inv .3) (loop-test .taken)
-          (found-here (a .log .now) (a .predicate) (termsAt table (a .words .now) (a .first) (a .n)) e _
-          (sym (at-is .is .ensures) ∙ not-false _ (at-if1 .if1 .left)) ∙ c .before .fit-row .ensures e table h .none
+      λ e h. far-none (a .log .now) (a .predicate)
+          (termsAt (a .words .now) (a .first) (a .n)) e (loop .inv .0) (a .key) (loop .inv .2) (a .base) (loop .made)
+          (loop .link) (a .scratch .now) (loop .scratch) (loop .inv .6 e h) (loop .inv .3) (loop-test .taken)
+          (found-here (a .log .now) (a .predicate) (termsAt (a .words .now) (a .first) (a .n)) e _
+          (sym (at-is .is .ensures) ∙ not-false _ (at-if1 .if1 .left)) ∙ c .before .fit-row .ensures e h .none
           (c .if2 .left)),
     )
 
@@ -307,13 +306,13 @@ returns-2 c =
     let at-loop = c .before in
     let loop = at-loop .loop in
     let a = at-loop .before .before .before .args in
-    λ e table h. record {
-      came = far-end (a .log .now) (a .predicate) (termsAt table (a .words .now) (a .first) (a .n)) e (loop .inv .0)
+    λ e h. record {
+      came = far-end (a .log .now) (a .predicate) (termsAt (a .words .now) (a .first) (a .n)) e (loop .inv .0)
           (a .key) (loop .inv .2) (a .base) (loop .made) (loop .link) (a .scratch .now) (loop .scratch)
-          (loop .inv .6 e table h) (loop .inv .3) (c .loop-test .left) (a .left) (loop .inv .4);
+          (loop .inv .6 e h) (loop .inv .3) (c .loop-test .left) (a .left) (loop .inv .4);
       long = loop .inv .5;
       front
-          = loop .inv .6 e table h .front;
+          = loop .inv .6 e h .front;
     }
 
 pub walk-rows-spec : {M : Type 1} → statement M

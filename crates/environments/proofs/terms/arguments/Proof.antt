@@ -9,11 +9,10 @@ use lib.IntN.{ℤ, pos}
 use mir.Syntax.{w32}
 use mir.Val.{toZ, ofZ}
 use borrow.Author.Needs.{needs}
-use Rattle.model.specs.Words.{Words}
 use Rattle.model.specs.Reading.{inScope}
 use Rattle.model.specs.Listing.{Environment, numbersIn}
-use Rattle.policies.specs.Mode.{termsAt}
-use Rattle.policies.proofs.ModeTerms.{place-holds}
+use Rattle.policies.specs.Standing.{termsAt}
+use Rattle.policies.proofs.TermLaws.{place-holds}
 use Rattle.environments.specs.Environment.{numbersOf}
 use Rattle.environments.proofs.TermLaws.{numbersFrom, numbers-first, numbers-next, numbers-last, zeros-next}
 use Rattle.environments.proofs.terms.arguments.Statement.{statement}
@@ -24,9 +23,9 @@ Inv-loop numbers words first n arguments₀ i₀ arguments i =
     (i ≤ n)
     × (length arguments ≡ 6)
     × (drop i arguments ≡ replicate (6 - i) (pos 0))
-    × ((e : Environment) (table : Words) →
+    × ((e : Environment) →
     numbers ≡ numbersOf e →
-    numbersIn e (termsAt table words first n) ≡ take i arguments ++ numbersFrom e table words first n i)
+    numbersIn e (termsAt words first n) ≡ take i arguments ++ numbersFrom e words first n i)
 
 abbrev μ-loop : tie.MeasureT-loop
 μ-loop numbers words first n arguments₀ i₀ arguments i = n - i
@@ -36,7 +35,7 @@ loop-holds c = (
   omega arith,
   ap length (c .pre .4),
   c .pre .4,
-  λ e table h. numbers-first e table (c .args .words .now) (c .args .first) (c .args .n),
+  λ e h. numbers-first e (c .args .words .now) (c .args .first) (c .args .n),
 )
 
 mul-number : tie.Need-mul-number Inv-loop μ-loop
@@ -50,8 +49,8 @@ number-requires c κs =
     let s = c .before .before in (
       s .pre .0,
       omega (arith, s .pre .2),
-      λ table. place-holds (inScope table (s .args .words .now) 16) (s .args .first)
-          (s .args .n) (c .before .loop .i) (s .pre .3 table) (c .loop-test .taken),
+      place-holds (inScope (s .args .words .now) 16) (s .args .first)
+          (s .args .n) (c .before .loop .i) (s .pre .3) (c .loop-test .taken),
     )
 
 mul-t11 : tie.Need-mul-t11 Inv-loop μ-loop
@@ -76,10 +75,10 @@ loop-again c =
       omega arith,
       length-set (l .loop .arguments) i v ∙ l .loop .inv .1,
       zeros-next (l .loop .arguments) 6 i v (omega (arith, l .before .pre .1)) (l .loop .inv .2),
-      λ e table h.
-          l .loop .inv .3 e table h
-          ∙ numbers-next e table (a .words .now) (a .first) (a .n) (l .loop .arguments) i v
-          (c .before .loop-test .taken) (omega (arith, l .before .pre .1, l .loop .inv .1)) (back ∙ c .number .ensures e table h),
+      λ e h.
+          l .loop .inv .3 e h
+          ∙ numbers-next e (a .words .now) (a .first) (a .n) (l .loop .arguments) i v
+          (c .before .loop-test .taken) (omega (arith, l .before .pre .1, l .loop .inv .1)) (back ∙ c .number .ensures e h),
     )
 
 same-length : tie.Need-same-length Inv-loop μ-loop
@@ -87,10 +86,10 @@ same-length c = c .before .loop .inv .1 ∙ sym (ap length (c .before .before .p
 
 returns : tie.Need-returns Inv-loop μ-loop
 returns c =
-    λ e table h. let l = c .before in let a = l .before .args in let all : l .loop .i ≡ a .n = omega arith in sym
+    λ e h. let l = c .before in let a = l .before .args in let all : l .loop .i ≡ a .n = omega arith in sym
     (take-append-drop (l .loop .i) (l .loop .arguments)) ∙ ap₂ (λ (p q : List ℤ). p ++ q)
     (sym
-    (l .loop .inv .3 e table h ∙ numbers-last e table (a .words .now) (a .first) (a .n) (l .loop .arguments) (l .loop .i)
+    (l .loop .inv .3 e h ∙ numbers-last e (a .words .now) (a .first) (a .n) (l .loop .arguments) (l .loop .i)
     (c .loop-test .left))) (l .loop .inv .2 ∙ ap (λ (k : ℕ). replicate (6 - k) (pos 0)) all)
 
 pub arguments-spec : {M : Type 1} → statement M

@@ -26,7 +26,7 @@ number-requires c κs =
     let s = c .before .before .before in (
       search needs,
       omega (arith, s .pre .0),
-      λ table. first-holds (inScope table (s .args .words .now) 16) (s .args .at) (s .pre .1 table),
+      first-holds (inScope (s .args .words .now) 16) (s .args .at) (s .pre .1),
     )
 
 slice-aggregate-number-2 : tie.Need-slice-aggregate-number-2
@@ -40,14 +40,14 @@ number-requires-2 c κs =
     let s = c .before .before .before .before .before in (
       search needs,
       omega (arith, s .pre .0),
-      λ table. second-holds (inScope table (s .args .words .now) 16) (s .args .at) (s .pre .1 table),
+      second-holds (inScope (s .args .words .now) 16) (s .args .at) (s .pre .1),
     )
 
 at-most-requires : tie.Need-at-most-requires
 at-most-requires c κs = search needs
 
 returns : tie.Need-returns
-returns c = λ e table h.
+returns c = λ e h.
     let first = c .before .before .before in
     let d = first .before .before .word .result in
     let x = first .number .result in
@@ -58,8 +58,8 @@ returns c = λ e table h.
     c .at-most .ensures
     ∙ sum-same
     (back-d ∙ first .before .before .word .ensures)
-    (back-x ∙ first .number .ensures e table (h .numbers))
-    (back-y ∙ c .before .number2 .ensures e table (h .numbers))
+    (back-x ∙ first .number .ensures e (h .numbers))
+    (back-y ∙ c .before .number2 .ensures e (h .numbers))
 
 pub compare-spec : {M : Type 1} → statement M
 compare-spec =

@@ -6,7 +6,7 @@ use lib.ListN.{length}
 use mathlib.Core.Path.{sym, _∙_}
 use borrow.Author.Needs.{needs}
 use borrow.Author.Tests.{not-true, not-false}
-use Rattle.preorder.specs.Ahead.{ahead-word, ahead-there}
+use Rattle.trees.proofs.Ahead.{ahead-word, ahead-there}
 use Rattle.instances.proofs.ClosedLaws.{Closing, close-start, close-end, close-ahead, close-asks, close-open, close-fits, close-more}
 use Rattle.instances.proofs.closing.closed.Statement.{statement}
 use Rattle.instances.proofs.closing.closed.Tie as tie
@@ -26,7 +26,7 @@ tag-at-requires c κs = search needs
 complete-requires : tie.Need-complete-requires Inv-loop μ-loop
 complete-requires c κs =
     let l = c .before .before in
-    close-asks _ _ _ (l .loop .left) (l .loop .next) (l .loop .inv) (c .before .loop-test .taken) _ (c .tag-at .ensures) (l .before .pre)
+    close-asks _ _ _ (l .loop .left) (l .loop .next) (l .loop .inv) (c .before .loop-test .taken) (l .before .pre)
 
 returns : tie.Need-returns Inv-loop μ-loop
 returns c =

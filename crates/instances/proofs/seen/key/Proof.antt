@@ -4,7 +4,7 @@ use native.Mathlib.Omega.{arith}
 use mathlib.Core.Path.{_≡_, sym, _∙_}
 use lib.ListN.{take, drop}
 use Rattle.instances.specs.Keyed.{keyFrom, keyOf}
-use Rattle.instances.proofs.InstanceLaws.{partFrom}
+use Rattle.words.proofs.PartLaws.{partFrom}
 use Rattle.instances.proofs.KeyLaws.{key-first, key-on, key-last}
 use borrow.Author.Needs.{needs}
 use Rattle.instances.proofs.seen.key.Statement.{statement}

@@ -9,8 +9,8 @@ use mir.Syntax.{w32}
 use mir.Val.{SFits, toZ, ofZ}
 use mir.Facts.{toZ-ofZ}
 use Rattle.model.specs.Words.{Words}
-use Rattle.preorder.specs.Laying.{laid}
-use Rattle.joining.proofs.Shifting.{headed}
+use Rattle.words.specs.Laying.{laid}
+use Rattle.words.proofs.MovingLaws.{headed}
 use borrow.Author.Needs.{needs}
 use Rattle.joining.proofs.join.head.Statement.{statement}
 use Rattle.joining.proofs.join.head.Tie as tie

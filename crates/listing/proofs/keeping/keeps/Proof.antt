@@ -15,7 +15,7 @@ compare-requires : tie.Need-compare-requires
 compare-requires c κs =
     let s = c .before .before .before .before in
     let a = s .args in
-    keeping-compare (a .table .now) (a .words .now) (a .at) (a .tag) (s .pre .3) (s .pre .0) (s .pre .4)
+    keeping-compare (a .table .now) (a .words .now) (a .at) (a .tag) (s .pre .3) (s .pre .4)
     (omega (arith, s .good .1 .0)) _ (c .before .tag2 .given .1)
 
 enum-told : tie.Need-enum-told
@@ -26,8 +26,8 @@ is-false-requires c κs =
     let s = c .before .before .before in
     let a = s .args in
     let here =
-    keeping-atom (a .table .now) (a .words .now) (a .at) (a .tag) (s .pre .3) (s .pre .0) (s .pre .4)
-    (omega (arith, s .good .1 .0)) _ (c .enum-told .given .1) in
+    keeping-atom (a .table .now) (a .words .now) (a .at) (a .tag) (s .pre .3) (s .pre .4)
+    (omega (arith, s .good .1 .0)) (s .pre .0) _ (c .enum-told .given .1) in
     (s .pre .1, s .pre .2, here)
 
 returns : tie.Need-returns

@@ -4,17 +4,16 @@ use Prim.Native.Nat.{ℕ, _+_, _*_, _-_, _≤_}
 use native.Mathlib.Omega.{arith}
 use mathlib.Core.Path.{_≡_, refl, sym, ap, ap₂, _∙_, subst}
 use mathlib.Core.Bool.{true}
-use mathlib.Core.List.{List, []}
+use mathlib.Core.List.{List}
 use lib.ListN.{length}
 use borrow.Author.Needs.{needs}
-use Rattle.model.specs.Words.{Words, value}
 use Rattle.model.specs.Lists.{all, gather}
 use Rattle.model.specs.Reading.{places, inScope}
 use Rattle.model.specs.Log.{rows}
 use Rattle.model.specs.Listing.{Environment, matches}
-use Rattle.policies.specs.Mode.{termsAt}
+use Rattle.policies.specs.Standing.{termsAt}
 use Rattle.environments.specs.Environment.{Holds}
-use Rattle.environments.specs.Listed.{environmentOf}
+use Rattle.environments.proofs.ListedLaws.{environmentOf}
 use Rattle.listing.specs.Restrictions as R
 use Rattle.listing.proofs.MapLaws.{Mapping, map-start, map-read, map-step}
 use Rattle.listing.proofs.MapRoom.{adds-places, map-ran-out, map-stood, at-list}
@@ -22,16 +21,16 @@ use Rattle.listing.proofs.restriction.list_atom.Statement.{statement}
 use Rattle.listing.proofs.restriction.list_atom.Tie as tie
 
 abbrev Inv-loop : tie.InvT-loop
-Inv-loop words log trues scratch₀ room at predicate n base left made₀ i₀ scratch made i =
+Inv-loop words log links scratch₀ room at predicate n base left made₀ i₀ scratch made i =
     (i ≤ room .count)
     × (made ≤ room .limit - room .used)
     × (length scratch ≡ length scratch₀)
-    × ((es : List Environment) (table : Words) →
+    × ((es : List Environment) →
     R.Holding room scratch₀ es →
-    Mapping (λ e. matches (rows log) predicate (termsAt table words (at + 3) n) e) es i (room .base) made scratch₀ scratch)
+    Mapping (λ e. matches (rows log) predicate (termsAt words (at + 3) n) e) es i (room .base) made scratch₀ scratch)
 
 abbrev μ-loop : tie.MeasureT-loop
-μ-loop words log trues scratch₀ room at predicate n base left made₀ i₀ scratch made i = room .count - i
+μ-loop words log links scratch₀ room at predicate n base left made₀ i₀ scratch made i = room .count - i
 
 add-value : tie.Need-add-value Inv-loop μ-loop
 add-value c = omega (arith, c .before .pre .1 .2)
@@ -55,9 +54,9 @@ loop-holds c =
       omega arith,
       omega arith,
       refl,
-      λ es table h. map-start
+      λ es h. map-start
           (λ e. matches (rows (a .log .now)) (at-value .value .result)
-          (termsAt table (a .words .now) (a .at + 3) (c .before .value2 .result)) e) es (a .room .base) (a .scratch .now),
+          (termsAt (a .words .now) (a .at + 3) (c .before .value2 .result)) e) es (a .room .base) (a .scratch .now),
     )
 
 add-read : tie.Need-add-read Inv-loop μ-loop
@@ -111,7 +110,7 @@ held-here :
     (c : tie.After-read Inv-loop μ-loop) →
     let at-loop = c .before .before .before .before .before in
     let a = at-loop .before .before .before .before .before .args in
-    (es : List Environment) (table : Words) →
+    (es : List Environment) →
     R.Holding (a .room) (a .scratch .now) es →
     Holds (c .read .result) (environmentOf es (at-loop .loop .i))
 held-here c =
@@ -121,12 +120,12 @@ held-here c =
     let at-value = at-value2 .before in
     let start = at-value .before .before in
     let a = start .args in
-    λ es table h. let roomy = start .pre .2 in let b1 = roomy .before in let n = h .long in c .read .ensures
+    λ es h. let roomy = start .pre .2 in let b1 = roomy .before in let n = h .long in c .read .ensures
     (environmentOf es (loop .i))
     (map-read
     (λ e. matches (rows (a .log .now)) (at-value .value .result)
-    (termsAt table (a .words .now) (a .at + 3) (at-value2 .value2 .result)) e) es (loop .i) (a .room .base) (loop .made)
-    (a .scratch .now) (loop .scratch) (loop .inv .3 es table h) (a .room .from) (omega arith) (h .listed)
+    (termsAt (a .words .now) (a .at + 3) (at-value2 .value2 .result)) e) es (loop .i) (a .room .base) (loop .made)
+    (a .scratch .now) (loop .scratch) (loop .inv .3 es h) (a .room .from) (omega arith) (h .listed)
     (omega (arith, c .before .before .before .if1 .taken)))
 
 match-rows-requires : tie.Need-match-rows-requires Inv-loop μ-loop
@@ -151,12 +150,11 @@ match-rows-requires c κs =
     let long = start .pre .1 .2 in (
       omega (arith, few),
       omega (arith, long),
-      (λ t. subst (λ (k : ℕ). all (inScope t (a .words .now) 16) (places (a .at + 3) k) ≡ true) (sym n)
-          (start .pre .1 .3 t)),
+      subst (λ (k : ℕ). all (inScope (a .words .now) 16) (places (a .at + 3) k) ≡ true) (sym n) (start .pre .1 .3),
       start .pre .0,
       omega (arith, start .pre .1 .0),
       omega arith,
-      (environmentOf es (loop .i), held-here (c .before) es [] h),
+      (environmentOf es (loop .i), held-here (c .before) es h),
       omega (arith, n, start .pre .4 .0),
       omega
           (arith, n, start .pre .4 .1),
@@ -187,16 +185,16 @@ returns c =
     let value = at-value .value in
     let start = at-value .before .before in
     let a = start .args in
-    λ es table h. let roomy = start .pre .2 in let b1 = roomy .before in let b2 = roomy .counted in let b3
+    λ es h. let roomy = start .pre .2 in let b1 = roomy .before in let b2 = roomy .counted in let b3
     = roomy .within in let b4 = roomy .there in let m = loop .inv .1 in let l = loop .inv .2 in at-list
-    (ap₂ (λ (p n : ℕ). gather (matches (rows (a .log .now)) p (termsAt table (a .words .now) (a .at + 3) n)) es)
+    (ap₂ (λ (p n : ℕ). gather (matches (rows (a .log .now)) p (termsAt (a .words .now) (a .at + 3) n)) es)
     (value .ensures) (value2 .ensures))
     (map-ran-out
-    (λ e. matches (rows (a .log .now)) (value .result) (termsAt table (a .words .now) (a .at + 3) (value2 .result)) e)
-    es (loop .i) (a .room) (loop .made) (a .scratch .now) (loop .scratch) (loop .inv .3 es table h) m h
+    (λ e. matches (rows (a .log .now)) (value .result) (termsAt (a .words .now) (a .at + 3) (value2 .result)) e)
+    es (loop .i) (a .room) (loop .made) (a .scratch .now) (loop .scratch) (loop .inv .3 es h) m h
     (omega (arith, then .before .before .before .if1 .taken))
     (c .enum-told .given .1) (match-rows .kept .1 .1 .1 .1 .1 .1 .1 .0 ∙ loop .inv .2)
-    (match-rows .ensures (environmentOf es (loop .i)) table (held-here then es table h)) _)
+    (match-rows .ensures (environmentOf es (loop .i)) (held-here then es h)) _)
 
 add-made : tie.Need-add-made Inv-loop μ-loop
 add-made c =
@@ -214,11 +212,10 @@ add-made c =
     let m = loop .inv .1 in
     let l = loop .inv .2 in
     let (es, h) = pre .3 in
-    let table : Words = [] in
     let few =
     adds-places (c .before .added .given .1)
-    (at-match-rows .match-rows .ensures (environmentOf es (loop .i)) table (held-here then es table h)) .few in
-    omega arith
+    (at-match-rows .match-rows .ensures (environmentOf es (loop .i)) (held-here then es h)) .few in
+    omega (arith, few, m, l, b2, b3, b4, at-pre .good .1 .1 .1 .0)
 
 add-i : tie.Need-add-i Inv-loop μ-loop
 add-i c = omega arith
@@ -249,17 +246,17 @@ loop-again c =
     let (es₀, h₀) = start .pre .3 in
     let few =
     adds-places (added .given .1)
-    (match-rows .ensures (environmentOf es₀ (loop .i)) [] (held-here then es₀ [] h₀)) .few in
+    (match-rows .ensures (environmentOf es₀ (loop .i)) (held-here then es₀ h₀)) .few in
     let more = then .before .before .before .if1 .taken in (
       omega (arith, more),
       omega arith,
       match-rows .kept .1 .1 .1 .1 .1 .1 .1 .0 ∙ loop .inv .2,
-      λ es table h. let adds
-          = (match-rows .ensures (environmentOf es (loop .i)) table (held-here then es table h)) in let filled = adds-places
+      λ es h. let adds
+          = (match-rows .ensures (environmentOf es (loop .i)) (held-here then es h)) in let filled = adds-places
           (added .given .1) adds in map-step
           (λ e. matches (rows (a .log .now)) (at-value .value .result)
-          (termsAt table (a .words .now) (a .at + 3) (at-value2 .value2 .result)) e) es (loop .i) (a .room .base) (loop .made)
-          (a .scratch .now) (loop .scratch) (loop .inv .3 es table h) _ _ (omega (arith, more, h .long)) (filled .count)
+          (termsAt (a .words .now) (a .at + 3) (at-value2 .value2 .result)) e) es (loop .i) (a .room .base) (loop .made)
+          (a .scratch .now) (loop .scratch) (loop .inv .3 es h) _ _ (omega (arith, more, h .long)) (filled .count)
           (filled .listed) (adds .front),
     )
 
@@ -305,13 +302,13 @@ returns-2 c =
     let value = at-value .value in
     let start = at-value .before .before in
     let a = start .args in
-    λ es table h. let roomy = start .pre .2 in let b1 = roomy .before in let b2 = roomy .counted in let b3
+    λ es h. let roomy = start .pre .2 in let b1 = roomy .before in let b2 = roomy .counted in let b3
     = roomy .within in let b4 = roomy .there in let m = loop .inv .1 in let l = loop .inv .2 in at-list
-    (ap₂ (λ (p n : ℕ). gather (matches (rows (a .log .now)) p (termsAt table (a .words .now) (a .at + 3) n)) es)
+    (ap₂ (λ (p n : ℕ). gather (matches (rows (a .log .now)) p (termsAt (a .words .now) (a .at + 3) n)) es)
     (value .ensures) (value2 .ensures))
     (map-stood
-    (λ e. matches (rows (a .log .now)) (value .result) (termsAt table (a .words .now) (a .at + 3) (value2 .result)) e)
-    es (loop .i) (a .room) (loop .made) (a .scratch .now) (loop .scratch) (loop .inv .3 es table h) m h roomy
+    (λ e. matches (rows (a .log .now)) (value .result) (termsAt (a .words .now) (a .at + 3) (value2 .result)) e)
+    es (loop .i) (a .room) (loop .made) (a .scratch .now) (loop .scratch) (loop .inv .3 es h) m h roomy
     (omega arith) l (c .filled .ensures) (ap (λ (k : ℕ). a .at + 3 + 2 * k) (value2 .ensures)))
 
 pub list-atom-spec : {M : Type 1} → statement M

@@ -3,7 +3,7 @@
 use Prim.Native.Nat.{ℕ, _-_, _≤_}
 use native.Mathlib.Omega.{arith}
 use mathlib.Core.Path.{_≡_, refl, sym, _∙_}
-use mathlib.Core.List.{List, []}
+use mathlib.Core.List.{List}
 use lib.ListN.{length}
 use borrow.Author.Tests.{not-true, not-false}
 use Rattle.model.specs.Log.{rows}
@@ -12,9 +12,9 @@ use Rattle.model.specs.Level.{restriction}
 use Rattle.model.specs.Listing.{Environment}
 use Rattle.laws.specs.Reading.Nodes.{Node}
 use Rattle.policies.specs.Node.{asTag}
-use Rattle.preorder.specs.Forming.{node-grown}
+use Rattle.trees.proofs.Forming.{node-grown}
 use Rattle.environments.specs.Environment.{Holds}
-use Rattle.environments.specs.Listed.{environmentOf}
+use Rattle.environments.proofs.ListedLaws.{environmentOf}
 use Rattle.listing.specs.Keeping.{keepsOf}
 use Rattle.listing.specs.Restrictions as R
 use Rattle.listing.proofs.MapLaws.{Mapping, map-start, map-read}
@@ -24,7 +24,7 @@ use Rattle.listing.proofs.restriction.list_kept.Statement.{statement}
 use Rattle.listing.proofs.restriction.list_kept.Tie as tie
 
 abbrev Inv-loop : tie.InvT-loop
-Inv-loop table words log atoms scratch₀ room tag at left made₀ i₀ scratch made i =
+Inv-loop table words log links scratch₀ room tag at left made₀ i₀ scratch made i =
     (i ≤ room .count)
     × (made ≤ room .limit - room .used)
     × (length scratch ≡ length scratch₀)
@@ -35,7 +35,7 @@ Inv-loop table words log atoms scratch₀ room tag at left made₀ i₀ scratch 
     Mapping (kept (keepsOf table (rows log) t)) es i (room .base) made scratch₀ scratch)
 
 abbrev μ-loop : tie.MeasureT-loop
-μ-loop table words log atoms scratch₀ room tag at left made₀ i₀ scratch made i = room .count - i
+μ-loop table words log links scratch₀ room tag at left made₀ i₀ scratch made i = room .count - i
 
 sub-left : tie.Need-sub-left Inv-loop μ-loop
 sub-left c = omega (arith, c .before .before .pre .3 .within)
@@ -99,7 +99,7 @@ keeps-requires : tie.Need-keeps-requires Inv-loop μ-loop
 keeps-requires c κs =
     let at-pre = c .before .before .before .before .before .before .before .before in
     let pre = at-pre .pre in
-    (pre .0 .few, pre .0 .accepted, pre .0 .byAtom, pre .2, pre .1)
+    (pre .0 .few, pre .0 .accepted, pre .0 .linked .byAtom, pre .2, pre .1)
 
 loop-less : tie.Need-loop-less Inv-loop μ-loop
 loop-less c = omega arith
@@ -254,8 +254,8 @@ add-t24 c =
     let there =
     tree-there (a .words .now) (a .at) next t
     (node-grown (a .table .now) (a .words .now) restriction above scope (a .at) t next node) (asTag (a .tag))
-    (start .pre .2) [] restriction 0 in
-    let size = c .before .size .ensures [] restriction 0 in
+    (start .pre .2) restriction 0 in
+    let size = c .before .size .ensures restriction 0 in
     omega (arith, start .good .1 .0)
 
 same-length-2 : tie.Need-same-length-2 Inv-loop μ-loop

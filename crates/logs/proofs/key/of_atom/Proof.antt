@@ -3,7 +3,7 @@ use Prim.Native.Nat.{ℕ, _+_}
 use native.Mathlib.Nat.{add-zero}
 use mathlib.Core.Path.{sym, ap, _∙_}
 use Rattle.model.specs.Words.{word}
-use Rattle.tables.specs.Offset.{fromLeast}
+use Rattle.words.specs.Offset.{fromLeast}
 use Rattle.logs.specs.Key.{atomKey}
 use Rattle.logs.proofs.Keys.{spread-of}
 use borrow.Author.Needs.{needs}
@@ -11,7 +11,7 @@ use Rattle.logs.proofs.key.of_atom.Statement.{statement}
 use Rattle.logs.proofs.key.of_atom.Tie as tie
 use Rattle.logs.proofs.key.of_atom.Reads as reads
 use Rattle.logs.proofs.key.of_atom.Lts as lts
-use Rattle.tables.proofs.words.offset.Reads as offset-reads
+use Rattle.words.proofs.offset.Reads as offset-reads
 
 mul-p : tie.Need-mul-p
 mul-p c = search needs

@@ -7,9 +7,9 @@ use Rattle.logs.proofs.key.of_true.Statement.{statement}
 use Rattle.logs.proofs.key.of_true.Tie as tie
 use Rattle.logs.proofs.key.of_true.Reads as reads
 use Rattle.logs.proofs.key.of_true.Lts as lts
-use Rattle.tables.proofs.words.below.Reads as below-reads
-use Rattle.tables.proofs.words.is.Reads as is-reads
-use Rattle.tables.proofs.words.value.Reads as value-reads
+use Rattle.words.proofs.below.Reads as below-reads
+use Rattle.words.proofs.is.Reads as is-reads
+use Rattle.words.proofs.value.Reads as value-reads
 
 mul-is : tie.Need-mul-is
 mul-is c = search needs

@@ -12,7 +12,7 @@ use Rattle.model.specs.Answer.{refused, ask, _>>=_}
 use Rattle.model.specs.Log.{rowCount, askLog}
 use Rattle.tables.specs.declared.Checked.the-variants.{Passed, Refused}
 use Rattle.logs.specs.Search.{askRows, repeatsAt}
-use Rattle.logs.proofs.Keys.{first-keys}
+use Rattle.logs.proofs.Keys.{zeros-empty}
 use borrow.Author.Needs.{needs}
 use Rattle.logs.proofs.log.check_log.Statement.{statement}
 use Rattle.logs.proofs.log.check_log.Tie as tie
@@ -50,20 +50,17 @@ returns-2 c =
       chained = λ e. never e;
     }
 
-array-borrow-prefix-keys : tie.Need-array-borrow-prefix-keys
-array-borrow-prefix-keys c = search needs
-
 slice-aggregate-chain-and-check : tie.Need-slice-aggregate-chain-and-check
-slice-aggregate-chain-and-check c = sym (first-keys (length (c .before .before .before .before .args .log .now) / 8) (c .before .if2 .left))
+slice-aggregate-chain-and-check c = search needs
 
 chain-and-check-requires : tie.Need-chain-and-check-requires
 unfolding rowCount
 chain-and-check-requires c κs =
     let at-if2 = c .before .before in
-    let if2 = at-if2 .if2 in
+    let few = at-if2 .if2 .left in
     let start = at-if2 .before .before .before in
     let a = start .args in
-    (start .pre .0, if2 .left, first-keys (length (a .log .now) / 8) (if2 .left), start .pre .1)
+    (few, few, zeros-empty 16384 (length (a .log .now) / 8) (a .links .now) 20480 (start .pre) (omega (arith, few)))
 
 same-length : tie.Need-same-length
 same-length c = search needs
@@ -87,7 +84,6 @@ check-log-spec =
     (tie.spec
     returns
     returns-2
-    array-borrow-prefix-keys
     slice-aggregate-chain-and-check
     chain-and-check-requires
     same-length

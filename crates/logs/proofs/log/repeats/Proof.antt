@@ -16,7 +16,7 @@ use Rattle.logs.proofs.log.repeats.Tie as tie
 use Rattle.logs.proofs.log.repeats.Reads as reads
 use Rattle.logs.proofs.log.repeats.Lts as lts
 use Rattle.logs.proofs.search.search.Reads as search-reads
-use Rattle.tables.proofs.words.value.Reads as value-reads
+use Rattle.words.proofs.value.Reads as value-reads
 
 mul-at : tie.Need-mul-at
 unfolding rowCount

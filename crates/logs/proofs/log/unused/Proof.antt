@@ -13,7 +13,7 @@ use Rattle.logs.proofs.log.unused.Statement.{statement}
 use Rattle.logs.proofs.log.unused.Tie as tie
 use Rattle.logs.proofs.log.unused.Reads as reads
 use Rattle.logs.proofs.log.unused.Lts as lts
-use Rattle.tables.proofs.words.zero.Reads as zero-reads
+use Rattle.words.proofs.zero.Reads as zero-reads
 
 abbrev Inv-loop : tie.InvT-loop
 Inv-loop row n used₀ i₀ used i = (i ≤ 6) × (used ≤ i) × (unusedFrom row n ≡ (leb used n && unusedFrom row (max n i)))

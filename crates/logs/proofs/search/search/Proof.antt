@@ -17,8 +17,8 @@ use Rattle.logs.proofs.search.search.Statement.{statement}
 use Rattle.logs.proofs.search.search.Tie as tie
 use Rattle.logs.proofs.search.search.Reads as reads
 use Rattle.logs.proofs.search.search.Lts as lts
-use Rattle.tables.proofs.words.is.Reads as is-reads
-use Rattle.tables.proofs.words.same.Reads as same-reads
+use Rattle.words.proofs.is.Reads as is-reads
+use Rattle.words.proofs.same.Reads as same-reads
 
 abbrev Inv-loop : tie.InvT-loop
 Inv-loop log links start predicate arguments rows link row i₀ i = (i ≤ 6) × (holds predicate arguments (rowAt log row) ≡ Rest log (8 * row + 2) arguments i)

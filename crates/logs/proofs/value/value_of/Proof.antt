@@ -12,7 +12,7 @@ use Rattle.logs.proofs.value.value_of.Reads as reads
 use Rattle.logs.proofs.value.value_of.Lts as lts
 use Rattle.logs.proofs.key.of_atom.Reads as of-atom-reads
 use Rattle.logs.proofs.search.search.Reads as search-reads
-use Rattle.tables.proofs.words.is.Reads as is-reads
+use Rattle.words.proofs.is.Reads as is-reads
 
 of-atom-requires : tie.Need-of-atom-requires
 of-atom-requires c κs = search needs
@@ -49,14 +49,8 @@ is-requires c κs = search needs
 enum-told : tie.Need-enum-told
 enum-told c = search needs
 
-mul-is-2 : tie.Need-mul-is-2
-mul-is-2 c = search needs
-
-add-is-2 : tie.Need-add-is-2
-add-is-2 c = search needs
-
-is-requires-2 : tie.Need-is-requires-2
-is-requires-2 c κs = search needs
+complete-requires : tie.Need-complete-requires
+complete-requires c κs = search needs
 
 returns : tie.Need-returns
 returns c =
@@ -65,7 +59,7 @@ returns c =
     let start = at-search .before .before .before in
     let a = start .args in
     λ ns long filled. sym
-    (value-found (a .table .now) (a .log .now) (a .predicate) (start .pre .3) (a .arguments .now) ns (start .pre .1)
+    (value-found (a .table .now) (a .log .now) (a .predicate) (start .pre .2) (a .arguments .now) ns (start .pre .1)
     (at-search .search .ensures) long filled ∙ by-row (a .table .now) (a .log .now) (a .predicate) _ true
     (at-found .found .given .1) (sym (c .before .is .ensures) ∙ c .if1 .taken))
 
@@ -76,7 +70,7 @@ returns-2 c =
     let start = at-search .before .before .before in
     let a = start .args in
     λ ns long filled. sym
-    (value-found (a .table .now) (a .log .now) (a .predicate) (start .pre .3) (a .arguments .now) ns (start .pre .1)
+    (value-found (a .table .now) (a .log .now) (a .predicate) (start .pre .2) (a .arguments .now) ns (start .pre .1)
     (at-search .search .ensures) long filled ∙ by-row (a .table .now) (a .log .now) (a .predicate) _ false
     (at-found .found .given .1) (sym (c .before .is .ensures) ∙ c .if1 .left))
 
@@ -87,9 +81,9 @@ returns-3 c =
     let start = at-search .before .before .before in
     let a = start .args in
     λ ns long filled. sym
-    (value-found (a .table .now) (a .log .now) (a .predicate) (start .pre .3) (a .arguments .now) ns (start .pre .1)
+    (value-found (a .table .now) (a .log .now) (a .predicate) (start .pre .2) (a .arguments .now) ns (start .pre .1)
     (at-search .search .ensures) long filled ∙ by-complete (a .table .now) (a .log .now) (a .predicate)
-    (at-enum-told .enum-told .given .1) (sym (c .before .is2 .ensures) ∙ c .if2 .taken))
+    (at-enum-told .enum-told .given .1) (sym (c .before .complete .ensures) ∙ c .if2 .taken))
 
 returns-4 : tie.Need-returns-4
 returns-4 c =
@@ -98,9 +92,9 @@ returns-4 c =
     let start = at-search .before .before .before in
     let a = start .args in
     λ ns long filled. sym
-    (value-found (a .table .now) (a .log .now) (a .predicate) (start .pre .3) (a .arguments .now) ns (start .pre .1)
+    (value-found (a .table .now) (a .log .now) (a .predicate) (start .pre .2) (a .arguments .now) ns (start .pre .1)
     (at-search .search .ensures) long filled ∙ by-nothing (a .table .now) (a .log .now) (a .predicate)
-    (at-enum-told .enum-told .given .1) (sym (c .before .is2 .ensures) ∙ c .if2 .left))
+    (at-enum-told .enum-told .given .1) (sym (c .before .complete .ensures) ∙ c .if2 .left))
 
 pub value-of-spec : {M : Type 1} → statement M
 value-of-spec =
@@ -113,9 +107,7 @@ value-of-spec =
     add-is
     is-requires
     enum-told
-    mul-is-2
-    add-is-2
-    is-requires-2
+    complete-requires
     returns
     returns-2
     returns-3

@@ -22,7 +22,7 @@ within-requires c κs = search needs
 
 returns : tie.Need-returns
 unfolding own
-returns c b role table scope = rw (sym (c .before .within .ensures) ∙ not-true _ (c .if1 .taken))
+returns c b role scope = rw (sym (c .before .within .ensures) ∙ not-true _ (c .if1 .taken))
 
 add-value : tie.Need-add-value
 add-value c = search needs
@@ -49,10 +49,10 @@ add-if2 c = omega (arith, few c)
 
 returns-2 : tie.Need-returns-2
 unfolding own
-returns-2 c b role table scope =
+returns-2 c b role scope =
     let v = c .before in
     let s = v .before .before .before in
-    short table (s .args .words .now) (Tag.atom b) role scope (s .args .at) (s .pre) (rw (v .value .ensures) at (c .if2 .taken))
+    short (s .args .words .now) (Tag.atom b) role scope (s .args .at) (s .pre) (rw (v .value .ensures) at (c .if2 .taken))
 
 add-kinds : tie.Need-add-kinds
 add-kinds c = search needs
@@ -62,15 +62,15 @@ kinds-requires c κs = search needs
 
 returns-3 : tie.Need-returns-3
 unfolding own
-returns-3 c b role table scope =
+returns-3 c b role scope =
     let v = c .before .before in
     let s = v .before .before .before in
     let words = s .args .words .now in
     let at = s .args .at in
-    let same : all (goodKind table words) (places (at + 3) (v .value .result)) ≡ own table words (Tag.atom b) role scope at .shape =
+    let same : all (goodKind words) (places (at + 3) (v .value .result)) ≡ own words (Tag.atom b) role scope at .shape =
     rw (v .value .ensures, in-range v) in
     let fits = rw (v .value .ensures) at (c .before .if2 .left) in
-    c .kinds .ensures table ∙ same ∙ enough table words (Tag.atom b) role scope at (s .pre) fits
+    c .kinds .ensures ∙ same ∙ enough words (Tag.atom b) role scope at (s .pre) fits
 
 pub atom-shape-spec : {M : Type 1} → statement M
 atom-shape-spec =

@@ -12,9 +12,9 @@ sub-if1 c = search needs
 
 returns : tie.Need-returns
 unfolding own
-returns c b role table scope =
+returns c b role scope =
     let s = c .before in
-    short table (s .args .words .now) (Tag.compare b) role scope (s .args .at) (s .pre) (c .if1 .taken)
+    short (s .args .words .now) (Tag.compare b) role scope (s .args .at) (s .pre) (c .if1 .taken)
 
 add-kinds : tie.Need-add-kinds
 add-kinds c = search needs
@@ -24,9 +24,9 @@ kinds-requires c κs = search needs
 
 returns-2 : tie.Need-returns-2
 unfolding own
-returns-2 c b role table scope =
+returns-2 c b role scope =
     let s = c .before .before in
-    c .kinds .ensures table ∙ enough table (s .args .words .now) (Tag.compare b) role scope (s .args .at) (s .pre) (c .before .if1 .left)
+    c .kinds .ensures ∙ enough (s .args .words .now) (Tag.compare b) role scope (s .args .at) (s .pre) (c .before .if1 .left)
 
 pub compare-shape-spec : {M : Type 1} → statement M
 compare-shape-spec = tie.close (tie.spec sub-if1 returns add-kinds kinds-requires returns-2)

@@ -10,7 +10,7 @@ is-requires c κs = search needs
 
 returns : tie.Need-returns
 unfolding inScope
-returns c table = rw (sym (c .before .is .ensures) ∙ c .if1 .taken)
+returns c = rw (sym (c .before .is .ensures) ∙ c .if1 .taken)
 
 add-below : tie.Need-add-below
 add-below c = search needs
@@ -20,7 +20,7 @@ below-requires c κs = search needs
 
 returns-2 : tie.Need-returns-2
 unfolding inScope
-returns-2 c table = rw (sym (c .before .before .is .ensures) ∙ c .before .if1 .left) (c .below .ensures)
+returns-2 c = rw (sym (c .before .before .is .ensures) ∙ c .before .if1 .left) (c .below .ensures)
 
 pub in-scope-spec : {M : Type 1} → statement M
 in-scope-spec = tie.close (tie.spec is-requires returns add-below below-requires returns-2)

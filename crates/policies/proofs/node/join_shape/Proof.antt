@@ -12,9 +12,9 @@ sub-if1 c = search needs
 
 returns : tie.Need-returns
 unfolding own
-returns c b role table scope =
+returns c b role scope =
     let s = c .before in
-    short table (s .args .words .now) (Tag.join b) role scope (s .args .at) (s .pre) (c .if1 .taken)
+    short (s .args .words .now) (Tag.join b) role scope (s .args .at) (s .pre) (c .if1 .taken)
 
 add-at-least : tie.Need-add-at-least
 add-at-least c = search needs
@@ -24,9 +24,9 @@ at-least-requires c κs = search needs
 
 returns-2 : tie.Need-returns-2
 unfolding own
-returns-2 c b role table scope =
+returns-2 c b role scope =
     let s = c .before .before in
-    c .at-least .ensures ∙ enough table (s .args .words .now) (Tag.join b) role scope (s .args .at) (s .pre) (c .before .if1 .left)
+    c .at-least .ensures ∙ enough (s .args .words .now) (Tag.join b) role scope (s .args .at) (s .pre) (c .before .if1 .left)
 
 pub join-shape-spec : {M : Type 1} → statement M
 join-shape-spec = tie.close (tie.spec sub-if1 returns add-at-least at-least-requires returns-2)

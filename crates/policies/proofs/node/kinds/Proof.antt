@@ -4,7 +4,6 @@ use native.Mathlib.Omega.{arith}
 use mathlib.Core.Path.{_≡_, sym, _∙_}
 use borrow.Author.Needs.{needs}
 use borrow.Author.Tests.{not-true, not-false}
-use Rattle.model.specs.Words.{Words}
 use Rattle.model.specs.Lists.{all}
 use Rattle.model.specs.Reading.{places, goodKind}
 use Rattle.policies.proofs.NodeTerms.{from, from-first, from-last, from-yes, from-no}
@@ -13,13 +12,13 @@ use Rattle.policies.proofs.node.kinds.Tie as tie
 
 abbrev Inv-loop : tie.InvT-loop
 Inv-loop words first n i₀ i =
-    (i ≤ n) × ((table : Words) → all (goodKind table words) (places first n) ≡ from (goodKind table words) first n i)
+    (i ≤ n) × (all (goodKind words) (places first n) ≡ from (goodKind words) first n i)
 
 abbrev μ-loop : tie.MeasureT-loop
 μ-loop words first n i₀ i = n - i
 
 loop-holds : tie.Need-loop-holds Inv-loop μ-loop
-loop-holds c = (search needs, λ table. from-first _ _ _)
+loop-holds c = (search needs, from-first _ _ _)
 
 mul-within : tie.Need-mul-within Inv-loop μ-loop
 mul-within c = omega (arith, c .before .before .pre)
@@ -32,10 +31,10 @@ within-requires c κs = search needs
 
 returns : tie.Need-returns Inv-loop μ-loop
 unfolding goodKind
-returns c table =
+returns c =
     let l = c .before .before .before in
     sym
-    (l .loop .inv .1 table
+    (l .loop .inv .1
     ∙ from-no _ _ _ (l .loop .i) (c .before .before .loop-test .taken) (sym (c .before .within .ensures) ∙ not-true _ (c .if1 .taken)))
 
 add-i : tie.Need-add-i Inv-loop μ-loop
@@ -49,13 +48,12 @@ unfolding goodKind
 loop-again c =
     let l = c .before .before .before in (
       omega (arith, c .before .before .loop-test .taken),
-      λ table.
-          l .loop .inv .1 table
+      l .loop .inv .1
           ∙ from-yes _ _ _ (l .loop .i) (c .before .before .loop-test .taken) (sym (c .before .within .ensures) ∙ not-false _ (c .if1 .left)),
     )
 
 returns-2 : tie.Need-returns-2 Inv-loop μ-loop
-returns-2 c table = sym (c .before .loop .inv .1 table ∙ from-last _ _ _ (c .before .loop .i) (c .loop-test .left))
+returns-2 c = sym (c .before .loop .inv .1 ∙ from-last _ _ _ (c .before .loop .i) (c .loop-test .left))
 
 pub kinds-spec : {M : Type 1} → statement M
 kinds-spec =

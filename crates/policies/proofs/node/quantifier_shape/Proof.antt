@@ -15,7 +15,7 @@ is-formula-requires c κs = search needs
 
 returns : tie.Need-returns
 unfolding own
-returns c b table scope = rw (sym (c .before .is-formula .ensures) ∙ not-true _ (c .if1 .taken))
+returns c b scope = rw (sym (c .before .is-formula .ensures) ∙ not-true _ (c .if1 .taken))
 
 -- it is a formula
 formal : (c : tie.Else1) → isFormula (asRole (c .before .before .args .role)) ≡ true
@@ -29,7 +29,7 @@ within-requires c κs = search needs
 
 returns-2 : tie.Need-returns-2
 unfolding own
-returns-2 c b table scope =
+returns-2 c b scope =
     rw (formal (c .before .before), sym (c .before .within .ensures) ∙ not-true _ (c .if2 .taken))
 
 -- it has 1 to 4 variables
@@ -44,7 +44,7 @@ at-least-requires c κs = search needs
 
 returns-3 : tie.Need-returns-3
 unfolding own
-returns-3 c b table scope =
+returns-3 c b scope =
     rw (
       formal (c .before .before .before .before),
       few (c .before .before),
@@ -56,14 +56,14 @@ tuples-there-requires c κs = (c .before .before .before .before .before .before
 
 returns-4 : tie.Need-returns-4
 unfolding own
-returns-4 c b table scope =
+returns-4 c b scope =
     let e = c .before in
     rw (
       formal (e .before .before .before .before),
       few (e .before .before),
       sym (e .before .at-least .ensures) ∙ not-false _ (e .if3 .left),
     )
-    (c .tuples-there .ensures b table (asRole (e .before .before .before .before .before .before .args .role)) scope)
+    (c .tuples-there .ensures b (asRole (e .before .before .before .before .before .before .args .role)) scope)
 
 pub quantifier-shape-spec : {M : Type 1} → statement M
 quantifier-shape-spec =

@@ -65,8 +65,7 @@ scoped-requires c κs =
     let s = e .before .before in
     let a = s .args in (
       s .pre .2,
-      shaped-there (a .table .now) (a .words .now) (asTag (a .tag)) (asRole (a .role)) (a .above) (a .scope)
-          (a .at) (e .before .shape .ensures) (e .if1 .left),
+      shaped-there (a .words .now) (asTag (a .tag)) (asRole (a .role)) (a .scope) (a .at) (e .before .shape .ensures) (e .if1 .left),
     )
 
 returns-4 : tie.Need-returns-4

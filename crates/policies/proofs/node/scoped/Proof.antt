@@ -86,42 +86,42 @@ enum-told-4 c = search needs
 
 returns : tie.Need-returns
 unfolding own
-returns c table role =
-    rw (c .before .before .enum-told .given .1, ← c .before .value .ensures) (c .variables .ensures table)
+returns c role =
+    rw (c .before .before .enum-told .given .1, ← c .before .value .ensures) (c .variables .ensures)
 
 returns-2 : tie.Need-returns-2
 unfolding own
-returns-2 c table role = rw (c .before .enum-told2 .given .1) (c .variables2 .ensures table)
+returns-2 c role = rw (c .before .enum-told2 .given .1) (c .variables2 .ensures)
 
 returns-3 : tie.Need-returns-3
 unfolding own
-returns-3 c table role =
+returns-3 c role =
     let s = c .before .before .before in
     rw (c .before .enum-told3 .given .1, ← c .value2 .ensures) (fitting-same (c .value2 .result) (s .args .scope) 16 (s .pre .0))
 
 returns-4 : tie.Need-returns-4
 unfolding own
-returns-4 c table role =
+returns-4 c role =
     rw (c .enum-told4 .given .1) (ap (λ (k : ℕ). leb k 16) (sym (add-one (c .before .before .args .scope))))
 
 -- the other tags
 others :
-    (table words : Words) (tag : Tag) (role : L.Role) (scope at : ℕ) →
+    (words : Words) (tag : Tag) (role : L.Role) (scope at : ℕ) →
     OneOf (0 ∷ 3 ∷ 6 ∷ []) (tagOf the-type tag) →
-    true ≡ own table words (asTag tag) role scope at .scope
+    true ≡ own words (asTag tag) role scope at .scope
 unfolding own
-others table words (Plain b) role scope at k = refl
-others table words (Atom b) role scope at k = absurd (miss (0 ∷ 3 ∷ 6 ∷ []) 1 tt k)
-others table words (Compare b) role scope at k = absurd (miss (0 ∷ 3 ∷ 6 ∷ []) 2 tt k)
-others table words (Join b) role scope at k = refl
-others table words (Quantifier b) role scope at k = absurd (miss (0 ∷ 3 ∷ 6 ∷ []) 4 tt k)
-others table words Some role scope at k = absurd (miss (0 ∷ 3 ∷ 6 ∷ []) 5 tt k)
-others table words Unused role scope at k = refl
+others words (Plain b) role scope at k = refl
+others words (Atom b) role scope at k = absurd (miss (0 ∷ 3 ∷ 6 ∷ []) 1 tt k)
+others words (Compare b) role scope at k = absurd (miss (0 ∷ 3 ∷ 6 ∷ []) 2 tt k)
+others words (Join b) role scope at k = refl
+others words (Quantifier b) role scope at k = absurd (miss (0 ∷ 3 ∷ 6 ∷ []) 4 tt k)
+others words Some role scope at k = absurd (miss (0 ∷ 3 ∷ 6 ∷ []) 5 tt k)
+others words Unused role scope at k = refl
 
 returns-5 : tie.Need-returns-5
-returns-5 c table role =
+returns-5 c role =
     let s = c .before in
-    others table (s .args .words .now) (s .args .tag) role (s .args .scope) (s .args .at) (c .match .keys5)
+    others (s .args .words .now) (s .args .tag) role (s .args .scope) (s .args .at) (c .match .keys5)
 
 pub scoped-spec : {M : Type 1} → statement M
 scoped-spec =

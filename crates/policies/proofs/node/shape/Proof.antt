@@ -47,28 +47,28 @@ enum-told-7 c = search needs
 
 returns : tie.Need-returns
 unfolding own
-returns c table scope =
+returns c scope =
     rw (c .enum-told .given .1)
     (ap (λ (k : ℕ). leb k (length (c .before .before .args .words .now))) (sym (add-one (c .before .before .args .at))))
 
 returns-2 : tie.Need-returns-2
-returns-2 c table scope = rw (c .before .enum-told2 .given .1) (c .atom-shape .ensures _ _ table scope)
+returns-2 c scope = rw (c .before .enum-told2 .given .1) (c .atom-shape .ensures _ _ scope)
 
 returns-3 : tie.Need-returns-3
-returns-3 c table scope = rw (c .before .enum-told3 .given .1) (c .compare-shape .ensures _ _ table scope)
+returns-3 c scope = rw (c .before .enum-told3 .given .1) (c .compare-shape .ensures _ _ scope)
 
 returns-4 : tie.Need-returns-4
-returns-4 c table scope = rw (c .before .enum-told4 .given .1) (c .join-shape .ensures _ _ table scope)
+returns-4 c scope = rw (c .before .enum-told4 .given .1) (c .join-shape .ensures _ _ scope)
 
 returns-5 : tie.Need-returns-5
-returns-5 c table scope = rw (c .before .enum-told5 .given .1) (c .quantifier-shape .ensures _ table scope)
+returns-5 c scope = rw (c .before .enum-told5 .given .1) (c .quantifier-shape .ensures _ scope)
 
 returns-6 : tie.Need-returns-6
-returns-6 c table scope = rw (c .before .enum-told6 .given .1) (c .some-shape .ensures table scope)
+returns-6 c scope = rw (c .before .enum-told6 .given .1) (c .some-shape .ensures scope)
 
 returns-7 : tie.Need-returns-7
 unfolding own
-returns-7 c table scope = rw (c .enum-told7 .given .1)
+returns-7 c scope = rw (c .enum-told7 .given .1)
 
 pub shape-spec : {M : Type 1} → statement M
 shape-spec =

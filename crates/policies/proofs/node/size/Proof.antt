@@ -87,39 +87,39 @@ add-result-2 c = omega (arith, product c, c .before .before .before .before .goo
 
 returns : tie.Need-returns
 unfolding own
-returns c table role scope = rw (c .before .enum-told .given .1, c .value .ensures)
+returns c role scope = rw (c .before .enum-told .given .1, c .value .ensures)
 
 returns-2 : tie.Need-returns-2
 unfolding own
-returns-2 c table role scope = rw (c .enum-told2 .given .1)
+returns-2 c role scope = rw (c .enum-told2 .given .1)
 
 returns-3 : tie.Need-returns-3
 unfolding own
-returns-3 c table role scope = rw (c .enum-told3 .given .1)
+returns-3 c role scope = rw (c .enum-told3 .given .1)
 
 returns-4 : tie.Need-returns-4
 unfolding own
-returns-4 c table role scope =
+returns-4 c role scope =
     rw (c .before .before .enum-told4 .given .1, c .before .value2 .ensures, c .value3 .ensures)
 
 -- the other tags
 others :
-    (table words : Words) (tag : Tag) (role : L.Role) (scope at : ℕ) →
+    (words : Words) (tag : Tag) (role : L.Role) (scope at : ℕ) →
     OneOf (0 ∷ 5 ∷ 6 ∷ []) (tagOf the-type tag) →
-    1 ≡ own table words (asTag tag) role scope at .size
+    1 ≡ own words (asTag tag) role scope at .size
 unfolding own
-others table words (Plain b) role scope at k = refl
-others table words (Atom b) role scope at k = absurd (miss (0 ∷ 5 ∷ 6 ∷ []) 1 tt k)
-others table words (Compare b) role scope at k = absurd (miss (0 ∷ 5 ∷ 6 ∷ []) 2 tt k)
-others table words (Join b) role scope at k = absurd (miss (0 ∷ 5 ∷ 6 ∷ []) 3 tt k)
-others table words (Quantifier b) role scope at k = absurd (miss (0 ∷ 5 ∷ 6 ∷ []) 4 tt k)
-others table words Some role scope at k = refl
-others table words Unused role scope at k = refl
+others words (Plain b) role scope at k = refl
+others words (Atom b) role scope at k = absurd (miss (0 ∷ 5 ∷ 6 ∷ []) 1 tt k)
+others words (Compare b) role scope at k = absurd (miss (0 ∷ 5 ∷ 6 ∷ []) 2 tt k)
+others words (Join b) role scope at k = absurd (miss (0 ∷ 5 ∷ 6 ∷ []) 3 tt k)
+others words (Quantifier b) role scope at k = absurd (miss (0 ∷ 5 ∷ 6 ∷ []) 4 tt k)
+others words Some role scope at k = refl
+others words Unused role scope at k = refl
 
 returns-5 : tie.Need-returns-5
-returns-5 c table role scope =
+returns-5 c role scope =
     let s = c .before in
-    others table (s .args .words .now) (s .args .tag) role scope (s .args .at) (c .match .keys5)
+    others (s .args .words .now) (s .args .tag) role scope (s .args .at) (c .match .keys5)
 
 pub size-spec : {M : Type 1} → statement M
 size-spec =

@@ -24,11 +24,11 @@ formula-kind (operand b) e = refl
 
 returns : tie.Need-returns
 unfolding own
-returns c table scope = rw (formula-kind _ (sym (c .before .is-formula .ensures) ∙ c .if1 .taken))
+returns c scope = rw (formula-kind _ (sym (c .before .is-formula .ensures) ∙ c .if1 .taken))
 
 returns-2 : tie.Need-returns-2
 unfolding own
-returns-2 c table scope =
+returns-2 c scope =
     rw (kind-restriction _ (sym (c .before .is-formula .ensures) ∙ c .if1 .left))
     (ap (λ (k : ℕ). leb k (length (c .before .before .args .words .now))) (sym (add-one (c .before .before .args .at))))
 

@@ -34,7 +34,7 @@ few c = let range = within-value 1 4 _ (c .before .pre .1) in rw (c .value .ensu
 
 returns : tie.Need-returns
 unfolding own
-returns c b table role scope =
+returns c b role scope =
     let v = c .before .before in
     let s = v .before in
     let n = length (s .args .words .now) in
@@ -60,7 +60,7 @@ add-result c = omega (arith, fits c)
 
 returns-2 : tie.Need-returns-2
 unfolding own
-returns-2 c b table role scope =
+returns-2 c b role scope =
     let v = c .before .before in
     let s = v .before in
     rw (← v .value .ensures, ← c .before .value2 .ensures)

@@ -40,7 +40,7 @@ use Rattle.policies.proofs.node.size.Reads as size-reads
 use Rattle.policies.proofs.node.tag_at.Reads as tag-at-reads
 use Rattle.policies.proofs.node.under.Reads as under-reads
 use Rattle.policies.proofs.policy.greater.Reads as greater-reads
-use Rattle.tables.proofs.words.value.Reads as value-reads
+use Rattle.words.proofs.value.Reads as value-reads
 use Rattle.policies.proofs.policy.+children+quantified+walk.{statement}
 use Rattle.policies.proofs.policy.+children+quantified+walk.Tie.{close}
 
@@ -302,7 +302,7 @@ module _ (t : ℕ) where
   walk-size-requires c κs =
       let a = c .before .before .before .before in
       let s = a .before .args in
-      fits-there (s .table .now) (s .words .now) (asTag (a .tag-at .result)) (asRole (s .role)) (s .scope) (s .at)
+      fits-there (s .words .now) (asTag (a .tag-at .result)) (asRole (s .role)) (s .scope) (s .at)
       (asked _ _ _ _ _ _ _ (sym (walk-asked (c .before))) .fits)
 
   -- the node is entered
@@ -320,7 +320,7 @@ module _ (t : ℕ) where
         known = a .tag-at .ensures;
         yes = walk-asked (c .before .before);
         deep = ap (λ (n : ℕ). s .args .above + n) (c .before .cost .ensures);
-        first = ap (λ (n : ℕ). s .args .at + n) (c .size .ensures (s .args .table .now) (asRole (s .args .role)) (s .args .scope));
+        first = ap (λ (n : ℕ). s .args .at + n) (c .size .ensures (asRole (s .args .role)) (s .args .scope));
       }
 
   walk-add-next : walk-lts.Need-add-next walk-calls walk-at walk.Post

@@ -20,7 +20,7 @@ use Rattle.policies.specs.declared.node.Tag.the-variants.{Plain, Atom, Compare,
 use Rattle.policies.proofs.node.Tag.{the-type as tag-type}
 use Rattle.model.specs.Tag as T
 use mathlib.Core.Logic.{_⊎_, inl, inr, ⊎-elim}
-use Rattle.policies.proofs.ModeFormula.{Stood, formula-kind, level-fits, own-fits, next-in, level-in, level-down}
+use Rattle.policies.proofs.Stood.{Stood, formula-kind, level-fits, own-fits, next-in, level-in, level-down}
 use Rattle.reduction.specs.Walk.{ReducesNode}
 use Rattle.joining.proofs.Lending.{rest, rest-long, lent-long}
 use Rattle.reduction.proofs.WalkChildren.{ChildrenSoFar, children-start, children-within, children-here, children-short}
@@ -35,9 +35,9 @@ use Rattle.reduction.proofs.WalkQuantifier.{variables-few, first-within
 use Rattle.model.specs.Words.{value}
 use Rattle.model.specs.Tree.{Tree}
 use Rattle.laws.specs.Reading.Nodes.{Node}
-use Rattle.reduction.specs.Ground.{Outer}
-use Rattle.reduction.specs.Prepare as PS
-use Rattle.reduction.specs.Conclude.{Quantified}
+use Rattle.nodes.specs.Ground.{Outer}
+use Rattle.nodes.specs.Prepare as PS
+use Rattle.nodes.specs.Conclude.{Quantified}
 use Rattle.reduction.specs.Walk.{Works}
 use Rattle.reduction.proofs.WalkQuantifier.{found, bodyAt, prepared-short, prepared-stood}
 use borrow.Fn.Kinds.{In}
@@ -57,48 +57,48 @@ use Rattle.reduction.proofs.walk.+children+formula+instances+quantifier
 use Rattle.policies.proofs.node.cost.Reads as cost-reads
 use Rattle.policies.proofs.node.size.Reads as size-reads
 use Rattle.policies.proofs.node.tag_at.Reads as tag-at-reads
-use Rattle.preorder.proofs.walk.behind.Reads as behind-reads
-use Rattle.reduction.proofs.conclude.conclude.Reads as conclude-reads
-use Rattle.reduction.proofs.ground.atom.Reads as atom-reads
-use Rattle.reduction.proofs.ground.compare.Reads as compare-reads
-use Rattle.reduction.proofs.ground.instance.Reads as instance-reads
+use Rattle.trees.proofs.walk.behind.Reads as behind-reads
+use Rattle.nodes.proofs.conclude.conclude.Reads as conclude-reads
+use Rattle.nodes.proofs.ground.atom.Reads as atom-reads
+use Rattle.nodes.proofs.ground.compare.Reads as compare-reads
+use Rattle.nodes.proofs.ground.instance.Reads as instance-reads
 use Rattle.joining.proofs.join.Join.add.Reads as add-reads
 use Rattle.joining.proofs.join.Join.finish.Reads as finish-reads
 use Rattle.joining.proofs.join.Join.new.Reads as new-reads
-use Rattle.reduction.proofs.prepare.prepare.Reads as prepare-reads
-use Rattle.tables.proofs.words.value.Reads as value-reads
+use Rattle.nodes.proofs.prepare.prepare.Reads as prepare-reads
+use Rattle.words.proofs.value.Reads as value-reads
 use Rattle.reduction.proofs.walk.+children+formula+instances+quantifier.{statement}
 use Rattle.reduction.proofs.walk.+children+formula+instances+quantifier.Tie.{close}
 
-abbrev μ-children : Measures 7 children-kinds.ps ℕ
-μ-children κs a = 201 - 3 * a .1 .1 .1 .1 .1 .1 .1 .1 .1 .0
+abbrev μ-children : Measures 6 children-kinds.ps ℕ
+μ-children κs a = 201 - 3 * a .1 .1 .1 .1 .1 .1 .1 .1 .0
 
-abbrev μ-formula : Measures 7 formula-kinds.ps ℕ
-μ-formula κs a = 200 - 3 * a .1 .1 .1 .1 .1 .1 .1 .1 .1 .0
+abbrev μ-formula : Measures 6 formula-kinds.ps ℕ
+μ-formula κs a = 200 - 3 * a .1 .1 .1 .1 .1 .1 .1 .1 .0
 
-abbrev μ-instances : Measures 7 instances-kinds.ps ℕ
-μ-instances κs a = 201 - 3 * a .1 .1 .1 .1 .1 .1 .1 .1 .1 .0
+abbrev μ-instances : Measures 6 instances-kinds.ps ℕ
+μ-instances κs a = 201 - 3 * a .1 .1 .1 .1 .1 .1 .1 .1 .0
 
-abbrev μ-quantifier : Measures 7 quantifier-kinds.ps ℕ
-μ-quantifier κs a = 202 - 3 * a .1 .1 .1 .1 .1 .1 .1 .1 .1 .0
+abbrev μ-quantifier : Measures 6 quantifier-kinds.ps ℕ
+μ-quantifier κs a = 202 - 3 * a .1 .1 .1 .1 .1 .1 .1 .1 .0
 
 abbrev children-Inv-loop : children-lts.InvT-loop
-children-Inv-loop table words log atoms trues scratch₀ out₀ environment kind above scope n at join₀ next₀ i₀ scratch out join next i =
+children-Inv-loop table words log links scratch₀ out₀ environment kind above scope n at join₀ next₀ i₀ scratch out join next i =
     (i ≤ n) × (length scratch ≡ length scratch₀) × (length out ≡ length out₀)
     × ChildrenSoFar table words log kind above scope environment (length scratch₀ / 17) n at i next join out
 
 abbrev children-μ-loop : children-lts.MeasureT-loop
-children-μ-loop table words log atoms trues scratch₀ out₀ environment kind above scope n at join₀ next₀ i₀ scratch out join next i = n - i
+children-μ-loop table words log links scratch₀ out₀ environment kind above scope n at join₀ next₀ i₀ scratch out join next i = n - i
 
 abbrev instances-Inv-loop : instances-lts.InvT-loop
-instances-Inv-loop table words log atoms trues scratch₀ out₀ environment kind level scope v body from k used join₀ next₀ i₀ scratch out join next i =
+instances-Inv-loop table words log links scratch₀ out₀ environment kind level scope v from k used body join₀ next₀ i₀ scratch out join next i =
     (i ≤ k)
     × ScratchKept table words log kind level scope v body from k used environment scratch₀ scratch
     × (length out ≡ length out₀)
     × InstancesSoFar table words log kind level scope v body from k used environment scratch₀ i next join out
 
 abbrev instances-μ-loop : instances-lts.MeasureT-loop
-instances-μ-loop table words log atoms trues scratch₀ out₀ environment kind level scope v body from k used join₀ next₀ i₀ scratch out join next i = k - i
+instances-μ-loop table words log links scratch₀ out₀ environment kind level scope v from k used body join₀ next₀ i₀ scratch out join next i = k - i
 
 -- an operand is a formula
 operand-kind : (b : Bool) → isFormula (L.Role.operand b) ≡ true
@@ -117,29 +117,29 @@ other-tag Unused k = inr refl
 
 -- at the measure t: what each member is given, and what a call of it asks below t
 module _ (t : ℕ) where
-  abbrev children-at : In 7 children-kinds.ps
-  children-at = and 7 children-kinds.ps (is 7 children-kinds.ps μ-children t) children.Pre
+  abbrev children-at : In 6 children-kinds.ps
+  children-at = and 6 children-kinds.ps (is 6 children-kinds.ps μ-children t) children.Pre
 
-  abbrev children-below : In 7 children-kinds.ps
-  children-below = and 7 children-kinds.ps (falls 7 children-kinds.ps _<_ μ-children t) children.Pre
+  abbrev children-below : In 6 children-kinds.ps
+  children-below = and 6 children-kinds.ps (falls 6 children-kinds.ps _<_ μ-children t) children.Pre
 
-  abbrev formula-at : In 7 formula-kinds.ps
-  formula-at = and 7 formula-kinds.ps (is 7 formula-kinds.ps μ-formula t) formula.Pre
+  abbrev formula-at : In 6 formula-kinds.ps
+  formula-at = and 6 formula-kinds.ps (is 6 formula-kinds.ps μ-formula t) formula.Pre
 
-  abbrev formula-below : In 7 formula-kinds.ps
-  formula-below = and 7 formula-kinds.ps (falls 7 formula-kinds.ps _<_ μ-formula t) formula.Pre
+  abbrev formula-below : In 6 formula-kinds.ps
+  formula-below = and 6 formula-kinds.ps (falls 6 formula-kinds.ps _<_ μ-formula t) formula.Pre
 
-  abbrev instances-at : In 7 instances-kinds.ps
-  instances-at = and 7 instances-kinds.ps (is 7 instances-kinds.ps μ-instances t) instances.Pre
+  abbrev instances-at : In 6 instances-kinds.ps
+  instances-at = and 6 instances-kinds.ps (is 6 instances-kinds.ps μ-instances t) instances.Pre
 
-  abbrev instances-below : In 7 instances-kinds.ps
-  instances-below = and 7 instances-kinds.ps (falls 7 instances-kinds.ps _<_ μ-instances t) instances.Pre
+  abbrev instances-below : In 6 instances-kinds.ps
+  instances-below = and 6 instances-kinds.ps (falls 6 instances-kinds.ps _<_ μ-instances t) instances.Pre
 
-  abbrev quantifier-at : In 7 quantifier-kinds.ps
-  quantifier-at = and 7 quantifier-kinds.ps (is 7 quantifier-kinds.ps μ-quantifier t) quantifier.Pre
+  abbrev quantifier-at : In 6 quantifier-kinds.ps
+  quantifier-at = and 6 quantifier-kinds.ps (is 6 quantifier-kinds.ps μ-quantifier t) quantifier.Pre
 
-  abbrev quantifier-below : In 7 quantifier-kinds.ps
-  quantifier-below = and 7 quantifier-kinds.ps (falls 7 quantifier-kinds.ps _<_ μ-quantifier t) quantifier.Pre
+  abbrev quantifier-below : In 6 quantifier-kinds.ps
+  quantifier-below = and 6 quantifier-kinds.ps (falls 6 quantifier-kinds.ps _<_ μ-quantifier t) quantifier.Pre
 
   -- what the callees of each ask and give
   abbrev children-calls : children-lts.Claims
@@ -205,7 +205,7 @@ module _ (t : ℕ) where
 
   children-loop-holds : children-lts.Need-loop-holds children-calls children-at children.Post children-Inv-loop children-μ-loop
   children-loop-holds c =
-      let a = c .before .before .before .args in (
+      let a = c .before .before .args in (
         omega arith,
         refl,
         refl,
@@ -217,7 +217,7 @@ module _ (t : ℕ) where
   children-mul-formula c =
       let at-loop = c .before .before in
       let loop = at-loop .loop in
-      let start = at-loop .before .before .before .before in
+      let start = at-loop .before .before .before in
       let a = start .args in
       omega (
         arith,
@@ -232,7 +232,7 @@ module _ (t : ℕ) where
   children-sub-formula c =
       let at-loop = c .before .before in
       let loop = at-loop .loop in
-      let start = at-loop .before .before .before .before in
+      let start = at-loop .before .before .before in
       let a = start .args in
       omega (
         arith,
@@ -245,7 +245,7 @@ module _ (t : ℕ) where
   children-part-formula-start c =
       let at-loop = c .before .before in
       let loop = at-loop .loop in
-      let start = at-loop .before .before .before .before in
+      let start = at-loop .before .before .before in
       let a = start .args in
       children-within (a .table .now) (a .words .now) (a .log .now) (a .kind) (a .above) (a .scope) (a .environment)
       (length (a .scratch .now) / 17) (a .n) (a .at) (loop .i) (loop .next) (loop .join) (loop .out) (loop .inv .3)
@@ -259,7 +259,7 @@ module _ (t : ℕ) where
       let at-loop-test = c .before .before in
       let at-loop = at-loop-test .before in
       let loop = at-loop .loop in
-      let start = at-loop .before .before .before .before in
+      let start = at-loop .before .before .before in
       let a = start .args in (
         omega (arith, start .pre .0, start .pre .1 .1),
         (
@@ -280,18 +280,18 @@ module _ (t : ℕ) where
       (c : children-lts.After-formula children-calls children-at children.Post children-Inv-loop children-μ-loop) →
       let at-loop = c .before .before .before .before in
       let loop = at-loop .loop in
-      let a = at-loop .before .before .before .before .args in
+      let a = at-loop .before .before .before .args in
       ReducesNode (a .table .now) (a .words .now) (a .log .now) (L.Role.operand (a .kind)) (a .above) (a .scope)
       (loop .next) (a .environment) (length (a .scratch .now) / 17) (rest (loop .out) (loop .join .words))
-      (c .formula .last .1 .1 .1 .1 .1 .1 .0) (c .formula .result)
+      (c .formula .last .1 .1 .1 .1 .1 .0) (c .formula .result)
   child c =
       let at-loop = c .before .before .before .before in
       let loop = at-loop .loop in
-      let a = at-loop .before .before .before .before .args in
+      let a = at-loop .before .before .before .args in
       subst
       (λ (n : ℕ). ReducesNode (a .table .now) (a .words .now) (a .log .now) (L.Role.operand (a .kind)) (a .above)
       (a .scope) (loop .next) (a .environment) (n / 17) (rest (loop .out) (loop .join .words))
-      (c .formula .last .1 .1 .1 .1 .1 .1 .0) (c .formula .result)) (loop .inv .1) (c .formula .ensures)
+      (c .formula .last .1 .1 .1 .1 .1 .0) (c .formula .result)) (loop .inv .1) (c .formula .ensures)
 
   children-enum-told : children-lts.Need-enum-told children-calls children-at children.Post children-Inv-loop children-μ-loop
   children-enum-told c = search needs
@@ -300,7 +300,7 @@ module _ (t : ℕ) where
   children-same-length c =
       let at-formula = c .before .before .before .before in
       let at-loop = at-formula .before .before .before .before in
-      at-formula .formula .kept .1 .1 .1 .1 .1 .0 ∙ at-loop .loop .inv .1
+      at-formula .formula .kept .1 .1 .1 .1 .0 ∙ at-loop .loop .inv .1
 
   children-same-length-2 : children-lts.Need-same-length-2 children-calls children-at children.Post children-Inv-loop children-μ-loop
   children-same-length-2 c =
@@ -308,12 +308,12 @@ module _ (t : ℕ) where
       let formula = at-formula .formula in
       let at-loop = at-formula .before .before .before .before in
       let loop = at-loop .loop in
-      let start = at-loop .before .before .before .before in
+      let start = at-loop .before .before .before in
       let a = start .args in
-      lent-long (loop .out) (loop .join .words) (formula .last .1 .1 .1 .1 .1 .1 .0)
+      lent-long (loop .out) (loop .join .words) (formula .last .1 .1 .1 .1 .1 .0)
       (children-within (a .table .now) (a .words .now) (a .log .now) (a .kind) (a .above) (a .scope) (a .environment)
       (length (a .scratch .now) / 17) (a .n) (a .at) (loop .i) (loop .next) (loop .join) (loop .out) (loop .inv .3)
-      (start .pre .1 .4) (start .pre .1 .5)) (formula .kept .1 .1 .1 .1 .1 .1 .0) ∙ (loop .inv .2)
+      (start .pre .1 .4) (start .pre .1 .5)) (formula .kept .1 .1 .1 .1 .1 .0) ∙ (loop .inv .2)
 
   children-returns : children-lts.Need-returns children-calls children-at children.Post children-Inv-loop children-μ-loop
   children-returns c =
@@ -322,16 +322,16 @@ module _ (t : ℕ) where
       let at-loop-test = at-formula .before .before .before in
       let at-loop = at-loop-test .before in
       let loop = at-loop .loop in
-      let start = at-loop .before .before .before .before in
+      let start = at-loop .before .before .before in
       let a = start .args in
       children-short (a .table .now) (a .words .now) (a .log .now) (a .kind) (a .above) (a .scope) (a .environment)
       (length (a .scratch .now) / 17) (a .n) (a .at) (loop .i) (loop .next) (loop .join) (loop .out) (loop .inv .3)
-      (at-loop-test .loop-test .taken) (formula .last .1 .1 .1 .1 .1 .1 .0) (formula .result) (child at-formula)
+      (at-loop-test .loop-test .taken) (formula .last .1 .1 .1 .1 .1 .0) (formula .result) (child at-formula)
       (c .enum-told .given .1)
-      (lent-long (loop .out) (loop .join .words) (formula .last .1 .1 .1 .1 .1 .1 .0)
+      (lent-long (loop .out) (loop .join .words) (formula .last .1 .1 .1 .1 .1 .0)
       (children-within (a .table .now) (a .words .now) (a .log .now) (a .kind) (a .above) (a .scope) (a .environment)
       (length (a .scratch .now) / 17) (a .n) (a .at) (loop .i) (loop .next) (loop .join) (loop .out) (loop .inv .3)
-      (start .pre .1 .4) (start .pre .1 .5)) (formula .kept .1 .1 .1 .1 .1 .1 .0) ∙ (loop .inv .2)) _
+      (start .pre .1 .4) (start .pre .1 .5)) (formula .kept .1 .1 .1 .1 .1 .0) ∙ (loop .inv .2)) _
       (c .enum-told .given .1)
 
   children-add-requires : children-lts.Need-add-requires children-calls children-at children.Post children-Inv-loop children-μ-loop
@@ -341,27 +341,27 @@ module _ (t : ℕ) where
       let at-loop-test = at-formula .before .before .before in
       let at-loop = at-loop-test .before in
       let loop = at-loop .loop in
-      let start = at-loop .before .before .before .before in
+      let start = at-loop .before .before .before in
       let a = start .args in (
         omega (
           arith,
-          lent-long (loop .out) (loop .join .words) (formula .last .1 .1 .1 .1 .1 .1 .0)
+          lent-long (loop .out) (loop .join .words) (formula .last .1 .1 .1 .1 .1 .0)
               (children-within (a .table .now) (a .words .now) (a .log .now) (a .kind) (a .above) (a .scope) (a .environment)
               (length (a .scratch .now) / 17) (a .n) (a .at) (loop .i) (loop .next) (loop .join) (loop .out) (loop .inv .3)
-              (start .pre .1 .4) (start .pre .1 .5)) (formula .kept .1 .1 .1 .1 .1 .1 .0),
+              (start .pre .1 .4) (start .pre .1 .5)) (formula .kept .1 .1 .1 .1 .1 .0),
           (loop .inv .2),
           start .pre .1 .3,
         ),
         children-adding (a .table .now) (a .words .now) (a .log .now) (a .kind) (a .above) (a .scope) (a .environment)
             (length (a .scratch .now) / 17) (a .n) (a .at) (loop .i) (loop .next) (loop .join) (loop .out) (loop .inv .3)
-            (at-loop-test .loop-test .taken) (formula .last .1 .1 .1 .1 .1 .1 .0) (formula .result) (child at-formula)
+            (at-loop-test .loop-test .taken) (formula .last .1 .1 .1 .1 .1 .0) (formula .result) (child at-formula)
             (start .pre .1 .4) (start .pre .1 .5),
       )
 
   children-add-i : children-lts.Need-add-i children-calls children-at children.Post children-Inv-loop children-μ-loop
   children-add-i c =
       let at-loop-test = c .before .before .before .before .before .before .before .before .before in
-      let at-fits = at-loop-test .before .before .before .before .before in
+      let at-fits = at-loop-test .before .before .before .before in
       omega (arith, at-loop-test .loop-test .taken, at-fits .fits .n)
 
   children-loop-less : children-lts.Need-loop-less children-calls children-at children.Post children-Inv-loop children-μ-loop
@@ -378,19 +378,19 @@ module _ (t : ℕ) where
       let loop-test = at-loop-test .loop-test in
       let at-loop = at-loop-test .before in
       let loop = at-loop .loop in
-      let start = at-loop .before .before .before .before in
+      let start = at-loop .before .before .before in
       let a = start .args in (
         omega (arith, loop-test .taken),
-        formula .kept .1 .1 .1 .1 .1 .0 ∙ loop .inv .1,
+        formula .kept .1 .1 .1 .1 .0 ∙ loop .inv .1,
         add .kept .1 .0 ∙ lent-long
-            (loop .out) (loop .join .words) (formula .last .1 .1 .1 .1 .1 .1 .0)
+            (loop .out) (loop .join .words) (formula .last .1 .1 .1 .1 .1 .0)
             (children-within (a .table .now) (a .words .now) (a .log .now) (a .kind) (a .above) (a .scope) (a .environment)
             (length (a .scratch .now) / 17) (a .n) (a .at) (loop .i) (loop .next) (loop .join) (loop .out) (loop .inv .3)
-            (start .pre .1 .4) (start .pre .1 .5)) (formula .kept .1 .1 .1 .1 .1 .1 .0) ∙ (loop .inv .2),
+            (start .pre .1 .4) (start .pre .1 .5)) (formula .kept .1 .1 .1 .1 .1 .0) ∙ (loop .inv .2),
         children-next
             (a .table .now) (a .words .now) (a .log .now) (a .kind) (a .above) (a .scope) (a .environment)
             (length (a .scratch .now) / 17) (a .n) (a .at) (loop .i) (loop .next) (loop .join) (loop .out) (loop .inv .3)
-            (loop-test .taken) (formula .last .1 .1 .1 .1 .1 .1 .0) (formula .result) (child at-formula)
+            (loop-test .taken) (formula .last .1 .1 .1 .1 .1 .0) (formula .result) (child at-formula)
             (not-short _ (at-match .match .keys2)) _ _ (add .ensures),
       )
 
@@ -398,7 +398,7 @@ module _ (t : ℕ) where
   children-finish-requires c κs =
       let at-loop = c .before .before in
       let loop = at-loop .loop in
-      let start = at-loop .before .before .before .before in
+      let start = at-loop .before .before .before in
       let a = start .args in (
         omega (arith, (loop .inv .2), start .pre .1 .3),
         children-state (a .table .now) (a .words .now) (a .log .now)
@@ -418,7 +418,7 @@ module _ (t : ℕ) where
       let at-loop-test = c .before .before .before in
       let at-loop = at-loop-test .before in
       let loop = at-loop .loop in
-      let a = at-loop .before .before .before .before .args in
+      let a = at-loop .before .before .before .args in
       children-end (a .table .now) (a .words .now) (a .log .now) (a .kind) (a .above) (a .scope) (a .environment)
       (length (a .scratch .now) / 17) (a .n) (a .at) (loop .i) (loop .next) (loop .join) (loop .out) (loop .inv .3)
       (at-loop-test .loop-test .left) (loop .inv .2) _ _ (c .before .finish .ensures)
@@ -433,7 +433,7 @@ module _ (t : ℕ) where
   formula-add-level c =
       let at-tag-at = c .before in
       let tag-at = at-tag-at .tag-at in
-      let at-pre = at-tag-at .before .before .before in
+      let at-pre = at-tag-at .before .before in
       omega
       (arith, level-fits _ _ _ _ _ _ (at-pre .pre .1 .5) (asTag (tag-at .result)) (tag-at .ensures), c .cost .ensures)
 
@@ -441,7 +441,7 @@ module _ (t : ℕ) where
   formula-size-requires c κs =
       let at-tag-at = c .before in
       let tag-at = at-tag-at .tag-at in
-      let start = at-tag-at .before .before .before in
+      let start = at-tag-at .before .before in
       let a = start .args in
       own-fits (a .table .now) (a .words .now) (asRole (a .role)) (a .above) (a .scope) (a .at) (start .pre .1 .5)
       (asTag (tag-at .result)) (tag-at .ensures)
@@ -449,12 +449,12 @@ module _ (t : ℕ) where
   formula-stood :
       (c : formula-lts.After-size formula-calls formula-at formula.Post) →
       let at-tag-at = c .before .before in
-      let a = at-tag-at .before .before .before .args in
+      let a = at-tag-at .before .before .args in
       Stood (a .table .now) (a .words .now) (asRole (a .role)) (a .above) (a .scope) (a .at)
       (asTag (at-tag-at .tag-at .result)) (a .above + c .before .cost .result) (a .at + c .size .result)
   formula-stood c =
       let at-tag-at = c .before .before in
-      let start = at-tag-at .before .before .before in
+      let start = at-tag-at .before .before in
       let a = start .args in
       record {
         kind = start .pre .1 .4;
@@ -463,11 +463,11 @@ module _ (t : ℕ) where
         deep = ap
             (λ (n : ℕ). a .above + n) (c .before .cost .ensures);
         first = ap (λ (n : ℕ). a .at + n)
-            (c .size .ensures (a .table .now) (asRole (a .role)) (a .scope));
+            (c .size .ensures (asRole (a .role)) (a .scope));
       }
 
   formula-add-next : formula-lts.Need-add-next formula-calls formula-at formula.Post
-  formula-add-next c = omega (arith, next-in (formula-stood (c)), c .before .before .before .before .before .good .1 .0)
+  formula-add-next c = omega (arith, next-in (formula-stood (c)), c .before .before .before .before .good .1 .0)
 
   formula-enum-known-tag : formula-lts.Need-enum-known-tag formula-calls formula-at formula.Post
   formula-enum-known-tag c = search needs
@@ -479,9 +479,9 @@ module _ (t : ℕ) where
   formula-atom-requires c κs =
       let at-tag2 = c .before .before in
       let then = at-tag2 .before .before in
-      let start = then .before .before .before .before .before in
+      let start = then .before .before .before .before in
       let a = start .args in (
-        start .pre .1 .0 .looks,
+        start .pre .1 .0,
         start .pre .1 .2,
         atom-here (a .table .now) (a .words .now) (a .log .now)
             (formula-stood then) (a .environment) (length (a .scratch .now) / 17) (ap asTag (at-tag2 .tag2 .given .1)),
@@ -493,7 +493,7 @@ module _ (t : ℕ) where
   formula-compare-requires : formula-lts.Need-compare-requires formula-calls formula-at formula.Post
   formula-compare-requires c κs =
       let then = c .before .before .before in
-      let start = then .before .before .before .before .before in
+      let start = then .before .before .before .before in
       let a = start .args in
       compare-here (a .table .now) (a .words .now) (a .log .now) (formula-stood then) (a .environment)
       (length (a .scratch .now) / 17) (start .pre .1 .2) (ap asTag (c .before .tag3 .given .1))
@@ -504,7 +504,7 @@ module _ (t : ℕ) where
   formula-add-value : formula-lts.Need-add-value formula-calls formula-at formula.Post
   formula-add-value c =
       let then = c .before .before .before in
-      let at-good = then .before .before .before .before .before in
+      let at-good = then .before .before .before .before in
       omega (arith, next-in (formula-stood then), at-good .good .1 .0)
 
   formula-value-requires : formula-lts.Need-value-requires formula-calls formula-at formula.Post
@@ -515,7 +515,7 @@ module _ (t : ℕ) where
       let at-value = c .before .before in
       let at-tag4 = at-value .before .before in
       let then = at-tag4 .before .before in
-      let start = then .before .before .before .before .before in
+      let start = then .before .before .before .before in
       let a = start .args in (
         omega (arith, level-down (formula-stood then), level-in (formula-stood then), start .pre .0),
         (
@@ -537,7 +537,7 @@ module _ (t : ℕ) where
   formula-quantifier-requires c κs =
       let at-tag5 = c .before .before .before in
       let then = at-tag5 .before .before in
-      let start = then .before .before .before .before .before in
+      let start = then .before .before .before .before in
       let a = start .args in (
         omega (arith, level-down (formula-stood then), level-in (formula-stood then), start .pre .0),
         (
@@ -555,7 +555,7 @@ module _ (t : ℕ) where
   formula-returns : formula-lts.Need-returns formula-calls formula-at formula.Post
   formula-returns c =
       let then = c .before .before .before in
-      let a = then .before .before .before .before .before .args in
+      let a = then .before .before .before .before .args in
       node-plain (a .table .now) (a .words .now) (a .log .now) (formula-stood then) (a .environment)
       (length (a .scratch .now) / 17) (ap asTag (c .before .tag .given .1)) (a .out .now)
 
@@ -566,7 +566,7 @@ module _ (t : ℕ) where
   formula-returns-2 c =
       let at-tag2 = c .before .before .before .before in
       let then = at-tag2 .before .before in
-      let a = then .before .before .before .before .before .args in
+      let a = then .before .before .before .before .args in
       node-atom (a .table .now) (a .words .now) (a .log .now) (formula-stood then) (a .environment)
       (length (a .scratch .now) / 17) (ap asTag (at-tag2 .tag2 .given .1)) (a .out .now) _ _ (c .before .atom .ensures)
 
@@ -574,15 +574,15 @@ module _ (t : ℕ) where
   formula-returns-3 c =
       let at-tag3 = c .before .before in
       let then = at-tag3 .before .before in
-      let a = then .before .before .before .before .before .args in
+      let a = then .before .before .before .before .args in
       node-compare (a .table .now) (a .words .now) (a .log .now) (formula-stood then) (a .environment)
       (length (a .scratch .now) / 17) (ap asTag (at-tag3 .tag3 .given .1)) (a .out .now) _ (c .compare .ensures)
 
   formula-same-length-2 : formula-lts.Need-same-length-2 formula-calls formula-at formula.Post
-  formula-same-length-2 c = c .before .before .children .kept .1 .1 .1 .1 .1 .0
+  formula-same-length-2 c = c .before .before .children .kept .1 .1 .1 .1 .0
 
   formula-same-length-3 : formula-lts.Need-same-length-3 formula-calls formula-at formula.Post
-  formula-same-length-3 c = c .before .before .children .kept .1 .1 .1 .1 .1 .1 .0
+  formula-same-length-3 c = c .before .before .children .kept .1 .1 .1 .1 .1 .0
 
   formula-returns-4 : formula-lts.Need-returns-4 formula-calls formula-at formula.Post
   formula-returns-4 c =
@@ -590,23 +590,23 @@ module _ (t : ℕ) where
       let at-value = at-children .before .before .before in
       let at-tag4 = at-value .before .before in
       let then = at-tag4 .before .before in
-      let a = then .before .before .before .before .before .args in
+      let a = then .before .before .before .before .args in
       node-join (a .table .now) (a .words .now) (a .log .now) (formula-stood then) (a .environment)
       (length (a .scratch .now) / 17) (ap asTag (at-tag4 .tag4 .given .1)) (at-value .value .ensures)
       (at-children .children .ensures)
 
   formula-same-length-4 : formula-lts.Need-same-length-4 formula-calls formula-at formula.Post
-  formula-same-length-4 c = c .before .before .quantifier .kept .1 .1 .1 .1 .1 .0
+  formula-same-length-4 c = c .before .before .quantifier .kept .1 .1 .1 .1 .0
 
   formula-same-length-5 : formula-lts.Need-same-length-5 formula-calls formula-at formula.Post
-  formula-same-length-5 c = c .before .before .quantifier .kept .1 .1 .1 .1 .1 .1 .0
+  formula-same-length-5 c = c .before .before .quantifier .kept .1 .1 .1 .1 .1 .0
 
   formula-returns-5 : formula-lts.Need-returns-5 formula-calls formula-at formula.Post
   formula-returns-5 c =
       let at-quantifier = c .before .before in
       let at-tag5 = at-quantifier .before .before .before .before in
       let then = at-tag5 .before .before in
-      let a = then .before .before .before .before .before .args in
+      let a = then .before .before .before .before .args in
       node-quantifier (a .table .now) (a .words .now) (a .log .now) (formula-stood then) (a .environment)
       (length (a .scratch .now) / 17) (ap asTag (at-tag5 .tag5 .given .1)) (at-quantifier .quantifier .ensures)
 
@@ -614,7 +614,7 @@ module _ (t : ℕ) where
   formula-returns-6 c =
       let then = c .before in
       let at-tag-at = then .before .before in
-      let a = at-tag-at .before .before .before .args in
+      let a = at-tag-at .before .before .args in
       ⊎-elim
       (λ e. node-some (a .table .now) (a .words .now) (a .log .now) (formula-stood then) (a .environment)
       (length (a .scratch .now) / 17) e)
@@ -626,60 +626,60 @@ module _ (t : ℕ) where
 
   instances-loop-holds : instances-lts.Need-loop-holds instances-calls instances-at instances.Post instances-Inv-loop instances-μ-loop
   instances-loop-holds c =
-      let a = c .before .before .before .args in (
+      let a = c .before .before .args in (
         omega arith,
         kept-start (a .table .now) (a .words .now) (a .log .now) (a .kind) (a .level) (a .scope) (a .v)
-            (a .body) (a .from) (a .k) (a .used) (a .environment) (a .scratch .now),
+            (a .placed .body) (a .placed .from) (a .placed .count) (a .placed .used) (a .environment) (a .scratch .now),
         refl,
         instances-start (a .table .now)
-            (a .words .now) (a .log .now) (a .kind) (a .level) (a .scope) (a .v) (a .body) (a .from) (a .k) (a .used)
-            (a .environment) (a .scratch .now) (a .body) (c .new .result) (a .out .now) (c .new .ensures),
+            (a .words .now) (a .log .now) (a .kind) (a .level) (a .scope) (a .v) (a .placed .body) (a .placed .from) (a .placed .count) (a .placed .used)
+            (a .environment) (a .scratch .now) (a .placed .body) (c .new .result) (a .out .now) (c .new .ensures),
       )
 
   instances-add-instance : instances-lts.Need-add-instance instances-calls instances-at instances.Post instances-Inv-loop instances-μ-loop
   instances-add-instance c =
-      let at-fits = c .before .before .before .before .before .before in
-      omega (arith, c .before .loop-test .taken, at-fits .pre .1 .5, at-fits .fits .used)
+      let at-good = c .before .before .before .before .before in
+      omega (arith, c .before .loop-test .taken, at-good .pre .1 .5, at-good .pre .1 .6, at-good .good .1 .1 .1 .1 .1 .0)
 
   instances-instance-requires : instances-lts.Need-instance-requires instances-calls instances-at instances.Post instances-Inv-loop instances-μ-loop
   instances-instance-requires c κs =
       let at-loop = c .before .before in
       let loop = at-loop .loop in
-      let start = at-loop .before .before .before .before in
+      let start = at-loop .before .before .before in
       let a = start .args in (
         start .pre .1 .2,
         instance-place (a .table .now) (a .words .now) (a .log .now) (a .kind) (a .level) (a .scope)
-            (a .v) (a .body) (a .from) (a .k) (a .used) (a .environment) (a .scratch .now) (loop .scratch) (loop .inv .1)
+            (a .v) (a .placed .body) (a .placed .from) (a .placed .count) (a .placed .used) (a .environment) (a .scratch .now) (loop .scratch) (loop .inv .1)
             (start .pre .1 .6) (loop .i) (c .before .loop-test .taken) (start .pre .1 .5) (start .pre .1 .2),
       )
 
   instances-mul-room : instances-lts.Need-mul-room instances-calls instances-at instances.Post instances-Inv-loop instances-μ-loop
   instances-mul-room c =
-      let at-good = c .before .before .before .before .before .before .before in
+      let at-good = c .before .before .before .before .before .before in
       omega (arith, at-good .pre .1 .6, at-good .good .1 .1 .1 .1 .1 .0)
 
   instances-mul-formula : instances-lts.Need-mul-formula instances-calls instances-at instances.Post instances-Inv-loop instances-μ-loop
   instances-mul-formula c =
-      let at-good = c .before .before .before .before .before .before .before in
+      let at-good = c .before .before .before .before .before .before in
       omega (arith, at-good .pre .1 .6, at-good .good .1 .1 .1 .1 .1 .0)
 
   instances-sub-formula : instances-lts.Need-sub-formula instances-calls instances-at instances.Post instances-Inv-loop instances-μ-loop
   instances-sub-formula c =
       let at-loop = c .before .before .before in
       let loop = at-loop .loop in
-      let start = at-loop .before .before .before .before in
+      let start = at-loop .before .before .before in
       let a = start .args in
-      kept-within (a .table .now) (a .words .now) (a .log .now) (a .kind) (a .level) (a .scope) (a .v) (a .body)
-      (a .from) (a .k) (a .used) (a .environment) (a .scratch .now) (loop .scratch) (loop .inv .1) (start .pre .1 .6)
+      kept-within (a .table .now) (a .words .now) (a .log .now) (a .kind) (a .level) (a .scope) (a .v) (a .placed .body)
+      (a .placed .from) (a .placed .count) (a .placed .used) (a .environment) (a .scratch .now) (loop .scratch) (loop .inv .1) (start .pre .1 .6)
 
   instances-part-formula-start : instances-lts.Need-part-formula-start instances-calls instances-at instances.Post instances-Inv-loop instances-μ-loop
   instances-part-formula-start c =
       let at-loop = c .before .before .before in
       let loop = at-loop .loop in
-      let start = at-loop .before .before .before .before in
+      let start = at-loop .before .before .before in
       let a = start .args in
-      kept-within (a .table .now) (a .words .now) (a .log .now) (a .kind) (a .level) (a .scope) (a .v) (a .body)
-      (a .from) (a .k) (a .used) (a .environment) (a .scratch .now) (loop .scratch) (loop .inv .1) (start .pre .1 .6)
+      kept-within (a .table .now) (a .words .now) (a .log .now) (a .kind) (a .level) (a .scope) (a .v) (a .placed .body)
+      (a .placed .from) (a .placed .count) (a .placed .used) (a .environment) (a .scratch .now) (loop .scratch) (loop .inv .1) (start .pre .1 .6)
 
   instances-part-formula-end : instances-lts.Need-part-formula-end instances-calls instances-at instances.Post instances-Inv-loop instances-μ-loop
   instances-part-formula-end c = omega arith
@@ -688,12 +688,12 @@ module _ (t : ℕ) where
   instances-mul-formula-2 c =
       let at-loop = c .before .before .before .before in
       let loop = at-loop .loop in
-      let start = at-loop .before .before .before .before in
+      let start = at-loop .before .before .before in
       let a = start .args in
       omega (
         arith,
         instances-within (a .table .now) (a .words .now) (a .log .now) (a .kind) (a .level) (a .scope) (a .v)
-            (a .body) (a .from) (a .k) (a .used) (a .environment) (a .scratch .now) (loop .i) (loop .next) (loop .join)
+            (a .placed .body) (a .placed .from) (a .placed .count) (a .placed .used) (a .environment) (a .scratch .now) (loop .i) (loop .next) (loop .join)
             (loop .out) (loop .inv .3) (start .pre .1 .4) (start .pre .1 .7) (start .pre .1 .8),
         loop .inv .2,
         start .pre .1 .3,
@@ -703,27 +703,27 @@ module _ (t : ℕ) where
   instances-sub-formula-2 c =
       let at-loop = c .before .before .before .before in
       let loop = at-loop .loop in
-      let start = at-loop .before .before .before .before in
+      let start = at-loop .before .before .before in
       let a = start .args in
-      instances-within (a .table .now) (a .words .now) (a .log .now) (a .kind) (a .level) (a .scope) (a .v) (a .body)
-      (a .from) (a .k) (a .used) (a .environment) (a .scratch .now) (loop .i) (loop .next) (loop .join) (loop .out)
+      instances-within (a .table .now) (a .words .now) (a .log .now) (a .kind) (a .level) (a .scope) (a .v) (a .placed .body)
+      (a .placed .from) (a .placed .count) (a .placed .used) (a .environment) (a .scratch .now) (loop .i) (loop .next) (loop .join) (loop .out)
       (loop .inv .3) (start .pre .1 .4) (start .pre .1 .7) (start .pre .1 .8)
 
   instances-part-formula-start-2 : instances-lts.Need-part-formula-start-2 instances-calls instances-at instances.Post instances-Inv-loop instances-μ-loop
   instances-part-formula-start-2 c =
       let at-loop = c .before .before .before .before in
       let loop = at-loop .loop in
-      let start = at-loop .before .before .before .before in
+      let start = at-loop .before .before .before in
       let a = start .args in
-      instances-within (a .table .now) (a .words .now) (a .log .now) (a .kind) (a .level) (a .scope) (a .v) (a .body)
-      (a .from) (a .k) (a .used) (a .environment) (a .scratch .now) (loop .i) (loop .next) (loop .join) (loop .out)
+      instances-within (a .table .now) (a .words .now) (a .log .now) (a .kind) (a .level) (a .scope) (a .v) (a .placed .body)
+      (a .placed .from) (a .placed .count) (a .placed .used) (a .environment) (a .scratch .now) (loop .i) (loop .next) (loop .join) (loop .out)
       (loop .inv .3) (start .pre .1 .4) (start .pre .1 .7) (start .pre .1 .8)
 
   instances-part-formula-end-2 : instances-lts.Need-part-formula-end-2 instances-calls instances-at instances.Post instances-Inv-loop instances-μ-loop
   instances-part-formula-end-2 c = omega arith
 
   instances-add-formula : instances-lts.Need-add-formula instances-calls instances-at instances.Post instances-Inv-loop instances-μ-loop
-  instances-add-formula c = omega (arith, c .before .before .before .before .before .before .before .before .before .pre .1 .2)
+  instances-add-formula c = omega (arith, c .before .before .before .before .before .before .before .before .pre .1 .2)
 
   instances-formula-requires : instances-lts.Need-formula-requires instances-calls instances-at instances.Post instances-Inv-loop instances-μ-loop
   instances-formula-requires c κs =
@@ -732,7 +732,7 @@ module _ (t : ℕ) where
       let at-loop-test = at-instance .before .before in
       let at-loop = at-loop-test .before in
       let loop = at-loop .loop in
-      let start = at-loop .before .before .before .before in
+      let start = at-loop .before .before .before in
       let a = start .args in (
         omega (arith, start .pre .0, start .pre .1 .1),
         (
@@ -744,7 +744,7 @@ module _ (t : ℕ) where
           formula-kind,
           start .pre .1 .4,
           instance-some (a .table .now) (a .words .now) (a .log .now) (a .kind) (a .level) (a .scope)
-              (a .v) (a .body) (a .from) (a .k) (a .used) (a .environment) (a .scratch .now) (loop .scratch) (loop .inv .1)
+              (a .v) (a .placed .body) (a .placed .from) (a .placed .count) (a .placed .used) (a .environment) (a .scratch .now) (loop .scratch) (loop .inv .1)
               (start .pre .1 .6) (loop .i) (at-loop-test .loop-test .taken) (start .pre .1 .5) (start .pre .1 .2)
               (instance .result) (instance .ensures) (start .pre .1 .7),
         ),
@@ -759,22 +759,22 @@ module _ (t : ℕ) where
       let at-loop-test = at-instance .before .before in
       let at-loop = at-loop-test .before in
       let loop = at-loop .loop in
-      let start = at-loop .before .before .before .before in
+      let start = at-loop .before .before .before in
       let a = start .args in (
         omega (
           arith,
-          lent-long (loop .out) (loop .join .words) (formula .last .1 .1 .1 .1 .1 .1 .0)
-              (instances-within (a .table .now) (a .words .now) (a .log .now) (a .kind) (a .level) (a .scope) (a .v) (a .body)
-              (a .from) (a .k) (a .used) (a .environment) (a .scratch .now) (loop .i) (loop .next) (loop .join) (loop .out)
-              (loop .inv .3) (start .pre .1 .4) (start .pre .1 .7) (start .pre .1 .8)) (formula .kept .1 .1 .1 .1 .1 .1 .0),
+          lent-long (loop .out) (loop .join .words) (formula .last .1 .1 .1 .1 .1 .0)
+              (instances-within (a .table .now) (a .words .now) (a .log .now) (a .kind) (a .level) (a .scope) (a .v) (a .placed .body)
+              (a .placed .from) (a .placed .count) (a .placed .used) (a .environment) (a .scratch .now) (loop .i) (loop .next) (loop .join) (loop .out)
+              (loop .inv .3) (start .pre .1 .4) (start .pre .1 .7) (start .pre .1 .8)) (formula .kept .1 .1 .1 .1 .1 .0),
           loop .inv .2,
           start .pre .1 .3,
         ),
         instances-adding (a .table .now) (a .words .now) (a .log .now) (a .kind)
-            (a .level) (a .scope) (a .v) (a .body) (a .from) (a .k) (a .used) (a .environment) (a .scratch .now)
+            (a .level) (a .scope) (a .v) (a .placed .body) (a .placed .from) (a .placed .count) (a .placed .used) (a .environment) (a .scratch .now)
             (loop .scratch) (loop .inv .1) (start .pre .1 .6) (loop .i) (at-loop-test .loop-test .taken) (start .pre .1 .5)
             (start .pre .1 .2) (instance .result) (instance .ensures) (loop .next) (loop .join) (loop .out) (loop .inv .3)
-            (formula .last .1 .1 .1 .1 .1 .1 .0) (formula .result) (formula .ensures) (start .pre .1 .4) (start .pre .1 .7)
+            (formula .last .1 .1 .1 .1 .1 .0) (formula .result) (formula .ensures) (start .pre .1 .4) (start .pre .1 .7)
             (start .pre .1 .8),
       )
 
@@ -787,11 +787,11 @@ module _ (t : ℕ) where
       let formula = at-formula .formula in
       let at-loop = at-formula .before .before .before .before .before .before in
       let loop = at-loop .loop in
-      let start = at-loop .before .before .before .before in
+      let start = at-loop .before .before .before in
       let a = start .args in
-      (kept-lent (a .table .now) (a .words .now) (a .log .now) (a .kind) (a .level) (a .scope) (a .v) (a .body) (a .from)
-      (a .k) (a .used) (a .environment) (a .scratch .now) (loop .scratch) (loop .inv .1) (start .pre .1 .6)
-      (formula .last .1 .1 .1 .1 .1 .0) (formula .kept .1 .1 .1 .1 .1 .0)) .0
+      (kept-lent (a .table .now) (a .words .now) (a .log .now) (a .kind) (a .level) (a .scope) (a .v) (a .placed .body) (a .placed .from)
+      (a .placed .count) (a .placed .used) (a .environment) (a .scratch .now) (loop .scratch) (loop .inv .1) (start .pre .1 .6)
+      (formula .last .1 .1 .1 .1 .0) (formula .kept .1 .1 .1 .1 .0)) .0
 
   instances-same-length-2 : instances-lts.Need-same-length-2 instances-calls instances-at instances.Post instances-Inv-loop instances-μ-loop
   instances-same-length-2 c =
@@ -800,12 +800,12 @@ module _ (t : ℕ) where
       let formula = at-formula .formula in
       let at-loop = at-formula .before .before .before .before .before .before in
       let loop = at-loop .loop in
-      let start = at-loop .before .before .before .before in
+      let start = at-loop .before .before .before in
       let a = start .args in
-      at-add .add .kept .1 .0 ∙ lent-long (loop .out) (loop .join .words) (formula .last .1 .1 .1 .1 .1 .1 .0)
-      (instances-within (a .table .now) (a .words .now) (a .log .now) (a .kind) (a .level) (a .scope) (a .v) (a .body)
-      (a .from) (a .k) (a .used) (a .environment) (a .scratch .now) (loop .i) (loop .next) (loop .join) (loop .out)
-      (loop .inv .3) (start .pre .1 .4) (start .pre .1 .7) (start .pre .1 .8)) (formula .kept .1 .1 .1 .1 .1 .1 .0)
+      at-add .add .kept .1 .0 ∙ lent-long (loop .out) (loop .join .words) (formula .last .1 .1 .1 .1 .1 .0)
+      (instances-within (a .table .now) (a .words .now) (a .log .now) (a .kind) (a .level) (a .scope) (a .v) (a .placed .body)
+      (a .placed .from) (a .placed .count) (a .placed .used) (a .environment) (a .scratch .now) (loop .i) (loop .next) (loop .join) (loop .out)
+      (loop .inv .3) (start .pre .1 .4) (start .pre .1 .7) (start .pre .1 .8)) (formula .kept .1 .1 .1 .1 .1 .0)
       ∙ loop .inv .2
 
   instances-returns : instances-lts.Need-returns instances-calls instances-at instances.Post instances-Inv-loop instances-μ-loop
@@ -818,23 +818,23 @@ module _ (t : ℕ) where
       let at-loop-test = at-instance .before .before in
       let at-loop = at-loop-test .before in
       let loop = at-loop .loop in
-      let start = at-loop .before .before .before .before in
+      let start = at-loop .before .before .before in
       let a = start .args in (
-        instances-short (a .table .now) (a .words .now) (a .log .now) (a .kind) (a .level) (a .scope) (a .v) (a .body)
-            (a .from) (a .k) (a .used) (a .environment) (a .scratch .now) (loop .scratch) (loop .inv .1) (start .pre .1 .6)
+        instances-short (a .table .now) (a .words .now) (a .log .now) (a .kind) (a .level) (a .scope) (a .v) (a .placed .body)
+            (a .placed .from) (a .placed .count) (a .placed .used) (a .environment) (a .scratch .now) (loop .scratch) (loop .inv .1) (start .pre .1 .6)
             (loop .i) (at-loop-test .loop-test .taken) (start .pre .1 .5) (start .pre .1 .2) (instance .result)
-            (instance .ensures) (loop .next) (loop .join) (loop .out) (loop .inv .3) (formula .last .1 .1 .1 .1 .1 .1 .0)
+            (instance .ensures) (loop .next) (loop .join) (loop .out) (loop .inv .3) (formula .last .1 .1 .1 .1 .1 .0)
             (formula .result) (formula .ensures) _ _ (at-add .add .ensures) (c .enum-told .given .1) (loop .next),
-        (kept-lent (a .table .now) (a .words .now) (a .log .now) (a .kind) (a .level) (a .scope) (a .v) (a .body) (a .from)
-            (a .k) (a .used) (a .environment) (a .scratch .now) (loop .scratch) (loop .inv .1) (start .pre .1 .6)
-            (formula .last .1 .1 .1 .1 .1 .0) (formula .kept .1 .1 .1 .1 .1 .0)) .1,
+        (kept-lent (a .table .now) (a .words .now) (a .log .now) (a .kind) (a .level) (a .scope) (a .v) (a .placed .body) (a .placed .from)
+            (a .placed .count) (a .placed .used) (a .environment) (a .scratch .now) (loop .scratch) (loop .inv .1) (start .pre .1 .6)
+            (formula .last .1 .1 .1 .1 .0) (formula .kept .1 .1 .1 .1 .0)) .1,
       )
 
   instances-add-i : instances-lts.Need-add-i instances-calls instances-at instances.Post instances-Inv-loop instances-μ-loop
   instances-add-i c =
       let at-loop-test = c .before .before .before .before .before .before .before .before .before .before .before in
-      let at-fits = at-loop-test .before .before .before .before .before in
-      omega (arith, at-loop-test .loop-test .taken, at-fits .fits .k)
+      let at-good = at-loop-test .before .before .before .before in
+      omega (arith, at-loop-test .loop-test .taken, at-good .pre .1 .5, at-good .pre .1 .6, at-good .good .1 .1 .1 .1 .1 .0)
 
   instances-loop-less : instances-lts.Need-loop-less instances-calls instances-at instances.Post instances-Inv-loop instances-μ-loop
   instances-loop-less c =
@@ -853,30 +853,30 @@ module _ (t : ℕ) where
       let loop-test = at-loop-test .loop-test in
       let at-loop = at-loop-test .before in
       let loop = at-loop .loop in
-      let start = at-loop .before .before .before .before in
+      let start = at-loop .before .before .before in
       let a = start .args in (
         omega (arith, loop-test .taken),
         kept-lent (a .table .now) (a .words .now) (a .log .now) (a .kind) (a .level)
-            (a .scope) (a .v) (a .body) (a .from) (a .k) (a .used) (a .environment) (a .scratch .now) (loop .scratch)
-            (loop .inv .1) (start .pre .1 .6) (formula .last .1 .1 .1 .1 .1 .0) (formula .kept .1 .1 .1 .1 .1 .0),
-        add .kept .1 .0 ∙ lent-long (loop .out) (loop .join .words) (formula .last .1 .1 .1 .1 .1 .1 .0)
-            (instances-within (a .table .now) (a .words .now) (a .log .now) (a .kind) (a .level) (a .scope) (a .v) (a .body)
-            (a .from) (a .k) (a .used) (a .environment) (a .scratch .now) (loop .i) (loop .next) (loop .join) (loop .out)
-            (loop .inv .3) (start .pre .1 .4) (start .pre .1 .7) (start .pre .1 .8)) (formula .kept .1 .1 .1 .1 .1 .1 .0)
+            (a .scope) (a .v) (a .placed .body) (a .placed .from) (a .placed .count) (a .placed .used) (a .environment) (a .scratch .now) (loop .scratch)
+            (loop .inv .1) (start .pre .1 .6) (formula .last .1 .1 .1 .1 .0) (formula .kept .1 .1 .1 .1 .0),
+        add .kept .1 .0 ∙ lent-long (loop .out) (loop .join .words) (formula .last .1 .1 .1 .1 .1 .0)
+            (instances-within (a .table .now) (a .words .now) (a .log .now) (a .kind) (a .level) (a .scope) (a .v) (a .placed .body)
+            (a .placed .from) (a .placed .count) (a .placed .used) (a .environment) (a .scratch .now) (loop .i) (loop .next) (loop .join) (loop .out)
+            (loop .inv .3) (start .pre .1 .4) (start .pre .1 .7) (start .pre .1 .8)) (formula .kept .1 .1 .1 .1 .1 .0)
             ∙ loop .inv .2,
         instances-next (a .table .now) (a .words .now) (a .log .now) (a .kind) (a .level) (a .scope)
-            (a .v) (a .body) (a .from) (a .k) (a .used) (a .environment) (a .scratch .now) (loop .scratch) (loop .inv .1)
+            (a .v) (a .placed .body) (a .placed .from) (a .placed .count) (a .placed .used) (a .environment) (a .scratch .now) (loop .scratch) (loop .inv .1)
             (start .pre .1 .6) (loop .i) (loop-test .taken) (start .pre .1 .5) (start .pre .1 .2) (instance .result)
-            (instance .ensures) (loop .next) (loop .join) (loop .out) (loop .inv .3) (formula .last .1 .1 .1 .1 .1 .1 .0)
+            (instance .ensures) (loop .next) (loop .join) (loop .out) (loop .inv .3) (formula .last .1 .1 .1 .1 .1 .0)
             (formula .result) (formula .ensures) _ _ (add .ensures) (not-short _ (c .match .keys2)),
       )
 
   instances-behind-requires : instances-lts.Need-behind-requires instances-calls instances-at instances.Post instances-Inv-loop instances-μ-loop
   instances-behind-requires c κs =
-      let start = c .before .before .before .before .before .before in
+      let start = c .before .before .before .before .before in
       let a = start .args in
-      instances-tree (a .table .now) (a .words .now) (a .log .now) (a .kind) (a .level) (a .scope) (a .v) (a .body)
-      (a .from) (a .k) (a .used) (a .environment) (a .scratch .now) (start .pre .1 .4)
+      instances-tree (a .table .now) (a .words .now) (a .log .now) (a .kind) (a .level) (a .scope) (a .v) (a .placed .body)
+      (a .placed .from) (a .placed .count) (a .placed .used) (a .environment) (a .scratch .now) (start .pre .1 .4)
 
   instances-same-length-3 : instances-lts.Need-same-length-3 instances-calls instances-at instances.Post instances-Inv-loop instances-μ-loop
   instances-same-length-3 c = c .before .before .before .loop .inv .1 .0
@@ -888,9 +888,9 @@ module _ (t : ℕ) where
   instances-returns-2 c =
       let at-loop = c .before .before .before in
       let loop = at-loop .loop in
-      let a = at-loop .before .before .before .before .args in (
-        instances-none (a .table .now) (a .words .now) (a .log .now) (a .kind) (a .level) (a .scope) (a .v) (a .body)
-            (a .from) (a .k) (a .used) (a .environment) (a .scratch .now) (loop .i) (loop .next) (loop .join) (loop .out)
+      let a = at-loop .before .before .before .args in (
+        instances-none (a .table .now) (a .words .now) (a .log .now) (a .kind) (a .level) (a .scope) (a .v) (a .placed .body)
+            (a .placed .from) (a .placed .count) (a .placed .used) (a .environment) (a .scratch .now) (loop .i) (loop .next) (loop .join) (loop .out)
             (loop .inv .3) (c .before .if1 .taken) _ (c .behind .ensures),
         loop .inv .1 .1,
       )
@@ -905,16 +905,16 @@ module _ (t : ℕ) where
   instances-returns-3 c =
       let at-loop = c .before .before in
       let loop = at-loop .loop in
-      let a = at-loop .before .before .before .before .args in (
-        instances-end (a .table .now) (a .words .now) (a .log .now) (a .kind) (a .level) (a .scope) (a .v) (a .body)
-            (a .from) (a .k) (a .used) (a .environment) (a .scratch .now) (loop .i) (loop .next) (loop .join) (loop .out)
+      let a = at-loop .before .before .before .args in (
+        instances-end (a .table .now) (a .words .now) (a .log .now) (a .kind) (a .level) (a .scope) (a .v) (a .placed .body)
+            (a .placed .from) (a .placed .count) (a .placed .used) (a .environment) (a .scratch .now) (loop .i) (loop .next) (loop .join) (loop .out)
             (loop .inv .3) (c .before .loop-test .left) (omega (arith, c .if1 .left)),
         loop .inv .1 .1,
       )
 
   quantifier-add-value : quantifier-lts.Need-add-value quantifier-calls quantifier-at quantifier.Post
   quantifier-add-value c =
-      let start = c .before .before in
+      let start = c .before in
       let a = start .args in
       omega (
         arith,
@@ -931,7 +931,7 @@ module _ (t : ℕ) where
   quantifier-prepare-requires c κs =
       let at-value = c .before in
       let value = at-value .value in
-      let start = at-value .before .before .before in
+      let start = at-value .before .before in
       let a = start .args in (
         start .pre .1 .0,
         start .pre .1 .1,
@@ -959,7 +959,7 @@ module _ (t : ℕ) where
   quantifier-enum-told c = search needs
 
   quantifier-same-length : quantifier-lts.Need-same-length quantifier-calls quantifier-at quantifier.Post
-  quantifier-same-length c = c .before .before .before .prepare .kept .1 .1 .1 .1 .1 .0
+  quantifier-same-length c = c .before .before .before .prepare .kept .1 .1 .1 .1 .0
 
   quantifier-returns : quantifier-lts.Need-returns quantifier-calls quantifier-at quantifier.Post
   quantifier-returns c =
@@ -967,13 +967,13 @@ module _ (t : ℕ) where
       let prepare = at-prepare .prepare in
       let at-value = at-prepare .before .before in
       let value = at-value .value in
-      let a = at-value .before .before .before .args in
+      let a = at-value .before .before .args in
       λ ρ v excluded d f next o q. quantifier-short (a .table .now) (a .words .now) (a .log .now) (a .kind) (a .level)
       (a .scope) (a .at) (value .result) (value .ensures) v excluded d f next q (a .environment) ρ o
       (length (a .scratch .now) / 17) _
       (prepared-short (a .table .now) (a .words .now) (a .log .now) (a .kind) (a .level) (a .scope) (a .at)
       (value .result) (value .ensures) v excluded d f next q (a .environment) ρ o (length (a .scratch .now) / 17)
-      (prepare .last .1 .1 .1 .1 .1 .0) (prepare .result) (c .enum-told .given .1)
+      (prepare .last .1 .1 .1 .1 .0) (prepare .result) (c .enum-told .given .1)
       (prepare .ensures ρ d _ o
       (restriction-here (a .table .now) (a .words .now) (a .log .now) (a .kind) (a .level) (a .scope) (a .at)
       (value .result) (value .ensures) v excluded d f next q))) refl refl
@@ -985,14 +985,13 @@ module _ (t : ℕ) where
       let at-prepare = at-prepared .before .before .before in
       let at-value = at-prepare .before .before in
       let value = at-value .value in
-      let a = at-value .before .before .before .args in
+      let a = at-value .before .before .args in
       (ρ : List ℤ) (v : ℕ) (excluded : List (List ℤ)) (d f : Tree) (next : ℕ) (o : Outer (a .environment) (a .scope) ρ)
       (q : Quantified (a .table .now) (a .words .now) (a .kind) (a .level) (a .scope) (a .at) v excluded d f next) →
-      PS.Stood (a .table .now) (a .words .now) (a .log .now) (a .scope) (value .result) (a .at) d ρ
+      PS.InstancesStand (a .table .now) (a .words .now) (a .log .now) (a .scope) (value .result) (a .at) d ρ
       (bodyAt (a .table .now) (a .words .now) (a .log .now) (a .kind) (a .level) (a .scope) (a .at) (value .result)
       (value .ensures) v excluded d f next q) (length (a .scratch .now) / 17)
-      (at-prepare .prepare .last .1 .1 .1 .1 .1 .0) (prepared .given .0 .0) (prepared .given .0 .1 .0)
-      (prepared .given .0 .1 .1 .0) (prepared .given .0 .1 .1 .1 .0)
+      (at-prepare .prepare .last .1 .1 .1 .1 .0) (prepared .given .0 .0)
   stood c =
       let at-prepared = c .before in
       let prepared = at-prepared .prepared in
@@ -1000,12 +999,11 @@ module _ (t : ℕ) where
       let prepare = at-prepare .prepare in
       let at-value = at-prepare .before .before in
       let value = at-value .value in
-      let a = at-value .before .before .before .args in
+      let a = at-value .before .before .args in
       λ ρ v excluded d f next o q.
       (prepared-stood (a .table .now) (a .words .now) (a .log .now) (a .kind) (a .level) (a .scope) (a .at)
       (value .result) (value .ensures) v excluded d f next q (a .environment) ρ o (length (a .scratch .now) / 17)
-      (prepare .last .1 .1 .1 .1 .1 .0) (prepare .result) (prepared .given .0 .0) (prepared .given .0 .1 .0)
-      (prepared .given .0 .1 .1 .0) (prepared .given .0 .1 .1 .1 .0) (prepared .given .1)
+      (prepare .last .1 .1 .1 .1 .0) (prepare .result) (prepared .given .0 .0) (prepared .given .1)
       (prepare .ensures ρ d _ o
       (restriction-here (a .table .now) (a .words .now) (a .log .now) (a .kind) (a .level) (a .scope) (a .at)
       (value .result) (value .ensures) v excluded d f next q)))
@@ -1016,7 +1014,7 @@ module _ (t : ℕ) where
       let at-prepare = then .before .before .before .before in
       let at-value = at-prepare .before .before in
       let value = at-value .value in
-      let start = at-value .before .before .before in
+      let start = at-value .before .before in
       let a = start .args in
       let s =
       (stood then (start .pre .1 .5 .0) (start .pre .1 .4 .0) (start .pre .1 .4 .1) (start .pre .1 .4 .2)
@@ -1041,7 +1039,7 @@ module _ (t : ℕ) where
           ),
           s .below,
           omega
-              (arith, s .fits, at-prepare .prepare .kept .1 .1 .1 .1 .1 .0),
+              (arith, s .fits, at-prepare .prepare .kept .1 .1 .1 .1 .0),
           start .pre .1 .5,
           (
             found (a .table .now) (a .words .now) (a .log .now) (a .kind) (a .level) (a .scope) (a .at) (value .result)
@@ -1058,19 +1056,19 @@ module _ (t : ℕ) where
       let at-prepare = at-prepared .before .before .before in
       let at-value = at-prepare .before .before in
       let value = at-value .value in
-      let a = at-value .before .before .before .args in
+      let a = at-value .before .before .args in
       (ρ : List ℤ) (v : ℕ) (excluded : List (List ℤ)) (d f : Tree) (next : ℕ) (o : Outer (a .environment) (a .scope) ρ)
       (q : Quantified (a .table .now) (a .words .now) (a .kind) (a .level) (a .scope) (a .at) v excluded d f next) →
       Works (a .kind) (a .table .now) (a .log .now) f ρ
       (found (a .table .now) (a .words .now) (a .log .now) (a .kind) (a .level) (a .scope) (a .at) (value .result)
       (value .ensures) v excluded d f next q (a .environment) ρ o)
-      (length (at-prepare .prepare .last .1 .1 .1 .1 .1 .0) / 17 - (at-prepared .prepared .given .0 .1 .1 .0)) next
-      (c .instances .last .1 .1 .1 .1 .1 .1 .0) (c .instances .result)
+      (length (at-prepare .prepare .last .1 .1 .1 .1 .0) / 17 - (at-prepared .prepared .given .0 .0 .used)) next
+      (c .instances .last .1 .1 .1 .1 .1 .0) (c .instances .result)
   worked c =
       let then = c .before .before .before in
       let at-value = then .before .before .before .before .before .before in
       let value = at-value .value in
-      let a = at-value .before .before .before .args in
+      let a = at-value .before .before .args in
       λ ρ v excluded d f next o q.
       (c .instances .ensures .0 ρ
       (found (a .table .now) (a .words .now) (a .log .now) (a .kind) (a .level) (a .scope) (a .at) (value .result)
@@ -1086,10 +1084,10 @@ module _ (t : ℕ) where
   quantifier-same-length-2 c =
       let at-instances = c .before .before .before .before in
       let at-prepare = at-instances .before .before .before .before .before .before .before in
-      at-instances .instances .kept .1 .1 .1 .1 .1 .0 ∙ at-prepare .prepare .kept .1 .1 .1 .1 .1 .0
+      at-instances .instances .kept .1 .1 .1 .1 .0 ∙ at-prepare .prepare .kept .1 .1 .1 .1 .0
 
   quantifier-same-length-3 : quantifier-lts.Need-same-length-3 quantifier-calls quantifier-at quantifier.Post
-  quantifier-same-length-3 c = c .before .before .before .before .instances .kept .1 .1 .1 .1 .1 .1 .0
+  quantifier-same-length-3 c = c .before .before .before .before .instances .kept .1 .1 .1 .1 .1 .0
 
   quantifier-returns-2 : quantifier-lts.Need-returns-2 quantifier-calls quantifier-at quantifier.Post
   quantifier-returns-2 c =
@@ -1098,7 +1096,7 @@ module _ (t : ℕ) where
       let at-prepare = then .before .before .before .before in
       let at-value = at-prepare .before .before in
       let value = at-value .value in
-      let a = at-value .before .before .before .args in
+      let a = at-value .before .before .args in
       λ ρ v excluded d f next o q. let s = (stood then ρ v excluded d f next o q) in quantifier-short (a .table .now)
       (a .words .now) (a .log .now) (a .kind) (a .level) (a .scope) (a .at) (value .result) (value .ensures) v excluded
       d f next q (a .environment) ρ o (length (a .scratch .now) / 17) _
@@ -1107,8 +1105,8 @@ module _ (t : ℕ) where
         (worked at-instances ρ v excluded d f next o q) .short (c .if1 .taken),
         s .counted,
         s .fits,
-        at-prepare .prepare .kept .1 .1 .1 .1 .1 .0,
-      )) (at-instances .instances .kept .1 .1 .1 .1 .1 .1 .0) refl
+        at-prepare .prepare .kept .1 .1 .1 .1 .0,
+      )) (at-instances .instances .kept .1 .1 .1 .1 .1 .0) refl
 
   quantifier-conclude-requires : quantifier-lts.Need-conclude-requires quantifier-calls quantifier-at quantifier.Post
   quantifier-conclude-requires c κs =
@@ -1122,20 +1120,20 @@ module _ (t : ℕ) where
       let prepare = at-prepare .prepare in
       let at-value = at-prepare .before .before in
       let value = at-value .value in
-      let start = at-value .before .before .before in
+      let start = at-value .before .before in
       let a = start .args in
       let s =
       (stood then (start .pre .1 .5 .0) (start .pre .1 .4 .0) (start .pre .1 .4 .1) (start .pre .1 .4 .2)
       (start .pre .1 .4 .3) (start .pre .1 .4 .4) (start .pre .1 .5 .1) (start .pre .1 .4 .5)) in (
-        omega (arith, instances .kept .1 .1 .1 .1 .1 .1 .0, start .pre .1 .3),
+        omega (arith, instances .kept .1 .1 .1 .1 .1 .0, start .pre .1 .3),
         omega
-            (arith, s .below, s .fits, prepare .kept .1 .1 .1 .1 .1 .0, instances .kept .1 .1 .1 .1 .1 .0),
+            (arith, s .below, s .fits, prepare .kept .1 .1 .1 .1 .0, instances .kept .1 .1 .1 .1 .0),
         (concluding (a .table .now) (a .words .now) (a .log .now) (a .kind) (a .level) (a .scope) (a .at) (value .result)
             (value .ensures) (start .pre .1 .4 .0) (start .pre .1 .4 .1) (start .pre .1 .4 .2) (start .pre .1 .4 .3)
             (start .pre .1 .4 .4) (start .pre .1 .4 .5) (a .environment) (start .pre .1 .5 .0) (start .pre .1 .5 .1)
-            (prepare .last .1 .1 .1 .1 .1 .0) (instances .last .1 .1 .1 .1 .1 .0) (instances .last .1 .1 .1 .1 .1 .1 .0)
-            (prepared .given .0 .0) (prepared .given .0 .1 .0) (prepared .given .0 .1 .1 .0)
-            (length (prepare .last .1 .1 .1 .1 .1 .0) / 17 - (prepared .given .0 .1 .1 .0)) (prepared .given .0 .1 .1 .1 .0)
+            (prepare .last .1 .1 .1 .1 .0) (instances .last .1 .1 .1 .1 .0) (instances .last .1 .1 .1 .1 .1 .0)
+            (prepared .given .0 .0 .from) (prepared .given .0 .0 .count) (prepared .given .0 .0 .used)
+            (length (prepare .last .1 .1 .1 .1 .0) / 17 - (prepared .given .0 .0 .used)) (prepared .given .0 .0 .body)
             (instances .result) (s .below) (instances .ensures .1) (s .found) (s .behind)
             (worked at-instances (start .pre .1 .5 .0) (start .pre .1 .4 .0) (start .pre .1 .4 .1) (start .pre .1 .4 .2)
             (start .pre .1 .4 .3) (start .pre .1 .4 .4) (start .pre .1 .5 .1) (start .pre .1 .4 .5)) (at-if1 .if1 .left)),
@@ -1145,12 +1143,12 @@ module _ (t : ℕ) where
   quantifier-same-length-4 c =
       let at-instances = c .before .before .before .before .before .before .before .before in
       let at-prepare = at-instances .before .before .before .before .before .before .before in
-      at-instances .instances .kept .1 .1 .1 .1 .1 .0 ∙ at-prepare .prepare .kept .1 .1 .1 .1 .1 .0
+      at-instances .instances .kept .1 .1 .1 .1 .0 ∙ at-prepare .prepare .kept .1 .1 .1 .1 .0
 
   quantifier-same-length-5 : quantifier-lts.Need-same-length-5 quantifier-calls quantifier-at quantifier.Post
   quantifier-same-length-5 c =
       let at-instances = c .before .before .before .before .before .before .before .before in
-      c .before .conclude .kept .1 .1 .1 .0 ∙ at-instances .instances .kept .1 .1 .1 .1 .1 .1 .0
+      c .before .conclude .kept .1 .1 .1 .0 ∙ at-instances .instances .kept .1 .1 .1 .1 .1 .0
 
   quantifier-returns-3 : quantifier-lts.Need-returns-3 quantifier-calls quantifier-at quantifier.Post
   quantifier-returns-3 c =
@@ -1165,18 +1163,18 @@ module _ (t : ℕ) where
       let prepare = at-prepare .prepare in
       let at-value = at-prepare .before .before in
       let value = at-value .value in
-      let a = at-value .before .before .before .args in
-      let the-length = length (prepare .last .1 .1 .1 .1 .1 .0) / 17 - (prepared .given .0 .1 .1 .0) in
+      let a = at-value .before .before .args in
+      let the-length = length (prepare .last .1 .1 .1 .1 .0) / 17 - (prepared .given .0 .0 .used) in
       λ ρ v excluded d f next o q. let s = (stood then ρ v excluded d f next o q) in quantifier-whole (a .table .now)
       (a .words .now) (a .log .now) (a .kind) (a .level) (a .scope) (a .at) (value .result) (value .ensures) v excluded
-      d f next q (a .environment) ρ o (length (a .scratch .now) / 17) (prepared .given .0 .1 .1 .0) the-length _ _
-      (ap (λ (n : ℕ). n / 17 - (prepared .given .0 .1 .1 .0)) (prepare .kept .1 .1 .1 .1 .1 .0)) (s .counted) (s .fits)
-      (instances .kept .1 .1 .1 .1 .1 .1 .0)
+      d f next q (a .environment) ρ o (length (a .scratch .now) / 17) (prepared .given .0 .0 .used) the-length _ _
+      (ap (λ (n : ℕ). n / 17 - (prepared .given .0 .0 .used)) (prepare .kept .1 .1 .1 .1 .0)) (s .counted) (s .fits)
+      (instances .kept .1 .1 .1 .1 .1 .0)
       (c .before .conclude .ensures
       (concluding (a .table .now) (a .words .now) (a .log .now) (a .kind) (a .level) (a .scope) (a .at) (value .result)
-      (value .ensures) v excluded d f next q (a .environment) ρ o (prepare .last .1 .1 .1 .1 .1 .0)
-      (instances .last .1 .1 .1 .1 .1 .0) (instances .last .1 .1 .1 .1 .1 .1 .0) (prepared .given .0 .0)
-      (prepared .given .0 .1 .0) (prepared .given .0 .1 .1 .0) the-length (prepared .given .0 .1 .1 .1 .0)
+      (value .ensures) v excluded d f next q (a .environment) ρ o (prepare .last .1 .1 .1 .1 .0)
+      (instances .last .1 .1 .1 .1 .0) (instances .last .1 .1 .1 .1 .1 .0) (prepared .given .0 .0 .from)
+      (prepared .given .0 .0 .count) (prepared .given .0 .0 .used) the-length (prepared .given .0 .0 .body)
       (instances .result) (s .below) (instances .ensures .1) (s .found) (s .behind)
       (worked at-instances ρ v excluded d f next o q) (if1 .left)))
       ((worked at-instances ρ v excluded d f next o q) .behind (if1 .left))

@@ -1,17 +1,16 @@
--- `residuals::residual::over_log` meets its contract, from what the log's check, the chains, the walk and its settling ensure.
-use mathlib.Core.Path.{sym, ap, _∙_}
+-- `residuals::residual::over_log` meets its contract, from what the log's check, the walk and its settling ensure.
+use mathlib.Core.Path.{_≡_, sym, ap, _∙_}
 use lib.ListN.{length}
+use Rattle.model.specs.Answer.{passed}
+use Rattle.model.specs.Log.{askLog}
 use Rattle.tables.specs.Checked.{outcome}
-use Rattle.residuals.proofs.ReduceCall.{table-short, root, log-refused, few-rows, chains, all-asked}
+use Rattle.residuals.proofs.ReduceCall.{root, log-refused, chains, all-asked}
 use borrow.Author.Needs.{needs}
 use Rattle.residuals.proofs.residual.over_log.Statement.{statement}
 use Rattle.residuals.proofs.residual.over_log.Tie as tie
 
-check-log-requires : tie.Need-check-log-requires
-check-log-requires c κs =
-    let start = c .before .before .before in
-    let a = start .args in
-    (table-short (a .table .now) (a .policy .now) (a .log .now) 0 0 (start .pre .0), start .pre .1)
+check-and-link-requires : tie.Need-check-and-link-requires
+check-and-link-requires c κs = search needs
 
 enum-known-checked : tie.Need-enum-known-checked
 enum-known-checked c = search needs
@@ -21,37 +20,30 @@ same-length c = search needs
 
 returns : tie.Need-returns
 returns c =
-    let at-check-log = c .before .before .before .before .before in
-    let start = at-check-log .before .before .before .before in
+    let at-check = c .before .before .before .before .before in
+    let start = at-check .before .before .before in
     let a = start .args in
     log-refused (a .table .now) (a .policy .now) (a .log .now) _ _ (start .pre .0) _
-    (sym (at-check-log .check-log .ensures .asked) ∙ ap outcome (c .before .checked .given .1))
+    (sym (at-check .check-and-link .ensures .asked) ∙ ap outcome (c .before .checked .given .1))
 
 enum-told : tie.Need-enum-told
 enum-told c = search needs
 
-chain-true-requires : tie.Need-chain-true-requires
-chain-true-requires c κs =
-    let at-check-log = c .before .before .before .before .before in
-    let start = at-check-log .before .before .before .before in
-    let a = start .args in (
-      few-rows (a .table .now) (a .policy .now) (a .log .now) 0 0 (start .pre .0)
-          (sym (at-check-log .check-log .ensures .asked) ∙ ap outcome (c .before .enum-told .given .1)),
-      start .pre .2,
-    )
+-- the log passed
+logged :
+    (c : tie.After-enum-told) →
+    let a = c .before .before .before .before .before .before .before .args in
+    askLog (a .table .now) (a .log .now) ≡ passed tt
+logged c = sym (c .before .before .before .before .check-and-link .ensures .asked) ∙ ap outcome (c .enum-told .given .1)
 
 walk-policy-requires : tie.Need-walk-policy-requires
 walk-policy-requires c κs =
-    let at-chain-true = c .before .before .before .before .before .before in
-    let at-enum-told = at-chain-true .before .before in
-    let enum-told = at-enum-told .enum-told in
-    let at-check-log = at-enum-told .before .before .before .before in
-    let check-log = at-check-log .check-log in
-    let start = at-check-log .before .before .before .before in
-    let a = start .args in
-    let logged = sym (check-log .ensures .asked) ∙ ap outcome (enum-told .given .1) in (
-      chains (a .table .now) (a .policy .now) (a .log .now) 0 0 (start .pre .0) logged
-          (check-log .ensures .chained (enum-told .given .1)) (at-chain-true .chain-true .ensures),
+    let told = c .before .before .before in
+    let at-check = told .before .before .before .before in
+    let start = at-check .before .before .before in
+    let a = start .args in (
+      chains (a .table .now) (a .policy .now) (a .log .now) 0 0 (start .pre .0) (logged told)
+          (at-check .check-and-link .ensures .linked (told .enum-told .given .1)),
       (start .pre .0 .0, _, root (a .table .now) (a .policy .now) (a .log .now) 0 0 (start .pre .0)),
     )
 
@@ -67,25 +59,30 @@ same-length-3 c = search needs
 same-length-4 : tie.Need-same-length-4
 same-length-4 c = search needs
 
-same-length-5 : tie.Need-same-length-5
-same-length-5 c = search needs
-
 returns-2 : tie.Need-returns-2
 returns-2 c =
-    let at-walk-policy = c .before .before .before .before .before in
-    let walk-policy = at-walk-policy .walk-policy in
-    let at-enum-told = at-walk-policy .before .before .before .before .before .before .before .before .before in
-    let at-check-log = at-enum-told .before .before .before .before in
-    let start = at-check-log .before .before .before .before in
+    let at-walk = c .before .before .before .before .before in
+    let walk-policy = at-walk .walk-policy in
+    let told = at-walk .before .before .before .before in
+    let start = told .before .before .before .before .before .before .before in
     let a = start .args in
-    let logged = sym (at-check-log .check-log .ensures .asked) ∙ ap outcome (at-enum-told .enum-told .given .1) in
     let node = root (a .table .now) (a .policy .now) (a .log .now) 0 0 (start .pre .0) in
     all-asked (a .table .now) (a .policy .now) (a .log .now) (length (a .scratch .now)) (length (a .buffer .now))
-    (start .pre .0) logged (walk-policy .kept .1 .1 .1 .1 .1 .1 .0)
+    (start .pre .0) (logged told) (walk-policy .kept .1 .1 .1 .1 .1 .0)
     (c .before .settle .ensures _ _ _ (walk-policy .ensures (start .pre .0 .0) _ node))
 
 pub over-log-spec : {M : Type 1} → statement M
 over-log-spec =
     tie.close
-    (tie.spec check-log-requires enum-known-checked same-length returns enum-told chain-true-requires
-    walk-policy-requires settle-requires same-length-2 same-length-3 same-length-4 same-length-5 returns-2)
+    (tie.spec
+    check-and-link-requires
+    enum-known-checked
+    same-length
+    returns
+    enum-told
+    walk-policy-requires
+    settle-requires
+    same-length-2
+    same-length-3
+    same-length-4
+    returns-2)

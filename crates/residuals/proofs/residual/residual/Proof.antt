@@ -25,17 +25,13 @@ returns c =
 slice-aggregate-over-log : tie.Need-slice-aggregate-over-log
 slice-aggregate-over-log c = search needs
 
-slice-aggregate-over-log-2 : tie.Need-slice-aggregate-over-log-2
-slice-aggregate-over-log-2 c = search needs
-
 over-log-requires : tie.Need-over-log-requires
 over-log-requires c κs =
-    let at-enum-told = c .before .before .before .before in
+    let at-enum-told = c .before .before .before in
     let at-check-policy = at-enum-told .before .before in
     let a = at-check-policy .before .args in (
       policy-accepted (a .table .now) (a .policy .now) (a .log .now) 0 0 (at-check-policy .check-policy .ensures .same)
           (at-enum-told .enum-told .given .1),
-      refl,
       refl,
     )
 
@@ -46,10 +42,10 @@ same-length-2 : tie.Need-same-length-2
 same-length-2 c = search needs
 
 returns-2 : tie.Need-returns-2
-returns-2 c = c .before .before .before .before .over-log .ensures
+returns-2 c = c .before .before .before .over-log .ensures
 
 pub residual-spec : {M : Type 1} → statement M
 residual-spec =
     tie.close
-    (tie.spec check-policy-requires enum-told enum-told-2 returns slice-aggregate-over-log slice-aggregate-over-log-2
+    (tie.spec check-policy-requires enum-told enum-told-2 returns slice-aggregate-over-log
     over-log-requires same-length same-length-2 returns-2)

@@ -18,7 +18,7 @@ slice-aggregate-formula : tie.Need-slice-aggregate-formula
 slice-aggregate-formula c =
     let at-lendable = c .before .before in
     let lendable = at-lendable .lendable in
-    let a = at-lendable .before .before .before .args in
+    let a = at-lendable .before .before .args in
     sym (lent-long (a .buffer .now) (lendable .result) (lendable .ensures))
 
 empty-requires : tie.Need-empty-requires
@@ -29,7 +29,7 @@ unfolding isFormula
 formula-requires c κs =
     let at-lendable = c .before .before .before in
     let lendable = at-lendable .lendable in
-    let start = at-lendable .before .before .before in
+    let start = at-lendable .before .before in
     let a = start .args in (
       start .pre .0,
       omega arith,
@@ -52,7 +52,7 @@ returns c =
     let at-empty = at-formula .before in
     let at-lendable = at-empty .before .before .before in
     let lendable = at-lendable .lendable in
-    let a = at-lendable .before .before .before .args in
+    let a = at-lendable .before .before .args in
     λ tree next node. let answers = at-formula .formula .ensures [] tree next (at-empty .empty .ensures .0, refl)
     node .answers in walked-whole (a .buffer .now) (lendable .result) (lendable .ensures) _ (answers .long) answers
 

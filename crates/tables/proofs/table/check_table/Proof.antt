@@ -13,7 +13,7 @@ use Rattle.model.specs.Words.{Words}
 use Rattle.model.specs.Lists.{span}
 use Rattle.model.specs.Answer.{Outcome, passed, refused, ask, inTurn, _>>=_}
 use Rattle.model.specs.Table.{predicates, goodRecord, askTable}
-use Rattle.tables.proofs.Loops.{turn-step, turn-stop, turn-end}
+use Rattle.laws.specs.Answer.{turn-step, turn-stop, turn-end}
 use Rattle.tables.proofs.table.check_table.Statement.{statement}
 use Rattle.tables.proofs.table.check_table.Tie as tie
 

@@ -10,11 +10,11 @@ use Rattle.tptp_reading.proofs.formula.+chain+children+excluding+operan
 use Rattle.tptp_reading.proofs.formula.+chain+children+excluding+operand+quantifier+restricted+some+whole.Tie.{close}
 use lib.ListN.{length, getD}
 use Rattle.policies.specs.Node.{asRole}
-use Rattle.tptp_reading.specs.Known.{stateOf}
+use Rattle.tptp_state.specs.Known.{stateOf}
 use Rattle.tptp_reading.proofs.ChildrenLaws.{Joining, joining-start, joining-over, joining-stop, joining-begins, joining-refused}
 use Rattle.tptp_reading.proofs.ChildrenLaws.{joining-less, joining-more}
 use mathlib.Core.Bool.{true, false}
-use Rattle.tptp_reading.specs.Told.{Told}
+use Rattle.tptp_state.specs.Told.{Told}
 use Rattle.tptp_reading.specs.Formula.{beneath, came, many}
 use mathlib.Core.Path.{sym, refl, ap, _∙_, subst}
 use native.Mathlib.Omega.{arith}
@@ -23,7 +23,7 @@ use borrow.Author.Tests.{not-true, not-false}
 use Rattle.model.specs.Bytes.{ampersand}
 use Rattle.model.specs.Reading.{isFormula}
 use Rattle.model.specs.TptpReading.{more, readTuple, opening, readSome}
-use Rattle.tptp_tokens.specs.Tuples.{StoredTuples}
+use Rattle.tptp_binders.specs.Tuples.{StoredTuples}
 use Rattle.tptp_tokens.specs.Steps.{Steps, Valued, Within}
 use Rattle.tptp_tokens.proofs.BehindLaws.{valued-within, steps-within}
 use Rattle.tptp_reading.proofs.RoomLaws.{opening-room}
@@ -61,37 +61,37 @@ use Rattle.tptp_reading.proofs.formula.+chain+children+excluding+operan
 use Rattle.tptp_reading.proofs.formula.whole.Reads as whole
 use Rattle.tptp_reading.proofs.formula.whole.Kinds as whole-kinds
 use Rattle.tptp_reading.proofs.formula.+chain+children+excluding+operand+quantifier+restricted+some+whole.Lts-whole as whole-lts
-use Rattle.tptp_tokens.proofs.ahead.begins.Reads as begins-reads
-use Rattle.tptp_tokens.proofs.ahead.begins_excluding.Reads as begins-excluding-reads
-use Rattle.tptp_tokens.proofs.ahead.stands.Reads as stands-reads
-use Rattle.tptp_tokens.proofs.ahead.stop_index.Reads as stop-index-reads
+use Rattle.tptp_binders.proofs.ahead.begins.Reads as begins-reads
+use Rattle.tptp_binders.proofs.ahead.begins_excluding.Reads as begins-excluding-reads
+use Rattle.tptp_binders.proofs.ahead.stands.Reads as stands-reads
+use Rattle.tptp_binders.proofs.ahead.stop_index.Reads as stop-index-reads
 use Rattle.tptp_tokens.proofs.behind.then_expect.Reads as then-expect-reads
 use Rattle.tptp_tokens.proofs.behind.then_opening.Reads as then-opening-reads
-use Rattle.tptp_tokens.proofs.binder.binder.Reads as binder-reads
+use Rattle.tptp_binders.proofs.binder.binder.Reads as binder-reads
 use Rattle.tptp_reading.proofs.formula.connective.Reads as connective-reads
 use Rattle.tptp_reading.proofs.formula.implies.Reads as implies-reads
 use Rattle.tptp_reading.proofs.formula.read_leaf.Reads as read-leaf-reads
-use Rattle.tptp_reading.proofs.known.count_words.Reads as count-words-reads
-use Rattle.tptp_reading.proofs.known.drop_variable.Reads as drop-variable-reads
-use Rattle.tptp_reading.proofs.known.enter.Reads as enter-reads
-use Rattle.tptp_reading.proofs.known.hand.Reads as hand-reads
-use Rattle.tptp_reading.proofs.known.introduce.Reads as introduce-reads
-use Rattle.tptp_reading.proofs.known.join.Reads as join-reads
+use Rattle.tptp_state.proofs.known.count_words.Reads as count-words-reads
+use Rattle.tptp_state.proofs.known.drop_variable.Reads as drop-variable-reads
+use Rattle.tptp_state.proofs.known.enter.Reads as enter-reads
+use Rattle.tptp_state.proofs.known.hand.Reads as hand-reads
+use Rattle.tptp_state.proofs.known.introduce.Reads as introduce-reads
+use Rattle.tptp_state.proofs.known.join.Reads as join-reads
 use Rattle.tptp_tokens.proofs.laying.lay.Reads as lay-reads
-use Rattle.tptp_tokens.proofs.leaves.either.Reads as either-reads
-use Rattle.tptp_tokens.proofs.leaves.less.Reads as less-reads
-use Rattle.tptp_reading.proofs.state.outer_variables.Reads as outer-variables-reads
+use Rattle.tptp_leaves.proofs.leaves.either.Reads as either-reads
+use Rattle.tptp_leaves.proofs.leaves.less.Reads as less-reads
+use Rattle.tptp_state.proofs.state.outer_variables.Reads as outer-variables-reads
 use Rattle.tptp_tokens.proofs.tokens.opening.Reads as opening-reads
 use Rattle.tptp_tokens.proofs.tokens.skip.Reads as skip-reads
-use Rattle.tptp_tokens.proofs.tuples.behind_tuples.Reads as behind-tuples-reads
-use Rattle.tptp_tokens.proofs.tuples.tuples.Reads as tuples-reads
+use Rattle.tptp_binders.proofs.tuples.behind_tuples.Reads as behind-tuples-reads
+use Rattle.tptp_binders.proofs.tuples.tuples.Reads as tuples-reads
 use Rattle.policies.proofs.node.cost.Reads as cost-reads
 use Rattle.policies.proofs.node.is_formula.Reads as is-formula-reads
 use Rattle.policies.proofs.node.under.Reads as under-reads
 use Rattle.model.specs.Level as L
 
 abbrev μ-chain : Measures 5 chain-kinds.ps ℕ
-μ-chain κs a = 5 * a .1 .1 .1 .0 + 3
+μ-chain κs a = 5 * a .1 .1 .1 .1 .0 + 3
 
 abbrev μ-children : Measures 5 children-kinds.ps ℕ
 μ-children κs a = 5 * a .1 .1 .1 .0 + 2
@@ -174,8 +174,6 @@ module _ (t : ℕ) where
   -- what the callees of each ask and give
   abbrev chain-calls : chain-lts.Claims
   chain-calls = (
-    stop-index-reads.Asked,
-    stop-index-reads.Learnt,
     stands-reads.Asked,
     stands-reads.Learnt,
     under-reads.Asked,
@@ -232,6 +230,8 @@ module _ (t : ℕ) where
     skip-reads.Learnt,
     opening-reads.Asked,
     opening-reads.Learnt,
+    stop-index-reads.Asked,
+    stop-index-reads.Learnt,
     less-reads.Asked,
     less-reads.Learnt,
     chain-below,
@@ -335,9 +335,6 @@ module _ (t : ℕ) where
   chain-element-copy-out-w : chain-lts.Need-element-copy-out-w chain-calls chain-at chain.Post
   chain-element-copy-out-w c = search needs
 
-  chain-stop-index-requires : chain-lts.Need-stop-index-requires chain-calls chain-at chain.Post
-  chain-stop-index-requires c κs = c .before .before .before .pre .1 .0 .high
-
   chain-stands-requires : chain-lts.Need-stands-requires chain-calls chain-at chain.Post
   chain-stands-requires c κs = search needs
 
@@ -349,16 +346,16 @@ module _ (t : ℕ) where
 
   chain-enter-requires : chain-lts.Need-enter-requires chain-calls chain-at chain.Post
   chain-enter-requires c κs =
-      let z = c .before .before .before .before .before .before .before .before .before in
+      let z = c .before .before .before .before .before .before .before .before in
       (z .pre .1 .0 .ready .counted, omega arith)
 
   chain-add-operand : chain-lts.Need-add-operand chain-calls chain-at chain.Post
-  chain-add-operand c = omega (arith, c .before .before .before .before .before .before .before .before .before .before .pre .1 .1)
+  chain-add-operand c = omega (arith, c .before .before .before .before .before .before .before .before .before .pre .1 .1)
 
   chain-operand-requires : chain-lts.Need-operand-requires chain-calls chain-at chain.Post
   chain-operand-requires c κs =
       let e = c .before .before .before in
-      let z = e .before .before .before .before .before .before .before .before .before .before in
+      let z = e .before .before .before .before .before .before .before .before .before in
       let a = z .args in (
         omega (arith, z .pre .0),
         chain-begins (a .table .now) (a .text .now) (a .at) (a .room) (a .above) (a .scope) (stateOf (a .known .now) (a .set .now))
@@ -381,14 +378,13 @@ module _ (t : ℕ) where
       let u = e .before .before .before in
       let m = u .before in
       let v = m .before in
-      let x = v .before in
-      let z = x .before .before .before .before in
+      let z = v .before .before .before .before in
       let a = z .args in
       chain-refused (a .room) (a .table .now) (asRole (a .role)) (asRole (u .under .result)) (a .above) (a .scope)
       (stateOf (a .known .now) (a .set .now)) (stateOf (e .enter .last .0) (e .enter .last .1 .0)) (a .text .now) (a .at)
-      (x .stop-index .result) (v .stands .result) (m .stands2 .result) (a .out .now) (o .operand .last .1 .1 .1 .1 .1 .1 .1 .1 .1 .0)
+      (a .stop) (v .stands .result) (m .stands2 .result) (a .out .now) (o .operand .last .1 .1 .1 .1 .1 .1 .1 .1 .1 .0)
       (came (o .operand .result) (o .operand .last .1 .1 .1 .1 .1 .1 .1 .0) (o .operand .last .1 .1 .1 .1 .1 .1 .1 .1 .0))
-      (x .stop-index .ensures) (v .stands .ensures, m .stands2 .ensures) (u .under .ensures) (o .operand .ensures) (c .enum-told .given .1)
+      (z .pre .1 .2) (v .stands .ensures, m .stands2 .ensures) (u .under .ensures) (o .operand .ensures) (c .enum-told .given .1)
 
   chain-skip-requires : chain-lts.Need-skip-requires chain-calls chain-at chain.Post
   chain-skip-requires c κs =
@@ -408,19 +404,18 @@ module _ (t : ℕ) where
       let u = e .before .before .before in
       let m = u .before in
       let v = m .before in
-      let x = v .before in
-      let z = x .before .before .before .before in
+      let z = v .before .before .before .before in
       let a = z .args in
       chain-stop (a .room) (a .table .now) (asRole (a .role)) (asRole (u .under .result)) (a .above) (a .scope)
       (stateOf (a .known .now) (a .set .now)) (stateOf (e .enter .last .0) (e .enter .last .1 .0)) (a .text .now) (a .at)
-      (x .stop-index .result) (v .stands .result) (m .stands2 .result) (a .out .now) (o .operand .last .1 .1 .1 .1 .1 .1 .1 .1 .1 .0)
+      (a .stop) (v .stands .result) (m .stands2 .result) (a .out .now) (o .operand .last .1 .1 .1 .1 .1 .1 .1 .1 .1 .0)
       (came (o .operand .result) (o .operand .last .1 .1 .1 .1 .1 .1 .1 .0) (o .operand .last .1 .1 .1 .1 .1 .1 .1 .1 .0))
-      (x .stop-index .ensures) (v .stands .ensures, m .stands2 .ensures) (u .under .ensures) (o .operand .ensures) _ _ (k .end .given .1)
+      (z .pre .1 .2) (v .stands .ensures, m .stands2 .ensures) (u .under .ensures) (o .operand .ensures) _ _ (k .end .given .1)
       (s .skip .ensures) (c .if1 .taken)
 
   chain-add-children : chain-lts.Need-add-children chain-calls chain-at chain.Post
   chain-add-children c =
-      let at-pre = c .before .before .before .before .before .before .before .before .before .before .before .before .before .before .before .before .before .before .before .before in
+      let at-pre = c .before .before .before .before .before .before .before .before .before .before .before .before .before .before .before .before .before .before .before in
       omega (arith, at-pre .pre .1 .1)
 
   chain-children-requires : chain-lts.Need-children-requires chain-calls chain-at chain.Post
@@ -433,8 +428,7 @@ module _ (t : ℕ) where
       let u = e .before .before .before in
       let m = u .before in
       let v = m .before in
-      let x = v .before in
-      let z = x .before .before .before .before in
+      let z = v .before .before .before .before in
       let a = z .args in
       let begins =
       chain-begins (a .table .now) (a .text .now) (a .at) (a .room) (a .above) (a .scope)
@@ -443,10 +437,10 @@ module _ (t : ℕ) where
         omega (arith, z .pre .0),
         chain-rest (a .room) (a .table .now) (asRole (a .role)) (asRole (u .under .result))
             (a .above) (a .scope) (stateOf (a .known .now) (a .set .now)) (stateOf (e .enter .last .0) (e .enter .last .1 .0))
-            (a .text .now) (a .at) (x .stop-index .result) (v .stands .result) (m .stands2 .result) (a .out .now)
+            (a .text .now) (a .at) (a .stop) (v .stands .result) (m .stands2 .result) (a .out .now)
             (o .operand .last .1 .1 .1 .1 .1 .1 .1 .1 .1 .0)
             (came (o .operand .result) (o .operand .last .1 .1 .1 .1 .1 .1 .1 .0)
-            (o .operand .last .1 .1 .1 .1 .1 .1 .1 .1 .0)) (x .stop-index .ensures) (v .stands .ensures, m .stands2 .ensures)
+            (o .operand .last .1 .1 .1 .1 .1 .1 .1 .1 .0)) (z .pre .1 .2) (v .stands .ensures, m .stands2 .ensures)
             (u .under .ensures) (o .operand .ensures) _ _ (k .end .given .1) (s .skip .ensures) (i .if1 .left) begins,
       )
 
@@ -460,7 +454,7 @@ module _ (t : ℕ) where
   chain-add-lay c =
       let i = c .before .before .before .before .before .before .before .before .before .before in
       let o = i .before .before .before .before .before .before in
-      let z = o .before .before .before .before .before .before .before .before .before .before .before .before .before .before in
+      let z = o .before .before .before .before .before .before .before .before .before .before .before .before .before in
       omega (arith, z .pre .1 .0 .ready .counted)
 
   chain-lay-requires-2 : chain-lts.Need-lay-requires-2 chain-calls chain-at chain.Post
@@ -497,14 +491,13 @@ module _ (t : ℕ) where
       let u = e .before .before .before in
       let m = u .before in
       let v = m .before in
-      let x = v .before in
-      let z = x .before .before .before .before in
+      let z = v .before .before .before .before in
       let a = z .args in
       chain-read (a .room) (a .table .now) (asRole (a .role)) (asRole (u .under .result)) (a .above) (a .scope)
       (stateOf (a .known .now) (a .set .now)) (stateOf (e .enter .last .0) (e .enter .last .1 .0)) (a .text .now) (a .at)
-      (x .stop-index .result) (v .stands .result) (m .stands2 .result) (a .out .now) (o .operand .last .1 .1 .1 .1 .1 .1 .1 .1 .1 .0)
+      (a .stop) (v .stands .result) (m .stands2 .result) (a .out .now) (o .operand .last .1 .1 .1 .1 .1 .1 .1 .1 .1 .0)
       (came (o .operand .result) (o .operand .last .1 .1 .1 .1 .1 .1 .1 .0) (o .operand .last .1 .1 .1 .1 .1 .1 .1 .1 .0))
-      (x .stop-index .ensures) (v .stands .ensures, m .stands2 .ensures) (u .under .ensures) (o .operand .ensures) _ _ (k .end .given .1)
+      (z .pre .1 .2) (v .stands .ensures, m .stands2 .ensures) (u .under .ensures) (o .operand .ensures) _ _ (k .end .given .1)
       (s .skip .ensures) (i .if1 .left)
       (many (r .children .result) (r .children .last .1 .1 .1 .1 .1 .1 .1 .1 .1 .0) (r .children .last .1 .1 .1 .1 .1 .1 .1 .1 .1 .1 .0))
       (r .children .last .1 .1 .1 .1 .1 .1 .1 .1 .1 .1 .1 .0) (h .lay .last .0) (y .lay2 .last .0) (b .either .result)
@@ -817,13 +810,21 @@ module _ (t : ℕ) where
       (stateOf (a .known .now) (a .set .now)) (a .out .now) (a .out .now)) _ (o .opening .ensures)
       (e .enum-told .given .1)
 
+  operand-stop-index-requires : operand-lts.Need-stop-index-requires operand-calls operand-at operand.Post
+  operand-stop-index-requires c κs =
+      let k = c .before in
+      let o = k .before .before in
+      let s = o .before .before .before .before in
+      let a = s .before .before .args in
+      subst (Steps (opening (a .room)) (a .text .now) (s .skip .result)) (k .«open» .given .1) (o .opening .ensures) .high
+
   operand-less-requires : operand-lts.Need-less-requires operand-calls operand-at operand.Post
   operand-less-requires c κs = search needs
 
   operand-chain-requires : operand-lts.Need-chain-requires operand-calls operand-at operand.Post
   operand-chain-requires c κs =
       let l = c .before .before .before in
-      let k = l .before .before in
+      let k = l .before .before .before in
       let o = k .before .before in
       let s = o .before .before .before .before in
       let z = s .before .before in
@@ -843,6 +844,7 @@ module _ (t : ℕ) where
           },
           omega
               (arith, z .pre .1 .levels, room, less),
+          l .before .stop-index .ensures,
         ),
       )
 
@@ -853,7 +855,7 @@ module _ (t : ℕ) where
   operand-returns-3 c =
       let h = c .before in
       let l = h .before .before .before .before in
-      let k = l .before .before in
+      let k = l .before .before .before in
       let o = k .before .before in
       let p = o .before in
       let i = p .before .before in
@@ -863,8 +865,8 @@ module _ (t : ℕ) where
       operand-chain (a .room) (isFormula (asRole (a .role))) (a .scope) (a .text .now) (a .at) _ (s .skip .ensures)
       (omega (arith, i .if1 .left)) (p .if2 .taken) _ (o .opening .ensures) _ (k .«open» .given .1) _ (l .less .ensures)
       (λ tree. Told (a .table .now) tree (asRole (a .role)) (a .above) (a .scope) (stateOf (a .known .now) (a .set .now))
-      (stateOf (h .chain .last .1 .1 .1 .1 .1 .1 .1 .0) (h .chain .last .1 .1 .1 .1 .1 .1 .1 .1 .0)) (a .out .now)
-      (h .chain .last .1 .1 .1 .1 .1 .1 .1 .1 .1 .0)) (h .chain .result) (h .chain .ensures)
+      (stateOf (h .chain .last .1 .1 .1 .1 .1 .1 .1 .1 .0) (h .chain .last .1 .1 .1 .1 .1 .1 .1 .1 .1 .0)) (a .out .now)
+      (h .chain .last .1 .1 .1 .1 .1 .1 .1 .1 .1 .1 .0)) (h .chain .result) (h .chain .ensures)
 
   operand-is-formula-requires : operand-lts.Need-is-formula-requires operand-calls operand-at operand.Post
   operand-is-formula-requires c κs = search needs
@@ -1442,7 +1444,8 @@ module _ (t : ℕ) where
   restricted-chain-requires : restricted-lts.Need-chain-requires restricted-calls restricted-at restricted.Post
   restricted-chain-requires c κs =
       let l = c .before .before .before in
-      let o = l .before .before .before .before .before in
+      let s = l .before .before .before in
+      let o = s .before .before in
       let q = o .before .before in
       let z = q .before .before .before .before in
       let a = z .args in
@@ -1450,7 +1453,7 @@ module _ (t : ℕ) where
       restricted-begins (a .table .now) (a .text .now) (a .at) (a .room) (a .level) (a .x + a .v) (l .less2 .result)
       (o .«open» .given .0 .0) (stateOf (a .known .now) (a .set .now)) (q .opening .result)
       (z .pre .1 .0) (q .opening .ensures) (o .«open» .given .1) (l .less2 .ensures) in
-      (omega (arith, falls, z .pre .0), (begins, levels))
+      (omega (arith, falls, z .pre .0), (begins, levels, s .stop-index .ensures))
 
   restricted-same-length-3 : restricted-lts.Need-same-length-3 restricted-calls restricted-at restricted.Post
   restricted-same-length-3 c = search needs
@@ -1469,10 +1472,10 @@ module _ (t : ℕ) where
       let z = b .before .before in
       let a = z .args in
       restricted-chain (a .table .now) (a .level) (a .x) (a .v) (stateOf (a .known .now) (a .set .now)) (a .out .now)
-      (p .chain .last .1 .1 .1 .1 .1 .1 .1 .1 .1 .0) (z .pre .1 .0 .ready .counted) (a .text .now) (a .at) (a .room) (z .pre .1 .0 .high)
+      (p .chain .last .1 .1 .1 .1 .1 .1 .1 .1 .1 .1 .0) (z .pre .1 .0 .ready .counted) (a .text .now) (a .at) (a .room) (z .pre .1 .0 .high)
       (sym (b .begins .ensures) ∙ not-false _ (d .if1 .left)) (q .opening .result) (q .opening .ensures)
       (l .less2 .result) (o .«open» .given .0 .0) (s .stop-index .result) (o .«open» .given .1) (l .less2 .ensures)
-      (came (p .chain .result) (p .chain .last .1 .1 .1 .1 .1 .1 .1 .0) (p .chain .last .1 .1 .1 .1 .1 .1 .1 .1 .0))
+      (came (p .chain .result) (p .chain .last .1 .1 .1 .1 .1 .1 .1 .1 .0) (p .chain .last .1 .1 .1 .1 .1 .1 .1 .1 .1 .0))
       (s .stop-index .ensures) (sym (g .begins-excluding .ensures) ∙ f .if2 .left) (p .chain .ensures)
 
   some-add-binder : some-lts.Need-add-binder some-calls some-at some.Post
@@ -1571,11 +1574,12 @@ module _ (t : ℕ) where
 
   whole-chain-requires : whole-lts.Need-chain-requires whole-calls whole-at whole.Post
   whole-chain-requires c κs =
-      let z = c .before .before .before .before .before .before .before .before in
-      (omega (arith, z .pre .0), z .pre .1)
+      let x = c .before .before .before .before .before .before in
+      let z = x .before .before in
+      (omega (arith, z .pre .0), (z .pre .1 .0, z .pre .1 .1, x .stop-index .ensures))
 
   whole-same-length : whole-lts.Need-same-length whole-calls whole-at whole.Post
-  whole-same-length c = c .before .chain .kept .1 .1 .1 .1 .1 .1 .1 .1 .1 .0
+  whole-same-length c = c .before .chain .kept .1 .1 .1 .1 .1 .1 .1 .1 .1 .1 .0
 
   whole-returns : whole-lts.Need-returns whole-calls whole-at whole.Post
   whole-returns c =
@@ -1587,8 +1591,8 @@ module _ (t : ℕ) where
       let z = x .before .before in
       let a = z .args in
       whole-chain (a .room) (a .table .now) (asRole (a .role)) (a .above) (a .scope) (stateOf (a .known .now) (a .set .now)) (a .text .now)
-      (a .at) (x .stop-index .result) (v .stands .result) (m .stands2 .result) (a .out .now) (h .chain .last .1 .1 .1 .1 .1 .1 .1 .1 .1 .0)
-      (came (h .chain .result) (h .chain .last .1 .1 .1 .1 .1 .1 .1 .0) (h .chain .last .1 .1 .1 .1 .1 .1 .1 .1 .0))
+      (a .at) (x .stop-index .result) (v .stands .result) (m .stands2 .result) (a .out .now) (h .chain .last .1 .1 .1 .1 .1 .1 .1 .1 .1 .1 .0)
+      (came (h .chain .result) (h .chain .last .1 .1 .1 .1 .1 .1 .1 .1 .0) (h .chain .last .1 .1 .1 .1 .1 .1 .1 .1 .1 .0))
       (x .stop-index .ensures) (v .stands .ensures, m .stands2 .ensures) (i .if1 .taken) (h .chain .ensures)
 
   whole-begins-requires : whole-lts.Need-begins-requires whole-calls whole-at whole.Post
@@ -1694,7 +1698,6 @@ pub +chain+children+excluding+operand+quantifier+restricted+some+whole-spec :
     (λ t.
     chain-lts.spec (chain-calls t) (chain-at t) chain.Post
     (chain-element-copy-out-w t)
-    (chain-stop-index-requires t)
     (chain-stands-requires t)
     (chain-stands-requires-2 t)
     (chain-under-requires t)
@@ -1767,6 +1770,7 @@ pub +chain+children+excluding+operand+quantifier+restricted+some+whole-spec :
     (operand-enum-known-open t)
     (operand-enum-told t)
     (operand-returns-2 t)
+    (operand-stop-index-requires t)
     (operand-less-requires t)
     (operand-chain-requires t)
     (operand-same-length t)

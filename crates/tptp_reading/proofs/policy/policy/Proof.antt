@@ -7,12 +7,12 @@ use Rattle.model.specs.Level.{formula}
 use Rattle.model.specs.Reading.{isFormula}
 use Rattle.model.specs.TptpReading.{token, readers}
 use Rattle.tptp_tokens.specs.Steps.{Valued, Within}
-use Rattle.tptp_reading.specs.Told.{Ready, Told}
+use Rattle.tptp_state.specs.Told.{Ready, Told}
 use Rattle.tptp_reading.specs.Formula.{closed}
 use Rattle.tptp_reading.specs.Policy.{startState}
-use Rattle.tptp_reading.specs.declared.state.State.{State}
+use Rattle.tptp_state.specs.declared.state.State.{State}
 use Rattle.tptp_tokens.proofs.BehindLaws.{steps-within}
-use Rattle.tptp_reading.proofs.KnownLaws.{as-held}
+use Rattle.tptp_state.proofs.KnownLaws.{as-held}
 use Rattle.tptp_reading.proofs.PolicyLaws.{header-refused, policy-read, start-held, start-ready}
 use borrow.Author.Needs.{needs}
 use Rattle.tptp_reading.proofs.policy.policy.Statement.{statement}

@@ -1,9 +1,8 @@
 -- `tptp_tokens::numbers::integer` meets its contract.
 use native.Mathlib.Omega.{arith}
-use mathlib.Core.Path.{subst}
-use Rattle.tptp_tokens.specs.declared.numbers.Digits.{Digits}
+use mathlib.Core.Path.{sym, subst}
 use Rattle.tptp_tokens.specs.Numbers.{Integers}
-use Rattle.tptp_tokens.proofs.NumberLaws.{below, above, integer-over, integer-below, integer-above}
+use Rattle.tptp_tokens.proofs.NumberLaws.{integer-over, integer-below, integer-above}
 use borrow.Author.Needs.{needs}
 use Rattle.tptp_tokens.proofs.numbers.integer.Statement.{statement}
 use Rattle.tptp_tokens.proofs.numbers.integer.Tie as tie
@@ -25,60 +24,32 @@ add-magnitude c = search needs
 magnitude-requires : tie.Need-magnitude-requires
 magnitude-requires c κs = search needs
 
-enum-known-below : tie.Need-enum-known-below
-enum-known-below c = search needs
-
-enum-known-below-2 : tie.Need-enum-known-below-2
-enum-known-below-2 c = search needs
+with-sign-requires : tie.Need-with-sign-requires
+with-sign-requires c κs = search needs
 
 returns-2 : tie.Need-returns-2
 returns-2 c =
-    let k = c .before in
-    let m = k .before .before in
+    let m = c .before in
     let t = m .before .before .before in
     let a = t .before .before .before .args in
-    subst (λ (r : Digits). Integers (a .text .now) (a .at) (below r)) (k .below .given .1)
-    (integer-below (a .text .now) (a .at) _ (t .before .skip .ensures) (omega (arith, t .if1 .left))
-    (m .before .if2 .taken) (m .magnitude .result) (m .magnitude .ensures))
-
-returns-3 : tie.Need-returns-3
-returns-3 c =
-    let k = c .before in
-    let m = k .before .before in
-    let t = m .before .before .before in
-    let a = t .before .before .before .args in
-    subst (λ (r : Digits). Integers (a .text .now) (a .at) (below r)) (k .below2 .given .1)
+    subst (Integers (a .text .now) (a .at)) (sym (c .with-sign .ensures))
     (integer-below (a .text .now) (a .at) _ (t .before .skip .ensures) (omega (arith, t .if1 .left))
     (m .before .if2 .taken) (m .magnitude .result) (m .magnitude .ensures))
 
 natural-requires : tie.Need-natural-requires
 natural-requires c κs = search needs
 
-enum-known-above : tie.Need-enum-known-above
-enum-known-above c = search needs
+with-sign-requires-2 : tie.Need-with-sign-requires-2
+with-sign-requires-2 c κs = search needs
 
-enum-known-above-2 : tie.Need-enum-known-above-2
-enum-known-above-2 c = search needs
-
-returns-4 : tie.Need-returns-4
-returns-4 c =
-    let k = c .before in
-    let m = k .before .before in
-    let t = m .before .before .before in
+returns-3 : tie.Need-returns-3
+returns-3 c =
+    let n = c .before in
+    let t = n .before .before .before in
     let a = t .before .before .before .args in
-    subst (λ (r : Digits). Integers (a .text .now) (a .at) (above r)) (k .above .given .1)
+    subst (Integers (a .text .now) (a .at)) (sym (c .with-sign2 .ensures))
     (integer-above (a .text .now) (a .at) _ (t .before .skip .ensures) (omega (arith, t .if1 .left))
-    (m .before .if2 .left) (m .natural .result) (m .natural .ensures))
-
-returns-5 : tie.Need-returns-5
-returns-5 c =
-    let k = c .before in
-    let m = k .before .before in
-    let t = m .before .before .before in
-    let a = t .before .before .before .args in
-    subst (λ (r : Digits). Integers (a .text .now) (a .at) (above r)) (k .above2 .given .1)
-    (integer-above (a .text .now) (a .at) _ (t .before .skip .ensures) (omega (arith, t .if1 .left))
-    (m .before .if2 .left) (m .natural .result) (m .natural .ensures))
+    (n .before .if2 .left) (n .natural .result) (n .natural .ensures))
 
 pub integer-spec : {M : Type 1} → statement M
 integer-spec =
@@ -89,12 +60,8 @@ integer-spec =
     shared-slice-read-if2
     add-magnitude
     magnitude-requires
-    enum-known-below
-    enum-known-below-2
+    with-sign-requires
     returns-2
-    returns-3
     natural-requires
-    enum-known-above
-    enum-known-above-2
-    returns-4
-    returns-5)
+    with-sign-requires-2
+    returns-3)

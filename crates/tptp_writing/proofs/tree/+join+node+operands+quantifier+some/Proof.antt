@@ -15,12 +15,12 @@ use Rattle.model.specs.Words.{word}
 use Rattle.model.specs.Tag.{tagOf}
 use Rattle.policies.specs.declared.node.Tag.{Tag}
 use Rattle.policies.specs.Node.{asTag}
-use Rattle.tptp_writing.specs.Texts.{headText, closedText, Tuples}
+use Rattle.tptp_putting.specs.Texts.{headText, closedText, Tuples}
 use Rattle.tptp_writing.specs.Printing.{Here, HereAll, nodeText, wrote, Prints}
 use borrow.Author.Needs.{needs}
 use borrow.Fn.Kinds.{In}
 use borrow.Fn.PlainCycle.{Measures, is, falls, and}
-use Rattle.tptp_writing.proofs.AddLaws.{Behind, behind-fits}
+use Rattle.tptp_putting.proofs.AddLaws.{Behind, behind-fits}
 use Rattle.tptp_writing.proofs.HereLaws.{here-low, here-inside, atom-here, compare-here, unused-here}
 use Rattle.tptp_writing.proofs.HereLaws.{Joined, joined, Quantified, quantified, Something, something, Headed, headed}
 use Rattle.tptp_writing.proofs.WalkLaws.{plain-prints, atom-prints, compare-prints, quantifier-prints, some-prints}
@@ -43,15 +43,15 @@ use Rattle.tptp_writing.proofs.tree.some.Reads as some
 use Rattle.tptp_writing.proofs.tree.some.Kinds as some-kinds
 use Rattle.tptp_writing.proofs.tree.+join+node+operands+quantifier+some.Lts-some as some-lts
 use Rattle.policies.proofs.node.tag_at.Reads as tag-at-reads
-use Rattle.tptp_writing.proofs.tokens.put_connective.Reads as put-connective-reads
-use Rattle.tptp_writing.proofs.tokens.put_either.Reads as put-either-reads
+use Rattle.tptp_putting.proofs.tokens.put_connective.Reads as put-connective-reads
+use Rattle.tptp_putting.proofs.tokens.put_either.Reads as put-either-reads
 use Rattle.tptp_writing.proofs.tree.atom.Reads as atom-reads
 use Rattle.tptp_writing.proofs.tree.close.Reads as close-reads
 use Rattle.tptp_writing.proofs.tree.compare.Reads as compare-reads
 use Rattle.tptp_writing.proofs.tree.plain.Reads as plain-reads
-use Rattle.tptp_writing.proofs.tuples.put_head.Reads as put-head-reads
-use Rattle.tptp_writing.proofs.tuples.put_tuples.Reads as put-tuples-reads
-use Rattle.tables.proofs.words.value.Reads as value-reads
+use Rattle.tptp_putting.proofs.tuples.put_head.Reads as put-head-reads
+use Rattle.tptp_putting.proofs.tuples.put_tuples.Reads as put-tuples-reads
+use Rattle.words.proofs.value.Reads as value-reads
 use Rattle.tptp_writing.proofs.tree.+join+node+operands+quantifier+some.{statement}
 use Rattle.tptp_writing.proofs.tree.+join+node+operands+quantifier+some.Tie.{close}
 

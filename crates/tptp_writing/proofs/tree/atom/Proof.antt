@@ -5,8 +5,8 @@ use mathlib.Core.Bool.{cond}
 use mathlib.Core.List.{_++_}
 use Rattle.model.specs.Bytes.{Text, bytes}
 use Rattle.model.specs.Decimal.{digits}
-use Rattle.tptp_writing.specs.Texts.{termsText}
-use Rattle.tptp_writing.proofs.AddLaws.{Behind, behind-fits, behind-more}
+use Rattle.tptp_putting.specs.Texts.{termsText}
+use Rattle.tptp_putting.proofs.AddLaws.{Behind, behind-fits, behind-more}
 use Rattle.tptp_writing.proofs.NodeTextLaws.{atom-text}
 use Rattle.tptp_writing.proofs.PrintLaws.{prints-placed}
 use borrow.Author.Needs.{needs}

@@ -2,7 +2,7 @@
 use mathlib.Core.Bool.{cond}
 use Rattle.model.specs.Bytes.{bytes}
 use Rattle.text.specs.declared.writing.Put.the-variants as P
-use Rattle.tptp_writing.proofs.AddLaws.{Behind}
+use Rattle.tptp_putting.proofs.AddLaws.{Behind}
 use Rattle.tptp_writing.proofs.PrintLaws.{fits-nodes, closes-full, closes-at}
 use borrow.Author.Needs.{needs}
 use Rattle.tptp_writing.proofs.tree.close.Statement.{statement}

@@ -8,8 +8,8 @@ use Rattle.model.specs.Words.{word}
 use Rattle.model.specs.Bytes.{Text, bytes}
 use Rattle.model.specs.Decimal.{decimal}
 use Rattle.text.specs.declared.writing.Put.{Put}
-use Rattle.tptp_writing.specs.Texts.{termText}
-use Rattle.tptp_writing.proofs.AddLaws.{Behind, behind-fits, behind-more}
+use Rattle.tptp_putting.specs.Texts.{termText}
+use Rattle.tptp_putting.proofs.AddLaws.{Behind, behind-fits, behind-more}
 use Rattle.tptp_writing.proofs.NodeTextLaws.{compare-text}
 use Rattle.tptp_writing.proofs.PrintLaws.{prints-placed}
 use borrow.Author.Needs.{needs}

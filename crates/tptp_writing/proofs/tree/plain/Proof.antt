@@ -2,7 +2,7 @@
 use mathlib.Core.Path.{refl}
 use mathlib.Core.Bool.{cond}
 use Rattle.model.specs.Bytes.{bytes}
-use Rattle.tptp_writing.proofs.AddLaws.{Behind}
+use Rattle.tptp_putting.proofs.AddLaws.{Behind}
 use Rattle.tptp_writing.proofs.NodeTextLaws.{plain-text}
 use Rattle.tptp_writing.proofs.PrintLaws.{prints-placed}
 use borrow.Author.Needs.{needs}

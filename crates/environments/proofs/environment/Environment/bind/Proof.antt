@@ -8,7 +8,7 @@ use mir.Val.{toZ, ofZ}
 use borrow.Author.Needs.{needs}
 use Rattle.environments.specs.Environment.{Holds}
 use Rattle.model.specs.Listing.{bind}
-use Rattle.environments.specs.Places.{held-bind}
+use Rattle.environments.proofs.Places.{held-bind}
 use Rattle.environments.proofs.environment.Environment.bind.Statement.{statement}
 use Rattle.environments.proofs.environment.Environment.bind.Tie as tie
 

@@ -2,7 +2,7 @@
 use Prim.Native.Nat.{_*_}
 use mathlib.Core.Path.{_∙_, ap}
 use Rattle.environments.specs.Environment.{unbits}
-use Rattle.environments.specs.Places.{numbers-here, marks-here}
+use Rattle.environments.proofs.Places.{numbers-here, marks-here}
 use borrow.Author.Needs.{needs}
 use Rattle.environments.proofs.environment.Environment.read.Statement.{statement}
 use Rattle.environments.proofs.environment.Environment.read.Tie as tie

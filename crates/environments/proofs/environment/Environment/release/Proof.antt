@@ -5,7 +5,7 @@ use mathlib.Core.List.{List}
 use lib.ListN.{set}
 use lib.IntN.{ℤ, pos}
 use borrow.Author.Needs.{needs}
-use Rattle.environments.specs.Places.{numbers-release, marks-release}
+use Rattle.environments.proofs.Places.{numbers-release, marks-release}
 use Rattle.environments.proofs.environment.Environment.release.Statement.{statement}
 use Rattle.environments.proofs.environment.Environment.release.Tie as tie
 

@@ -13,7 +13,7 @@ use native.Mathlib.Numerals.{add-one}
 use borrow.Author.Needs.{needs}
 use Rattle.model.specs.Words.{Words}
 use Rattle.environments.specs.Environment.{bits, marksOf, placeOf}
-use Rattle.environments.specs.Places.{bits-small, place-put}
+use Rattle.environments.proofs.Places.{bits-small, place-put}
 use Rattle.environments.proofs.environment.Environment.write.Statement.{statement}
 use Rattle.environments.proofs.environment.Environment.write.Tie as tie
 

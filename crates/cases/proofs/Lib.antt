@@ -1,0 +1,2 @@
+-- A law that the proofs of several functions cite.
+pub mod Fronts

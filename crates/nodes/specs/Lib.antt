@@ -1,0 +1,4 @@
+pub mod Ground
+pub mod Last
+pub mod Prepare
+pub mod Conclude

@@ -1,0 +1,3 @@
+-- Laws that several proofs of this crate, or of others, cite.
+pub mod PolicyReading
+pub mod PolicyWriting

@@ -1,6 +1,0 @@
-pub mod Grown
-pub mod Rows
-pub mod Ahead
-pub mod Forming
-pub mod Laying
-pub mod Own

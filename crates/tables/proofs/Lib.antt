@@ -1,3 +1,0 @@
--- Laws that the proofs of several crates cite.
-pub mod Signed
-pub mod Loops

@@ -1,0 +1,3 @@
+pub mod Binder
+pub mod Tuples
+pub mod Ahead
