@@ -2,7 +2,8 @@
 -- holds of the join by the rule.
 use Rattle.std.specs.Prelude.{◌≡◌, ◌⊎◌, ◌↔◌, Bool, not, cond, ℤ}
 use Rattle.std.proofs.Math.Path.{refl}
-use Rattle.std.proofs.Math.Logic.{inl, inr, ⊎_elim, Iff·trans}
+use Rattle.std.proofs.Math.Logic.{inl, inr, ⊎_elim}
+use Rattle.std.proofs.Math.Logic.Iff
 use Rattle.std.proofs.Math.Bool.{true, false, true≢false, false≢true}
 use mathlib.Core.List.{List, [], ◌∷◌, Memᴰ}
 use Rattle.model.specs.Tree.{Tree, Trees, plain, atom, compare, join, quantifier, some, nil, cons}
@@ -200,7 +201,7 @@ module _ (s : Structure) (ρ : List ℤ) where
       go true false true e = (λ h. decided-one true ts e, λ h. refl)
       go false true true e = (λ h. decided-one false ts e, λ h. refl)
       go false false true e = (λ h. absurd (false≢true h), λ h. absurd (consistent s (join false ts) ρ (decided-one false ts e) h))
-      go true true false e = Iff·trans (assemble-is true true (parts_all true ts)) (every-parts_all true ts e)
-      go true false false e = Iff·trans (assemble-is true false (parts_all true ts)) (one-parts_all true ts e)
-      go false true false e = Iff·trans (assemble-is false true (parts_all false ts)) (one-parts_all false ts e)
-      go false false false e = Iff·trans (assemble-is false false (parts_all false ts)) (every-parts_all false ts e)
+      go true true false e = Iff.trans (assemble-is true true (parts_all true ts)) (every-parts_all true ts e)
+      go true false false e = Iff.trans (assemble-is true false (parts_all true ts)) (one-parts_all true ts e)
+      go false true false e = Iff.trans (assemble-is false true (parts_all false ts)) (one-parts_all false ts e)
+      go false false false e = Iff.trans (assemble-is false false (parts_all false ts)) (every-parts_all false ts e)

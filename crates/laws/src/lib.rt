@@ -1,1 +1,2 @@
 // Theorems about the definitions of model: all of it stands in specs/.
+#![tactic(auto)]

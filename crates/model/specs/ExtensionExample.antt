@@ -34,12 +34,12 @@ front-row true true false true v h e = let z : ◌≡◌ {A = ℕ} 0 1 = cc in a
 
 pub row_in_front : Extends T (structure T one) (structure T two)
 unfolding computing one two
-row_in_front zero [] ground b e = absurd (omega arith)
-row_in_front zero (x ∷ []) ground b e = absurd (omega arith)
-row_in_front zero (x ∷ y ∷ []) ground b e = absurd (omega arith)
-row_in_front zero (x ∷ y ∷ z ∷ []) ground b e =
+row_in_front zero [] is_ground b e = absurd (omega arith)
+row_in_front zero (x ∷ []) is_ground b e = absurd (omega arith)
+row_in_front zero (x ∷ y ∷ []) is_ground b e = absurd (omega arith)
+row_in_front zero (x ∷ y ∷ z ∷ []) is_ground b e =
     front-row (equal (pos 7) x) (equal (pos 9) y) (equal (pos 100) z) (equal (pos 101) z) b (apart z) e
-row_in_front zero (x ∷ y ∷ z ∷ w ∷ more) ground b e = absurd (omega arith)
-row_in_front (suc zero) ns ground b e = e
-row_in_front (suc (suc zero)) ns ground b e = e
-row_in_front (suc (suc (suc p))) ns ground b e = absurd (omega arith)
+row_in_front zero (x ∷ y ∷ z ∷ w ∷ more) is_ground b e = absurd (omega arith)
+row_in_front (suc zero) ns is_ground b e = e
+row_in_front (suc (suc zero)) ns is_ground b e = e
+row_in_front (suc (suc (suc p))) ns is_ground b e = absurd (omega arith)

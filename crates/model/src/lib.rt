@@ -1,5 +1,7 @@
 // The answer of a call, and numbers of words that several crates name. What the cases of an answer mean as numbers is defined in
 // specs/Answer.antt.
+#![tactic(auto)]
+
 ghost use Rattle.std.specs.Prelude.{◌≡◌};
 ghost use Rattle.model.specs.Answer.{question, refusal_of};
 
@@ -39,6 +41,7 @@ pub enum Answer {
 }
 
 // The number of the question that a refusal answers with no.
+#[tactic(auto, unfolding(crate::specs::Answer::question))]
 pub fn number(refusal: Refusal) -> u32
     ensures { result ≡ question refusal }
 {
@@ -62,6 +65,7 @@ pub fn number(refusal: Refusal) -> u32
 }
 
 // The refusal with a number: of a number that no question has, the last.
+#[tactic(auto, unfolding(crate::specs::Answer::refusal_of, crate::specs::Answer::in_order))]
 pub fn refusal_of(n: usize) -> Refusal
     ensures { result ≡ refusal_of n }
 {

@@ -293,8 +293,8 @@ module _ (table : Words) (rows : List Words) where
       only_put : (f : Tree) (ρ : List ℤ) → Rules table (put f ρ) → R (put f ρ) ≡ reduce table rows f ρ
       only_put (plain b) ρ r = is.plains b
       only_put (atom b p ts) ρ r =
-          let ground = put_constants ρ ts r.formed.4 in
-          go (subst (λ (us : List Term). Rules table (atom b p us)) ground r) ground (value_in table rows p (map (number_of ρ) ts)) refl
+          let is_ground = put_constants ρ ts r.formed.4 in
+          go (subst (λ (us : List Term). Rules table (atom b p us)) is_ground r) is_ground (value_in table rows p (map (number_of ρ) ts)) refl
         where
           go :
               Rules table (ground_atom b p (map (number_of ρ) ts)) →
@@ -302,8 +302,8 @@ module _ (table : Words) (rows : List Words) where
               (x : Value) →
               value_in table rows p (map (number_of ρ) ts) ≡ x →
               R (atom b p (map (put_term ρ) ts)) ≡ settle x b (atom b p (map (put_term ρ) ts))
-          go r ground (known v) e = rw ground (is.known_atoms b p _ v r e)
-          go r ground unknown e = rw ground (is.open_atoms b p _ r e)
+          go r is_ground (known v) e = rw is_ground (is.known_atoms b p _ v r e)
+          go r is_ground unknown e = rw is_ground (is.open_atoms b p _ r e)
       only_put (compare b d x y) ρ r =
           rw (put-constant ρ x r.formed.0, put-constant ρ y r.formed.1) (is.comparisons b d (number_of ρ x) (number_of ρ y))
       only_put (join b ts) ρ r =
@@ -334,9 +334,9 @@ module _ (table : Words) (rows : List Words) where
       need_put_only : (f : Tree) (ρ : List ℤ) → Rules table (put f ρ) → N (put f ρ) ≡ need table rows f ρ
       need_put_only (plain b) ρ r = is.plains b
       need_put_only (atom b p ts) ρ r =
-          let ground = put_constants ρ ts r.formed.4 in
-          ap (λ (us : List Term). N (atom b p us)) ground
-          ∙ is.atoms b p (map (number_of ρ) ts) (subst (λ (us : List Term). Rules table (atom b p us)) ground r)
+          let is_ground = put_constants ρ ts r.formed.4 in
+          ap (λ (us : List Term). N (atom b p us)) is_ground
+          ∙ is.atoms b p (map (number_of ρ) ts) (subst (λ (us : List Term). Rules table (atom b p us)) is_ground r)
       need_put_only (compare b d x y) ρ r =
           rw (put-constant ρ x r.formed.0, put-constant ρ y r.formed.1) (is.comparisons b d (number_of ρ x) (number_of ρ y))
       need_put_only (join b ts) ρ r = is.joins b (put_all ts ρ) r ∙ need-most ts ρ (join-rules table b (put_all ts ρ) r)

@@ -3,7 +3,8 @@
 use Rattle.std.specs.Prelude.{ℕ, ◌+◌, ◌≡◌, ◌⊎◌, ◌↔◌, Bool, true, false, length, ltb, ℤ}
 use Rattle.std.proofs.Common.{arith, sym, ap, ◌∙◌, subst, true≢false, length-append}
 use Rattle.std.proofs.Math.Path.{refl}
-use Rattle.std.proofs.Math.Logic.{inl, inr, ⊎_elim, Iff·trans}
+use Rattle.std.proofs.Math.Logic.{inl, inr, ⊎_elim}
+use Rattle.std.proofs.Math.Logic.Iff
 use Rattle.std.proofs.Math.Bool.{cond}
 use mathlib.Core.List.{List, [], ◌∷◌, ◌++◌, map, append-nil, Memᴰ}
 use Rattle.model.specs.Words.{Words, same, member}
@@ -28,6 +29,7 @@ use Rattle.laws.specs.Reduction.Instances.{instances-passes, instances-length}
 module _ (s : Structure) (truth : Bool) (g : List ℤ → Tree) where
   every-each : (τs : List (List ℤ)) → Every (each g τs) s truth [] → {τ : List ℤ} → Memᴰ τ τs → Is (g τ) s truth []
   unfolding each Is
+  every-each [] h {τ = τ} m = elim m [ ]
   every-each (σ ∷ τs) h (Memᴰ.head e) = rw e h.0
   every-each (σ ∷ τs) h (Memᴰ.tail m) = every-each τs h.1 m
 
@@ -227,13 +229,13 @@ settle_is :
     (truth : Bool) →
     Is (settle (log p (map (number_of ρ) ts)) b (put (atom b p ts) ρ)) s truth [] ↔ Is (atom b p ts) s truth ρ
 unfolding settle Is Extends
-settle_is table log s extends b p ts ρ ground truth = go (log p (map (number_of ρ) ts)) refl
+settle_is table log s extends b p ts ρ is_ground truth = go (log p (map (number_of ρ) ts)) refl
   where
     go :
         (x : Value) → log p (map (number_of ρ) ts) ≡ x →
         Is (settle x b (put (atom b p ts) ρ)) s truth [] ↔ Is (atom b p ts) s truth ρ
     go (known a) e =
-        let k = extends p (map (number_of ρ) ts) ground a e in (
+        let k = extends p (map (number_of ρ) ts) is_ground a e in (
           λ h. k ∙ ap known (sym (ap (λ (x : Bool). same x b) h ∙ same-same a b)),
           λ h. sym (same-same truth b) ∙ ap (λ (x : Bool). same x b) (known_same (sym h ∙ k)),
         )
@@ -259,11 +261,11 @@ module _ (table : Words) (rows : List Words) (sound : Sound table rows) (s : Str
         settle_is table (value_in table rows) s extends b p ts ρ (ground_atom_lem table p ts ρ h.0 h.1) truth
     reduce-is (compare b d x y) ρ h m truth = compare-is b (sum_at_most d (number_of ρ x) (number_of ρ y)) truth
     reduce-is (join b ts) ρ h m truth =
-        Iff·trans
+        Iff.trans
         (joined_is s [] b truth (reduce_all table rows ts ρ))
         (alike-join s truth [] truth ρ b b (reduce_all table rows ts ρ) ts refl (reduce-alike ts ρ h.1 m truth))
     reduce-is (quantifier b v excluded c f) ρ h m truth =
-        Iff·trans
+        Iff.trans
         (joined_is s [] b truth _)
         (quantifier-is (value_in table rows) s v excluded (instances table rows v excluded c ρ) c f ρ (closed c table)
         (instances-passes table rows v excluded c ρ sound h.5 m.0 m.1)

@@ -4,7 +4,8 @@
 use Rattle.std.specs.Prelude.{ℕ, ◌≤◌, ◌-◌, ◌/◌, ◌≡◌, ◌↔◌, Bool, true, false, not, ◌||◌, length, take, leb, eqb}
 use Rattle.std.proofs.Common.{arith, sym, ◌∙◌, subst, take_at}
 use Rattle.std.proofs.Math.Path.{refl, ap}
-use Rattle.std.proofs.Math.Logic.{⊎_elim, Iff·trans}
+use Rattle.std.proofs.Math.Logic.{⊎_elim}
+use Rattle.std.proofs.Math.Logic.Iff
 use Rattle.std.proofs.lemmas.Bool.{false≢true}
 use mathlib.Core.List.{List, [], ◌∷◌, ◌++◌}
 use Rattle.model.specs.declared.Answer.TheVariants.{Accepted}
@@ -222,7 +223,7 @@ module _ (table log : Words) (logged : ask_log table log ≡ passed tt) where
         let rest = and_right (not (accepted (leaves table log policy call).answer) || clear table log call.part) _ c in
         ⊎_elim
         (λ a.
-        Iff·trans
+        Iff.trans
         (run_is calls later (residual tree call) last (after-policy policy tree call e a) h rest t)
         (reduced-is policy tree call e (clear-part _ _ a (and_left _ _ c)) t))
         (λ a. run_is calls later tree last (rw (after-refused policy tree call e a) e) h rest t)

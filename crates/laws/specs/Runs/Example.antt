@@ -86,6 +86,7 @@ extends larger (Memᴰ.tail (Memᴰ.head e)) = rw e (accepted-extends in_front r
 extends larger (Memᴰ.tail (Memᴰ.tail (Memᴰ.head e))) = rw e (accepted-extends reversed refl refl refl)
 extends larger (Memᴰ.tail (Memᴰ.tail (Memᴰ.tail (Memᴰ.head e)))) =
     rw e (accepted-extends wide refl refl refl)
+extends larger (Memᴰ.tail (Memᴰ.tail (Memᴰ.tail (Memᴰ.tail m)))) = elim m [ ]
 
 -- the policy held at the end is true, and false, in each of them as the first policy is
 pub same_in_extensions :

@@ -71,8 +71,8 @@ pub logs_extend :
     ((p : ℕ) (ns : List ℤ) → GroundAtom table p ns → (b : Bool) → Says table rows p ns b → Says table larger p ns b) →
     Extends table (value_in table rows) (value_in table larger)
 unfolding Extends
-logs_extend table rows larger sound h p ns ground b e =
-    says_value table larger p ns b sound ground.1 (h p ns ground b (value_says table rows p ns b e))
+logs_extend table rows larger sound h p ns is_ground b e =
+    says_value table larger p ns b sound is_ground.1 (h p ns is_ground b (value_says table rows p ns b e))
 
 -- and only then
 pub extend_logs :
@@ -85,8 +85,8 @@ pub extend_logs :
     Says table rows p ns b →
     Says table larger p ns b
 unfolding Extends
-extend_logs table rows larger sound h p ns ground b s =
-    value_says table larger p ns b (h p ns ground b (says_value table rows p ns b sound ground.1 s))
+extend_logs table rows larger sound h p ns is_ground b s =
+    value_says table larger p ns b (h p ns is_ground b (says_value table rows p ns b sound is_ground.1 s))
 
 -- rows that have all rows of a log, wherever they stand, and otherwise none that makes true an atom of a complete predicate, extend it
 pub rows_extend :
@@ -98,8 +98,8 @@ pub rows_extend :
 rows_extend table rows larger sound inside others = logs_extend table rows larger sound go
   where
     go : (p : ℕ) (ns : List ℤ) → GroundAtom table p ns → (b : Bool) → Says table rows p ns b → Says table larger p ns b
-    go p ns ground b (by_row row m h q) = by_row row (member-true row larger (all_mem _ inside m)) h q
-    go p ns ground b (by_completeness none c q) =
+    go p ns is_ground b (by_row row m h q) = by_row row (member-true row larger (all_mem _ inside m)) h q
+    go p ns is_ground b (by_completeness none c q) =
         let (v, e) = complete-known table larger p ns c in still v e
       where
         -- a row that says true stands in the log, where none holds the atom, or is of no complete predicate
