@@ -1,4 +1,6 @@
 // The public calls of the auditor. Each makes every check itself and answers as model's definition of it says.
+#![tactic(auto)]
+
 ghost use Rattle.std.specs.Prelude.{◌≡◌, length};
 ghost use Rattle.model.specs.Answer.{count, AnswersAs};
 ghost use Rattle.model.specs.Calls as C;

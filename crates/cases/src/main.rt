@@ -1,6 +1,8 @@
 // The cases of each call that standard input lists, and a line for each: its name, and number, place and count of the answer; of a
 // call that writes, also the words or bytes of the buffer, and of reduce, on a second line, those of scratch. Table T, log A, formula F
 // and the cases P are those of the specification.
+#![tactic(auto)]
+
 mod lists;
 mod print;
 

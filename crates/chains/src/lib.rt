@@ -1,4 +1,6 @@
 // The rows of a log chained by key, and the search for an atom's row along a chain.
+#![tactic(auto)]
+
 pub mod chain;
 pub mod key;
 pub mod search;

@@ -1,4 +1,6 @@
 // The checks of a policy and of a log, which the calls make first.
+#![tactic(auto)]
+
 ghost use Rattle.std.specs.Prelude.{◌≡◌};
 ghost use Rattle.model.specs.Answer.{AnswersAs};
 ghost use Rattle.model.specs.Log.{ask_log};

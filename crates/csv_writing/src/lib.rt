@@ -1,4 +1,6 @@
 // Logs as comma-separated text: the writing of rows and logs into a buffer that may be too short.
+#![tactic(auto)]
+
 pub mod row;
 
 ghost use Rattle.std.specs.Prelude.{◌≡◌};

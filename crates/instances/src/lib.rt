@@ -1,4 +1,6 @@
 // The instances of a quantifier, and whether its restriction is closed.
+#![tactic(auto)]
+
 pub mod choosing;
 pub mod closing;
 pub mod seen;

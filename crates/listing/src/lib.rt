@@ -1,3 +1,5 @@
 // The listing of a restriction.
+#![tactic(auto)]
+
 pub mod keeping;
 pub mod restriction;

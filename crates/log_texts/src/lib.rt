@@ -1,4 +1,6 @@
 // Logs as comma-separated text, read to the front of a buffer and written there. What stands behind is left open.
+#![tactic(auto)]
+
 ghost use Rattle.std.specs.Prelude.{◌≡◌, ◌*◌, ◌≤◌, length};
 ghost use Rattle.model.specs.Answer.{passed};
 ghost use Rattle.model.specs.Table.{ask_table};

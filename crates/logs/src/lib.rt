@@ -1,4 +1,6 @@
 // The log: the value of an atom, questions 8, 9 and 10, and all links of a log.
+#![tactic(auto)]
+
 pub mod links;
 pub mod log;
 pub mod value;

@@ -1,3 +1,5 @@
 // The policy: questions 2 to 6, in one walk.
+#![tactic(auto)]
+
 pub mod node;
 pub mod policy;

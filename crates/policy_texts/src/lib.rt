@@ -1,4 +1,6 @@
 // Policies as text in the TPTP typed form, read to the front of a buffer and written there. What stands behind is left open.
+#![tactic(auto)]
+
 ghost use Rattle.std.specs.Prelude.{◌≡◌, length};
 ghost use Rattle.model.specs.Answer.{answer};
 ghost use Rattle.policy_texts.specs.PolicyText.{settled_policy, ReadsPolicy, WritesPolicy};

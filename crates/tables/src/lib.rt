@@ -1,4 +1,6 @@
 // The predicate table: its records, and question 1.
+#![tactic(auto)]
+
 pub mod table;
 
 use model::Refusal;

@@ -1,4 +1,6 @@
 // Texts: their bytes, and numbers in decimal, read, stored as words and written.
+#![tactic(auto)]
+
 pub mod bytes;
 pub mod reading;
 pub mod word;

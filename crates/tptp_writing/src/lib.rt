@@ -1,4 +1,6 @@
 // An accepted policy as text in the TPTP typed form, written into a buffer that may be too short.
+#![tactic(auto)]
+
 mod tree;
 
 ghost use Rattle.std.specs.Prelude.{◌≡◌};

@@ -1,5 +1,7 @@
 // The calls of the auditor for other languages: each returns the number of its answer, 0 if accepted, and writes the count, or
 // the place if refused, through `detail`.
+#![tactic(auto)]
+
 ghost use Rattle.std.specs.Prelude.{◌≡◌, length};
 ghost use Rattle.model.specs.Answer.{number};
 ghost use Rattle.model.specs.Calls as C;

@@ -1,5 +1,7 @@
 // Words: reads of and tests on the signed numbers of a slice. The checks go through these, and so never hold a signed
 // number themselves. Past the end of a slice stands 0. The modules copy, move and clear words.
+#![tactic(auto)]
+
 pub mod clearing;
 pub mod copying;
 pub mod moving;

@@ -10,8 +10,7 @@ use mir.Val.{Fits, SFits, to_z, of_z}
 use mir.Facts.{to_z-of_z, sfits_widen}
 use Rattle.words.specs.Offset.{from_least}
 use Rattle.words.proofs.Signed.{raised}
-use Rattle.words.proofs.from_least.Statement.{statement}
-use Rattle.words.proofs.from_least.Tie as tie
+use Rattle.words.proofs.from_least.Goals as goal
 
 module _ (x : ℤ) (h : SFits w32 x) where
   -- the word is read back as it was, at both widths
@@ -30,19 +29,7 @@ module _ (x : ℤ) (h : SFits w32 x) where
       let (y, e, b) = raised x h in
       subst (λ (z : ℤ). T (non_neg z) × Fits w64 (nat_abs z)) (sym e) (tt, record { fits = omega arith })
 
-cast-result : tie.Need-overflow-cast-result
-cast-result c = rw (to_z-of_z c.ranges.x) (sfits_widen tt c.ranges.x)
 
-add-result : tie.Need-overflow-add-result
-add-result c = subst (λ (z : ℤ). SFits w64 (z +ℤ pos (2 ^ 31))) (sym (wide c.args.x c.ranges.x)) (sum_fits c.args.x c.ranges.x)
-
-cast-result-2 : tie.Need-overflow-cast-result-2
-cast-result-2 c =
-    subst (λ (z : ℤ). T (non_neg z) × Fits w64 (nat_abs z)) (sym (read_back c.args.x c.ranges.x)) (sum_number c.args.x c.ranges.x)
-
-returns : tie.Need-returns
+pub returns : goal.returns
 unfolding from_least
 returns c = ap nat_abs (read_back c.args.x c.ranges.x)
-
-pub from_least_spec : {M : Type 1} → statement M
-from_least_spec = tie.close (tie.spec cast-result add-result cast-result-2 returns)

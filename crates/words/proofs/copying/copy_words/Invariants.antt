@@ -1,0 +1,17 @@
+-- `words::copying::copy_words` meets its contract. The loop's invariant: the first i words are copied.
+use Prim.Native.Nat.{◌+◌, ◌-◌}
+use native.Mathlib.Omega.{arith}
+use mathlib.Core.Path.{◌≡◌}
+use lib.ListN.{get_or}
+use lib.IntN.{pos}
+use mir.Syntax.{w32}
+use mir.Val.{to_z, of_z}
+use borrow.Author.Rules.{rules}
+use Rattle.words.proofs.CopyingLaws.{Wordwise, words-start, words_long, words-room, words_more, words_end}
+use Rattle.words.proofs.copying.copy_words.Given as goal
+
+abbrev pub invariant-loop-i : goal.invariant-loop-i
+invariant-loop-i l = Wordwise l.words l.from l.n l.initial.out l.to l.i l.out
+
+abbrev pub decreases-loop-i : goal.decreases-loop-i
+decreases-loop-i l = l.n - l.i
