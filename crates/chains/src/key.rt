@@ -7,7 +7,7 @@ use model::{ARGUMENTS_FROM, ROW_WORDS};
 
 // By what rows are chained: all of them by their atoms; the true ones by their predicates; the true ones by their predicates and
 // first arguments.
-#[derive(Drop)]
+#[derive(Clone, Copy)]
 pub enum Kind {
     Atom,
     Predicate,

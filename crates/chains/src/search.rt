@@ -10,7 +10,7 @@ use crate::key;
 use model::{ARGUMENTS_FROM, ROW_WORDS};
 
 // The row that a search finds.
-#[derive(Drop)]
+#[derive(Clone, Copy)]
 pub enum Found {
     At(usize),
     Nothing,

@@ -7,7 +7,7 @@ use text::{bytes, reading};
 
 // What stands behind a field: a byte that no allowed text has there, or the text's end too early, with the place; or a comma,
 // or the end of the record, which is CRLF or that of the text, with the index behind it.
-#[derive(Drop)]
+#[derive(Clone, Copy)]
 pub enum End {
     Bad(usize),
     Comma(usize),
@@ -15,7 +15,7 @@ pub enum End {
 }
 
 // What is read where a field stands: whether it is a number, and which; and what stands behind it.
-#[derive(Drop)]
+#[derive(Clone, Copy)]
 pub struct Field {
     pub magnitude: usize,
     pub negative: bool,
@@ -24,7 +24,7 @@ pub struct Field {
 }
 
 // What is read behind a quote: a place where no allowed text goes on so; or the index behind the closing quote.
-#[derive(Drop)]
+#[derive(Clone, Copy)]
 pub enum Closed {
     Bad(usize),
     At(usize),

@@ -15,7 +15,7 @@ use words::clearing::clear;
 
 // What is read where a record stands: a place where no allowed text goes on so; or the index behind the record, and whether it
 // spells a row.
-#[derive(Drop)]
+#[derive(Clone, Copy)]
 pub enum Line {
     Bad(usize),
     Read(usize, bool),

@@ -8,7 +8,7 @@ use crate::record::{Line, record};
 use model::{ROW_WORDS, Refusal};
 
 // What is read of a text: a refusal with its place, or the number of rows.
-#[derive(Drop)]
+#[derive(Clone, Copy)]
 pub enum Rows {
     Refused(Refusal, usize),
     Read(usize),

@@ -46,7 +46,7 @@ fn numbers_at(words: &[i32], at: usize) -> [i32; 16]
 }
 
 // The numbers of the variables, 0 for a free one, and whether each is bound.
-#[derive(Drop)]
+#[derive(Clone, Copy)]
 pub struct Environment {
     pub numbers: [i32; 16],
     pub marks: [bool; 16],

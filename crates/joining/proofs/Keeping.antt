@@ -149,11 +149,11 @@ module _ {out : Words} {j : Join} {k : ℕ} (a : Adding out j (Part k)) where
       same_kind_lem = P.parts_same a.b a.t (sym tells ∙ e)
 
       abbrev us : Trees
-      us = same_kind.0
+      us = same_kind_lem.0
 
       words_are : encode a.t ≡ pos (cond a.b 6 7) ∷ pos (count us) ∷ encode_all us
       unfolding encode
-      words_are = ap encode same_kind.1
+      words_are = ap encode same_kind_lem.1
 
       long-is : k ≡ 2 + length (encode_all us)
       long-is = omega (arith, told_so.1.1, ap length words_are)
@@ -184,7 +184,7 @@ module _ {out : Words} {j : Join} {k : ℕ} (a : Adding out j (Part k)) where
           let less : k - 2 ≡ length (encode_all us) = omega (arith, long-is) in
           let moved : take (k - 2) (drop (j.words + 2) out) ≡ encode_all us
           = behind-two out j.words k (k - 2) _ _ (encode_all us) (stands ∙ words_are) (omega (arith, long-is)) part_room in
-          grow after (j.parts + n) (j.words + (k - 2)) us same_kind.2
+          grow after (j.parts + n) (j.words + (k - 2)) us same_kind_lem.2
           (omega (arith, less))
           (omega (arith, m, number_is))
           (ap (take (j.words + (k - 2))) (f ∙ ap (laid out j.words) moved)

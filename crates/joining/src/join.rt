@@ -39,7 +39,7 @@ fn head(out: &mut [i32], kind: bool, parts: usize, n: usize)
 
 // A join of a kind (true: all-of) after some children: whether the places ran out, whether a child decides it, whether its
 // parts don't fit; and else how many parts there are, and the words that they take at the front.
-#[derive(Drop)]
+#[derive(Clone, Copy)]
 pub struct Join {
     pub kind: bool,
     pub short: bool,

@@ -20,7 +20,7 @@ use policies::node::Tag;
 
 // The list handed to a node, the first place behind all lists that are still read, the places counted so far, and how many
 // there are. Document 01 counts a place for each entry of each list; a list that is read no more makes room for the next.
-#[derive(Drop)]
+#[derive(Clone, Copy)]
 pub struct Room {
     pub from: usize,
     pub count: usize,
@@ -88,7 +88,7 @@ impl Room {
 }
 
 // The places ran out; or the room with the list made, and the index behind the node.
-#[derive(Drop)]
+#[derive(Clone, Copy)]
 pub enum Made {
     Short,
     List(Room, usize),

@@ -13,7 +13,7 @@ use model::ROW_WORDS;
 use tables::table;
 
 // What a log knows of an atom.
-#[derive(Drop)]
+#[derive(Clone, Copy)]
 pub enum Value {
     True,
     False,

@@ -13,7 +13,7 @@ use environments::terms;
 use model::{ARGUMENTS_FROM, ROW_WORDS};
 
 // Whether a row fits, and the environment that it makes if it does.
-#[derive(Drop)]
+#[derive(Clone, Copy)]
 pub struct Matched {
     pub environment: Environment,
     pub fits: bool,

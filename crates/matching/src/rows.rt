@@ -18,14 +18,14 @@ use logs::links;
 use model::ROW_WORDS;
 
 // How many places were filled, or that they ran out.
-#[derive(Drop)]
+#[derive(Clone, Copy)]
 pub enum Added {
     Short,
     Places(usize),
 }
 
 // A chain of true rows: where its links begin, how many keys they have, and its key.
-#[derive(Drop)]
+#[derive(Clone, Copy)]
 pub struct Way {
     pub from: usize,
     pub keys: usize,

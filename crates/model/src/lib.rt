@@ -14,7 +14,7 @@ pub const ARGUMENTS_FROM: usize = 2;
 pub const POLICY_LIMIT: usize = 1048576;
 
 // The questions of the specification in the order of their numbers, each named for what it asks about.
-#[derive(Drop)]
+#[derive(Clone, Copy)]
 pub enum Refusal {
     Table,
     PolicyLength,
@@ -34,7 +34,7 @@ pub enum Refusal {
 }
 
 // Accepted, with the call's count; or refused, with the question and the place.
-#[derive(Drop)]
+#[derive(Clone, Copy)]
 pub enum Answer {
     Accepted(usize),
     Refused(Refusal, usize),

@@ -19,7 +19,7 @@ use policies::node::{Role, Tag};
 use tables::{Checked, table};
 
 // What a restriction binds: whether the mode rule passed, the variables bound after it, and the index behind it.
-#[derive(Drop)]
+#[derive(Clone, Copy)]
 pub struct Bound {
     pub asked: Checked,
     pub set: [bool; 16],
@@ -27,7 +27,7 @@ pub struct Bound {
 }
 
 // Whether the mode rule passed at a formula, and the index behind it.
-#[derive(Drop)]
+#[derive(Clone, Copy)]
 pub enum Moded {
     Passed(usize),
     Refused(Refusal, usize),

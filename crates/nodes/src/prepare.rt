@@ -16,7 +16,7 @@ use listing::restriction::{Made, Room};
 
 // The instances of a quantifier: the first place where their tuples stand, how many they are, the places counted so far, and the
 // index of the body.
-#[derive(Drop)]
+#[derive(Clone, Copy)]
 pub struct Placed {
     pub from: usize,
     pub count: usize,
@@ -25,7 +25,7 @@ pub struct Placed {
 }
 
 // The places ran out; or the instances.
-#[derive(Drop)]
+#[derive(Clone, Copy)]
 pub enum Prepared {
     Short,
     Instances(Placed),

@@ -18,7 +18,7 @@ pub const LEVEL_LIMIT: usize = 64;
 pub const SCOPE_LIMIT: usize = 16;
 
 // The tags of nodes. Of two that are each other's dual, true is the first.
-#[derive(Drop)]
+#[derive(Clone, Copy)]
 pub enum Tag {
     Plain(bool),
     Atom(bool),
@@ -30,7 +30,7 @@ pub enum Tag {
 }
 
 // What a node is to the node above it.
-#[derive(Drop)]
+#[derive(Clone, Copy)]
 pub enum Role {
     Restriction,
     Formula,

@@ -11,7 +11,7 @@ use model::{POLICY_LIMIT, Refusal};
 use tables::Checked;
 
 // What comes of reading nodes: the index behind them and their greatest level, or the first refusal with its place.
-#[derive(Drop)]
+#[derive(Clone, Copy)]
 pub enum Walked {
     Read(usize, usize),
     Refused(Refusal, usize),

@@ -21,14 +21,14 @@ use policies::node::{Role, Tag};
 use trees::walk;
 
 // The answer of a walk, and the index behind the formula.
-#[derive(Drop)]
+#[derive(Clone, Copy)]
 pub struct Walked {
     pub answer: Reduced,
     pub next: usize,
 }
 
 // The join of the bodies at the instances, and the index behind the body.
-#[derive(Drop)]
+#[derive(Clone, Copy)]
 pub struct Worked {
     pub join: Join,
     pub next: usize,

@@ -6,7 +6,7 @@ pub mod table;
 use model::Refusal;
 
 // What comes of questions asked in order.
-#[derive(Drop)]
+#[derive(Clone, Copy)]
 pub enum Checked {
     Passed,
     Refused(Refusal, usize),

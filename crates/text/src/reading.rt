@@ -9,14 +9,14 @@ ghost use Rattle.text.specs.Reading as N;
 use crate::bytes;
 
 // What is read where digits may stand: the index behind them, and the number that they stand for, as far as it is followed.
-#[derive(Drop)]
+#[derive(Clone, Copy)]
 pub struct Digits {
     pub next: usize,
     pub magnitude: usize,
 }
 
 // What is read where a number may stand: the index behind its minus and digits, whether these spell a number, and which.
-#[derive(Drop)]
+#[derive(Clone, Copy)]
 pub struct Number {
     pub next: usize,
     pub magnitude: usize,

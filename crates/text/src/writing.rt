@@ -10,7 +10,7 @@ use crate::bytes;
 use model::{Answer, Refusal};
 
 // What a writing leaves: too little room, or the index behind what was written.
-#[derive(Drop)]
+#[derive(Clone, Copy)]
 pub enum Put {
     Full,
     At(usize),

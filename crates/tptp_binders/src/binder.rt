@@ -12,7 +12,7 @@ use tptp_tokens::behind::{then_expect, then_token};
 use tptp_tokens::tokens::{Step, expect, skip};
 
 // What comes of several things: the index behind them, or a refusal; and how many they are.
-#[derive(Drop)]
+#[derive(Clone, Copy)]
 pub struct Counted {
     pub end: Step,
     pub count: usize,

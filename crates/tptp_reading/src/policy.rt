@@ -15,7 +15,7 @@ use tptp_tokens::name::then_name;
 use tptp_tokens::tokens::{Step, skip, token};
 
 // What comes of a text: the index behind it, or a refusal with its place; and what is known there, of a refusal nothing.
-#[derive(Drop)]
+#[derive(Clone, Copy)]
 pub struct Came {
     pub end: Step,
     pub state: State,

@@ -24,7 +24,7 @@ use policies::node::Role;
 use tables::Checked;
 use tptp_tokens::laying::more_words;
 
-#[derive(Drop)]
+#[derive(Clone, Copy)]
 pub struct State {
     pub words: usize,
     pub asked: Checked,

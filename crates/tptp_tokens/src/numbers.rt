@@ -7,14 +7,14 @@ use model::Refusal;
 use text::bytes;
 
 // What comes of digits: the index behind them and their number, or a refusal with its place.
-#[derive(Drop)]
+#[derive(Clone, Copy)]
 pub enum Digits {
     Read(usize, usize),
     Refused(Refusal, usize),
 }
 
 // What comes of a number: the index behind it, whether it has a minus, and its magnitude; or a refusal with its place.
-#[derive(Drop)]
+#[derive(Clone, Copy)]
 pub enum Signed {
     Read(usize, bool, usize),
     Refused(Refusal, usize),

@@ -8,7 +8,7 @@ use model::Refusal;
 use text::bytes;
 
 // What comes of a token: the index behind it, or a refusal with its place.
-#[derive(Drop)]
+#[derive(Clone, Copy)]
 pub enum Step {
     At(usize),
     Refused(Refusal, usize),

@@ -14,7 +14,7 @@ use text::writing::Put;
 use tptp_putting::{tokens, tuples};
 
 // What the writing of nodes leaves: too little room, or the index of the word behind them and that of the byte behind their text.
-#[derive(Drop)]
+#[derive(Clone, Copy)]
 pub enum Printed {
     Full,
     At(usize, usize),

@@ -6,8 +6,7 @@ use lib.ListN.{length, get_or-eq_default}
 use lib.IntN.{pos}
 use borrow.Author.Rules.{rules}
 use Rattle.model.specs.Words.{Words, record_words, word}
-use Rattle.tables.proofs.table.index.Statement.{statement}
-use Rattle.tables.proofs.table.index.Tie as tie
+use Rattle.tables.proofs.table.index.Goals as goal
 
 -- the word at an index past the end
 past : (words : Words) (i : ℕ) → length words ≤ i → word words i ≡ pos 0
@@ -17,17 +16,5 @@ past words i h = get_or-eq_default words (pos 0) h
 no_record : (table : Words) (p k : ℕ) → length table ≤ p → word table p ≡ word table (record_words * p + k)
 no_record table p k h = past table p h ∙ sym (past table (record_words * p + k) (omega arith))
 
-returns : tie.Need-returns
-returns c = let a = c.before.args in no_record a.table.now a.p a.k c.if1.true
-
-mul-result : tie.Need-overflow-mul-result
-mul-result c = search rules
-
-add-result : tie.Need-overflow-add-result
-add-result c = search rules
-
-returns-2 : tie.Need-returns-2
-returns-2 c = refl
-
-pub index_spec : {M : Type 1} → statement M
-index_spec = tie.close (tie.spec returns mul-result add-result returns-2)
+pub returns-then-table-p : goal.returns-then-table-p
+returns-then-table-p c = let a = c.args in no_record a.table.now a.p a.k c.if-table-p.true

@@ -1,0 +1,31 @@
+-- `joining::join::Join::add` meets its contract, by the answer: what each makes of the state is said in Adding.
+use mathlib.Core.Path.{◌≡◌}
+use mathlib.Core.Bool.{true, false}
+use Rattle.model.specs.Words.{same}
+use Rattle.joining.proofs.Adding as A
+use borrow.Author.Rules.{rules}
+use Rattle.joining.proofs.join.Join.add.Goals as goal
+
+
+pub returns-then-value-self : goal.returns-then-value-self
+returns-then-value-self c =
+    let answer = c.answer-1 in
+    let a_2 = c.args in
+    let e : same answer.given.0.0 a_2.self.kind ≡ true = c.if-value-self.true in
+    λ a. A.add_vanishing answer.given.0.0 (A.retold answer.given.1 a) e
+
+pub returns-in-Short : goal.returns-in-Short
+returns-in-Short c = λ a. A.add_short (A.retold c.in-Short.is a)
+
+pub returns-else-value-self : goal.returns-else-value-self
+returns-else-value-self c =
+    let answer = c.answer-1 in
+    let a_2 = c.args in
+    let e : same answer.given.0.0 a_2.self.kind ≡ false = c.if-value-self.false in
+    λ a. A.add_deciding answer.given.0.0 (A.retold answer.given.1 a) e
+
+pub returns-in-Long : goal.returns-in-Long
+returns-in-Long c = λ a. A.add_long (A.retold c.in-Long.is a)
+
+pub returns-in-Part : goal.returns-in-Part
+returns-in-Part c = λ a. c.keep.ensures (A.retold c.in-Part.is a)

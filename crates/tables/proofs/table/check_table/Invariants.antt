@@ -1,0 +1,27 @@
+-- `tables::table::check_table` meets its contract. The loop's invariant: the records passed are good, so question 1 comes to
+-- the questions at those left. The measure is their number.
+use Prim.Native.Nat.{ℕ, ◌-◌, ◌/◌, ◌%◌, ◌≤◌}
+use native.Mathlib.Nat.{sub-zero}
+use native.Mathlib.Omega.{arith}
+use mathlib.Core.Path.{◌≡◌, sym, ap, ◌∙◌}
+use mathlib.Core.Bool.{true, false}
+use borrow.Author.Tests.{not-true, not-false, eq-eqb, ne_eqb, le-leb, lt-leb}
+use lib.ListN.{length}
+use lib.Dec.{eqb, leb}
+use Rattle.model.specs.declared.Refusal.TheVariants.{Table}
+use Rattle.model.specs.Words.{Words}
+use Rattle.model.specs.Lists.{span}
+use Rattle.model.specs.Answer.{Outcome, passed, refused, ask, in_turn, ◌>>=◌}
+use Rattle.model.specs.Table.{predicates, good_record, ask_table}
+use Rattle.laws.specs.Answer.{turn_step, turn_stop, turn_end}
+use Rattle.tables.proofs.table.check_table.Given as goal
+
+-- question 1 at one record
+unfoldable pub record_question : Words → ℕ → Outcome (Unit {0})
+record_question table p = ask (good_record table p) Table p
+
+abbrev pub invariant-loop-p : goal.invariant-loop-p
+invariant-loop-p l = (l.n ≤ 256) × (l.p ≤ l.n) × (ask_table l.table ≡ in_turn (record_question l.table) (span l.p (l.n - l.p)))
+
+abbrev pub decreases-loop-p : goal.decreases-loop-p
+decreases-loop-p l = l.n - l.p
