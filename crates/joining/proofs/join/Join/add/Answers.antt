@@ -9,20 +9,18 @@ use Rattle.joining.proofs.join.Join.add.Goals as goal
 
 pub returns-then-value-self : goal.returns-then-value-self
 returns-then-value-self c =
-    let answer = c.answer-1 in
     let a_2 = c.args in
-    let e : same answer.given.0.0 a_2.self.kind ≡ true = c.if-value-self.true in
-    λ a. A.add_vanishing answer.given.0.0 (A.retold answer.given.1 a) e
+    let e : same c.in-Plain.value a_2.self.kind ≡ true = c.if-value-self.true in
+    λ a. A.add_vanishing c.in-Plain.value (A.retold c.in-Plain.is a) e
 
 pub returns-in-Short : goal.returns-in-Short
 returns-in-Short c = λ a. A.add_short (A.retold c.in-Short.is a)
 
 pub returns-else-value-self : goal.returns-else-value-self
 returns-else-value-self c =
-    let answer = c.answer-1 in
     let a_2 = c.args in
-    let e : same answer.given.0.0 a_2.self.kind ≡ false = c.if-value-self.false in
-    λ a. A.add_deciding answer.given.0.0 (A.retold answer.given.1 a) e
+    let e : same c.in-Plain.value a_2.self.kind ≡ false = c.if-value-self.false in
+    λ a. A.add_deciding c.in-Plain.value (A.retold c.in-Plain.is a) e
 
 pub returns-in-Long : goal.returns-in-Long
 returns-in-Long c = λ a. A.add_long (A.retold c.in-Long.is a)

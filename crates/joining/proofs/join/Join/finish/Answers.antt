@@ -40,9 +40,8 @@ returns-then-out-self-ge2 c =
     let o = undecided in
     let none = c.if-self-eq0.false in
     let one = c.if-self-eq1.false in
-    let h = c.head in
-    λ b ts need places s. F.finish-part s o.0 o.1 o.2 none one _ h.auto.0
-    (omega (arith, s.within, c.if-out-self-ge2.true)) h.ensures
+    λ b ts need places s. F.finish-part s o.0 o.1 o.2 none one _ c.head.auto.out
+    (omega (arith, s.within, c.if-out-self-ge2.true)) c.head.ensures
 
 pub returns : goal.returns
 returns c =

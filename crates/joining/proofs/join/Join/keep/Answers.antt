@@ -9,15 +9,16 @@ use Rattle.model.specs.Words.{word, equal}
 use Rattle.joining.proofs.Keeping as K
 use borrow.Author.Rules.{rules}
 use Rattle.joining.proofs.join.Join.keep.Goals as goal
+use Rattle.joining.proofs.join.Join.keep.Goals.{then-self-via-then-self, then-self-via-else-self+then-self-2, then-self-via-else-self+else-self-2+then-self-3}
 
 
 pub returns-then-self : goal.returns-then-self
 returns-then-self c =
-    λ a.
-    ⊎_elim
-    (λ w. K.keep-short a w.taken)
-    (⊎_elim (λ w. K.keep-decided a w.1.taken) (λ w. K.keep-long a w.2.taken))
-    c.if-self.branch
+    λ a. elim c.then-self.branch [
+      then-self-via-then-self w ↦ K.keep-short a w.if-self.true
+    | then-self-via-else-self+then-self-2 w ↦ K.keep-decided a w.if-self-2.true
+    | then-self-via-else-self+else-self-2+then-self-3 w ↦ K.keep-long a w.if-self-3.true
+    ]
 
 pub overflow_sub-k : goal.overflow_sub-k
 overflow_sub-k c =
@@ -62,9 +63,7 @@ returns-then-is_join c =
     let same : let a = c.args in equal (word a.out.now a.self.words) (pos (cond a.self.kind 6 7)) ≡ true = sym c.is_join.ensures ∙ c.if-is_join.true in
     let o = undecided in
     let e = same in
-    let v = c.value-count in
-    let l = c.left in
-    λ a. K.keep-children a o.0 o.1 o.2 e _ l.auto.0 l.ensures v.result v.ensures
+    λ a. K.keep-children a o.0 o.1 o.2 e _ c.left.auto.out c.left.ensures c.value-count.result c.value-count.ensures
 
 pub overflow_add-result-2 : goal.overflow_add-result-2
 overflow_add-result-2 c =

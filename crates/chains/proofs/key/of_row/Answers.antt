@@ -1,0 +1,22 @@
+-- `chains::key::of_row` meets its contract: one test.
+use mathlib.Core.Path.{sym, ap, ◌∙◌}
+use Prim.Native.Nat.{ℕ, ◌+◌, ◌*◌}
+use borrow.Author.Tests.{not-true, not-false}
+use Rattle.model.specs.Words.{word}
+use Rattle.chains.specs.Key.{first_spread}
+use Rattle.chains.proofs.Keys.{first-not, first-here}
+use borrow.Author.Rules.{rules}
+use Rattle.chains.proofs.key.of_row.Goals as goal
+
+
+pub returns-then-not-is : goal.returns-then-not-is
+returns-then-not-is c =
+    let a = c.args in
+    first-not a.log.now a.row (sym c.is.ensures ∙ c.if-not-is.true)
+
+pub returns : goal.returns
+returns c =
+    let a = c.args in
+    c.of_first.ensures ∙ ap (λ (p : ℕ). first_spread p (word a.log.now (8 * a.row + 2)))
+    c.value.ensures ∙ first-here a.log.now a.row
+    (sym c.is.ensures ∙ c.if-not-is.false)

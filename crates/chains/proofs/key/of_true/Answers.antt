@@ -1,0 +1,28 @@
+-- `chains::key::of_true` meets its contract: two tests, one after another.
+use mathlib.Core.Path.{sym, ◌∙◌}
+use borrow.Author.Tests.{not-true, not-false}
+use Rattle.chains.proofs.Keys.{true-not, true-none, true-here}
+use borrow.Author.Rules.{rules}
+use Rattle.chains.proofs.key.of_true.Reads as reads
+use Rattle.words.proofs.below.Reads as below-reads
+use Rattle.words.proofs.is.Reads as is-reads
+use Rattle.words.proofs.value.Reads as value-reads
+use Rattle.chains.proofs.key.of_true.Goals as goal
+
+
+pub returns-then-not-is : goal.returns-then-not-is
+returns-then-not-is c =
+    let a = c.args in
+    true-not a.log.now a.row (sym c.is.ensures ∙ c.if-not-is.true)
+
+pub returns-then-not-below : goal.returns-then-not-below
+returns-then-not-below c =
+    let a = c.args in
+    true-none a.log.now a.row (sym c.below.ensures ∙ c.if-not-below.true)
+
+pub returns : goal.returns
+returns c =
+    c.value.ensures
+    ∙ true-here c.args.log.now c.args.row
+    (sym c.is.ensures ∙ c.if-not-is.false)
+    (sym c.below.ensures ∙ c.if-not-below.false)

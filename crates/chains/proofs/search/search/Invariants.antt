@@ -1,0 +1,31 @@
+-- `chains::search::search` meets its contract. The outer invariant: the rows passed don't hold the atom, so the search comes to
+-- that through what is left of the chain. The inner one: the row has the predicate, and holds the atom if its arguments from
+-- i on are the atom's. The measures are the link, which falls along a chain, and the arguments left.
+use Prim.Native.Nat.{ℕ, ◌+◌, ◌*◌, ◌-◌, ◌/◌, ◌≤◌, ◌<◌}
+use native.Mathlib.Omega.{arith}
+use mathlib.Core.Path.{◌≡◌, refl, sym, ap, ◌∙◌}
+use borrow.Author.Tests.{not-true, not-false}
+use lib.ListN.{length}
+use Rattle.model.specs.Log.{row_count, row_at, holds}
+use Rattle.chains.specs.Search.{first_row}
+use Rattle.chains.specs.Chain.{chain}
+use Rattle.chains.specs.Key.{row_key}
+use Rattle.chains.proofs.Rows.{Rest, rest-start, rest-step, rest-stop, rest_end, holds-here, holds_not}
+use Rattle.chains.proofs.Keys.{key-small}
+use Rattle.chains.proofs.Searches.{Searching, first-chain, search_none, search_row, search_found, search_next, search_less}
+use Rattle.chains.proofs.search.search.Reads as reads
+use Rattle.words.proofs.is.Reads as is-reads
+use Rattle.words.proofs.same.Reads as same_Reads
+use Rattle.chains.proofs.search.search.Given as goal
+
+abbrev pub invariant-loop-i : goal.invariant-loop-i
+invariant-loop-i l = (l.i ≤ 6) × (holds l.predicate l.arguments (row_at l.log l.row) ≡ Rest l.log (8 * l.row + 2) l.arguments l.i)
+
+abbrev pub decreases-loop-i : goal.decreases-loop-i
+decreases-loop-i l = 6 - l.i
+
+abbrev pub invariant-rows : goal.invariant-rows
+invariant-rows l = (from : ℕ) × Searching l.log l.predicate l.arguments l.start l.rows from l.link
+
+abbrev pub decreases-rows : goal.decreases-rows
+decreases-rows l = l.link

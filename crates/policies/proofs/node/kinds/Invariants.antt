@@ -1,0 +1,17 @@
+-- `policies::node::kinds` meets its contract. The loop's invariant: the terms from number i on decide. The measure is their number.
+use Prim.Native.Nat.{◌-◌, ◌≤◌}
+use native.Mathlib.Omega.{arith}
+use mathlib.Core.Path.{◌≡◌, sym, ◌∙◌}
+use borrow.Author.Rules.{rules}
+use borrow.Author.Tests.{not-true, not-false}
+use Rattle.model.specs.Lists.{all}
+use Rattle.model.specs.Reading.{places, good_kind}
+use Rattle.policies.proofs.NodeTerms.{from, from_first, from_last, from-yes, from-no}
+use Rattle.policies.proofs.node.kinds.Given as goal
+
+abbrev pub invariant-loop-i : goal.invariant-loop-i
+invariant-loop-i l =
+    (l.i ≤ l.n) × (all (good_kind l.words) (places l.first l.n) ≡ from (good_kind l.words) l.first l.n l.i)
+
+abbrev pub decreases-loop-i : goal.decreases-loop-i
+decreases-loop-i l = l.n - l.i

@@ -1,0 +1,28 @@
+-- `policies::policy::ask_policy` meets its contract: by the length, and then by what the walk from the root tells.
+use borrow.Author.Rules.{rules}
+use Rattle.policies.proofs.PolicyWhole.{none, too_long, root-refused, root-short, root-whole}
+use Rattle.policies.proofs.policy.ask_policy.Goals as goal
+
+
+pub returns-then-n-lt1 : goal.returns-then-n-lt1
+returns-then-n-lt1 c = none c.args.table.now c.args.policy.now c.if-n-lt1.true
+
+pub returns-then-n-gt-POLICY_LIMIT : goal.returns-then-n-gt-POLICY_LIMIT
+returns-then-n-gt-POLICY_LIMIT c = too_long c.args.table.now c.args.policy.now c.if-n-gt-POLICY_LIMIT.true
+
+pub returns-in_default : goal.returns-in_default
+returns-in_default c =
+    let s = c.args in
+    root-refused s.table.now s.policy.now c.if-n-lt1.false c.if-n-gt-POLICY_LIMIT.false c.walk-root.ensures c.in_default.is
+
+pub returns-then-next-n : goal.returns-then-next-n
+returns-then-next-n c =
+    let s = c.args in
+    root-short s.table.now s.policy.now c.if-n-lt1.false c.if-n-gt-POLICY_LIMIT.false c.walk-root.ensures c.in-Read.is
+    c.if-next-n.true
+
+pub returns : goal.returns
+returns c =
+    let s = c.args in
+    root-whole s.table.now s.policy.now c.if-n-lt1.false c.if-n-gt-POLICY_LIMIT.false c.walk-root.ensures c.in-Read.is
+    c.if-next-n.false

@@ -1,0 +1,32 @@
+-- `tptp_tokens::name::word_end` meets its contract. The loop's invariant: the bytes passed lead from the start to here.
+use native.Mathlib.Omega.{arith}
+use Prim.Native.Nat.{◌-◌, ◌≤◌}
+use mathlib.Core.Path.{◌≡◌, refl, sym, ◌∙◌}
+use lib.ListN.{length}
+use borrow.Author.Tests.{not-true, not-false}
+use borrow.Author.Rules.{rules}
+use Rattle.model.specs.TptpReading.{word_bytes}
+use Rattle.tptp_tokens.specs.Steps.{from}
+use Rattle.tptp_tokens.proofs.NameLaws.{word_more, word-stop, word_over}
+use Rattle.tptp_tokens.proofs.name.word_end.Goals as goal
+
+
+pub returns-then-not-is_word : goal.returns-then-not-is_word
+returns-then-not-is_word c =
+    let l = c.loop-i in
+    let text = c.args.text.now in
+    let stop = sym c.is_word.ensures ∙ c.if-not-is_word.true in
+    record { low = l.invariant.0; high = l.invariant.1; reads = l.invariant.2 ∙ word-stop text l.i c.loop-i-test.true stop }
+
+pub loop-i-preserved : goal.loop-i-preserved
+loop-i-preserved c =
+    let l = c.loop-i in
+    let text = c.args.text.now in
+    let more = word_more text l.i c.loop-i-test.true (sym c.is_word.ensures ∙ c.if-not-is_word.false) in
+    (omega arith, omega arith, l.invariant.2 ∙ more)
+
+pub returns : goal.returns
+returns c =
+    let l = c.loop-i in
+    let text = c.args.text.now in
+    record { low = l.invariant.0; high = l.invariant.1; reads = l.invariant.2 ∙ word_over text l.i (omega (arith, c.loop-i-test.false)) }

@@ -1,0 +1,18 @@
+-- `tptp_tokens::numbers::more_digits` meets its contract. The loop's invariant: the digits passed lead from the start to here.
+use native.Mathlib.Omega.{arith}
+use Prim.Native.Nat.{◌-◌, ◌≤◌}
+use mathlib.Core.Path.{◌≡◌, refl, sym, ◌∙◌}
+use lib.ListN.{length}
+use borrow.Author.Tests.{not-true, not-false}
+use Rattle.model.specs.TptpReading.{more_digits}
+use Rattle.laws.specs.Decimal.{digit-range}
+use Rattle.tptp_tokens.specs.Steps.{from}
+use Rattle.tptp_tokens.proofs.NumberLaws.{digits_more, digits-nought, digits_great, digits-stop, digits_end}
+use borrow.Author.Rules.{rules}
+use Rattle.tptp_tokens.proofs.numbers.more_digits.Given as goal
+
+abbrev pub invariant-loop-i : goal.invariant-loop-i
+invariant-loop-i l = (l.at ≤ l.i) × (l.i ≤ length l.text) × (l.first ≤ l.n) × (l.n ≤ l.most) × (from (more_digits l.most l.first) l.text l.at ≡ from (more_digits l.most l.n) l.text l.i)
+
+abbrev pub decreases-loop-i : goal.decreases-loop-i
+decreases-loop-i l = length l.text - l.i

@@ -1,0 +1,42 @@
+-- `tptp_tokens::tokens::skip` meets its contract. The loop's invariant: the blanks passed lead from the start to here.
+use native.Mathlib.Omega.{arith}
+use Prim.Native.Nat.{◌-◌, ◌≤◌}
+use mathlib.Core.Path.{◌≡◌, refl, sym, ◌∙◌}
+use lib.ListN.{length}
+use borrow.Author.Tests.{not-true, not-false}
+use Rattle.model.specs.TptpReading.{blanks}
+use Rattle.tptp_tokens.specs.Steps.{from}
+use Rattle.tptp_tokens.proofs.TokenLaws.{skip_more, skip_stop, skip_end}
+use borrow.Author.Rules.{rules}
+use Rattle.tptp_tokens.proofs.tokens.skip.Goals as goal
+
+
+pub returns-then-not-is_blank : goal.returns-then-not-is_blank
+returns-then-not-is_blank c =
+    let l = c.loop-i in
+    let text = c.args.text.now in
+    let stop = sym c.is_blank.ensures ∙ c.if-not-is_blank.true in
+    record {
+      low = l.invariant.0;
+      high = l.invariant.1;
+      reads = l.invariant.2 ∙ skip_stop text l.i c.loop-i-test.true stop;
+      stop = λ h. stop;
+    }
+
+pub loop-i-preserved : goal.loop-i-preserved
+loop-i-preserved c =
+    let l = c.loop-i in
+    let text = c.args.text.now in
+    let more = skip_more text l.i c.loop-i-test.true (sym c.is_blank.ensures ∙ c.if-not-is_blank.false) in
+    (omega arith, omega arith, l.invariant.2 ∙ more)
+
+pub returns : goal.returns
+returns c =
+    let l = c.loop-i in
+    let text = c.args.text.now in
+    record {
+      low = l.invariant.0;
+      high = l.invariant.1;
+      reads = l.invariant.2 ∙ skip_end text l.i (omega (arith, c.loop-i-test.false));
+      stop = λ h. absurd (omega (arith, h, c.loop-i-test.false));
+    }
