@@ -1,0 +1,17 @@
+-- `environments::environment::marks_word` meets its contract. The loop's invariant: the number has the bits of the marks from i on.
+use Prim.Native.Nat.{ℕ, ◌-◌, ◌≤◌, ◌<◌}
+use native.Mathlib.Omega.{arith}
+use mathlib.Core.Path.{◌≡◌, sym, ap, ◌∙◌}
+use mathlib.Core.Bool.{false}
+use lib.ListN.{length, get_or, drop, length-drop, drop_of_length-le}
+use borrow.Author.Rules.{rules}
+use Rattle.environments.specs.Environment.{bits}
+use Rattle.environments.proofs.Places.{bits_small}
+use Rattle.environments.proofs.Filling.{byte_small, bits-more}
+use Rattle.environments.proofs.environment.marks_word.Given as goal
+
+abbrev pub invariant-loop-i : goal.invariant-loop-i
+invariant-loop-i l = (l.i ≤ 16) × (length l.marks ≡ 16) × (l.word ≡ bits (drop l.i l.marks))
+
+abbrev pub decreases-loop-i : goal.decreases-loop-i
+decreases-loop-i l = l.i

@@ -1,0 +1,59 @@
+-- `environments::terms::arguments` meets its contract. The loop's invariant: the numbers so far, with those of the terms from
+-- number i on, are what is asked, and zeros stand behind.
+use Prim.Native.Nat.{ℕ, ◌+◌, ◌-◌, ◌≤◌}
+use native.Mathlib.Omega.{arith}
+use mathlib.Core.Path.{◌≡◌, sym, ap, ap₂, ◌∙◌}
+use mathlib.Core.List.{List, ◌++◌}
+use lib.ListN.{length, take, drop, replicate, length-set, take-append-drop}
+use lib.IntN.{ℤ, pos}
+use mir.Syntax.{w32}
+use mir.Val.{to_z, of_z}
+use borrow.Author.Rules.{rules}
+use Rattle.model.specs.Reading.{in_scope}
+use Rattle.model.specs.Listing.{Environment, numbers_in}
+use Rattle.policies.specs.Standing.{terms_at}
+use Rattle.policies.proofs.TermLaws.{place-holds}
+use Rattle.environments.specs.Environment.{numbers_of}
+use Rattle.environments.proofs.TermLaws.{numbers_from, numbers-first, numbers-next, numbers-last, zeros-next}
+use Rattle.environments.proofs.terms.arguments.Goals as goal
+
+
+pub loop-i-init : goal.loop-i-init
+loop-i-init c = (
+  omega arith,
+  ap length c.requires.4,
+  c.requires.4,
+  λ e h. numbers-first e c.args.words.now c.args.first c.args.n,
+)
+
+pub number-requires : goal.number-requires
+number-requires c =
+    (
+      c.requires.0,
+      omega (arith, c.requires.2),
+      place-holds (in_scope c.args.words.now 16) c.args.first
+          c.args.n c.loop-i.i c.requires.3 c.loop-i-test.true,
+    )
+
+pub loop-i-preserved : goal.loop-i-preserved
+loop-i-preserved c =
+    let a = c.args in
+    let i = c.loop-i.i in
+    let v = to_z w32 (of_z w32 c.number.result) in
+    let back : v ≡ c.number.result = search rules in (
+      omega arith,
+      length-set c.loop-i.arguments i v ∙ c.loop-i.invariant.1,
+      zeros-next c.loop-i.arguments 6 i v (omega (arith, c.requires.1)) c.loop-i.invariant.2,
+      λ e h.
+          c.loop-i.invariant.3 e h
+          ∙ numbers-next e a.words.now a.first a.n c.loop-i.arguments i v
+          c.loop-i-test.true (omega (arith, c.requires.1, c.loop-i.invariant.1)) (back ∙ c.number.ensures e h),
+    )
+
+pub returns : goal.returns
+returns c =
+    λ e h. let a = c.args in let all : c.loop-i.i ≡ a.n = omega arith in sym
+    (take-append-drop c.loop-i.i c.loop-i.arguments) ∙ ap₂ (λ (p q : List ℤ). p ++ q)
+    (sym
+    (c.loop-i.invariant.3 e h ∙ numbers-last e a.words.now a.first a.n c.loop-i.arguments c.loop-i.i
+    c.loop-i-test.false)) (c.loop-i.invariant.2 ∙ ap (λ (k : ℕ). replicate (6 - k) (pos 0)) all)

@@ -1,0 +1,16 @@
+-- `environments::terms::at_most` meets its contract: two words of 32 bits are added in 64 bits, where the sum fits.
+use mathlib.Core.Path.{ap₂, ◌∙◌}
+use lib.IntN.{ℤ, ◌+ℤ◌}
+use lib.Signed.{le_z}
+use mir.Facts.{to_z-of_z}
+use Rattle.model.specs.Truth.{sum_at_most}
+use Rattle.environments.proofs.Sums.{sum_fits, widened, widens}
+use Rattle.environments.proofs.terms.at_most.Goals as goal
+
+
+pub returns : goal.returns
+unfolding sum_at_most
+returns c =
+    ap₂ le_z
+    (to_z-of_z (add-result c) ∙ ap₂ (λ (a b : ℤ). a +ℤ b) (widened c.args.x c.ranges.x) (widened c.args.d c.ranges.d))
+    (widened c.args.y c.ranges.y)

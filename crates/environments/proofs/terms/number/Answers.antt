@@ -1,0 +1,49 @@
+-- `environments::terms::number` meets its contract: a term in scope that is no constant is a variable below 16.
+use Prim.Native.Nat.{ℕ, ◌<◌}
+use native.Mathlib.Omega.{arith}
+use mathlib.Core.Path.{◌≡◌, sym, ap, ◌∙◌}
+use mathlib.Core.List.{List}
+use lib.ListN.{get_or}
+use lib.IntN.{ℤ, pos}
+use mir.Syntax.{w32}
+use mir.Val.{to_z, of_z}
+use Rattle.model.specs.Listing.{number_in}
+use Rattle.policies.proofs.TermLaws.{variable-small}
+use Rattle.environments.proofs.Places.{number_at}
+use Rattle.environments.proofs.TermLaws.{constant_number, variable-number}
+use borrow.Author.Rules.{rules}
+use Rattle.environments.proofs.terms.number.Goals as goal
+
+
+pub returns-then-is : goal.returns-then-is
+returns-then-is c = λ e h.
+    let a = c.args in
+    let back : to_z w32 (of_z w32 c.word.result) ≡ c.word.result = search rules in
+    back ∙ c.word.ensures ∙ constant_number e a.words.now a.at (sym c.is.ensures ∙ c.if-is.true)
+
+pub offset_bounds-numbers-x : goal.offset_bounds-numbers-x
+offset_bounds-numbers-x c =
+    let small : c.value-x.result < 16 = let v = variable-small c.args.words.now c.args.at 16 c.requires.2 (sym c.is.ensures ∙ c.if-is.false) in
+    omega (arith, c.value-x.ensures) in
+    omega (arith, small)
+
+pub bounds-numbers-x : goal.bounds-numbers-x
+bounds-numbers-x c =
+    let small : c.value-x.result < 16 = let v = variable-small c.args.words.now c.args.at 16 c.requires.2 (sym c.is.ensures ∙ c.if-is.false) in
+    omega (arith, c.value-x.ensures) in
+    omega (arith, small, c.requires.0)
+
+pub returns : goal.returns
+returns c =
+    let small : c.value-x.result < 16 = let v = variable-small c.args.words.now c.args.at 16 c.requires.2 (sym c.is.ensures ∙ c.if-is.false) in
+    omega (arith, c.value-x.ensures) in
+    λ e h.
+    let a = c.args in
+    let x = c.value-x.result in
+    let v = get_or a.numbers.now x (pos 0) in
+    let back : to_z w32 (of_z w32 v) ≡ v = search rules in
+    back
+    ∙ ap (λ (ns : List ℤ). get_or ns x (pos 0)) h
+    ∙ number_at e x (small)
+    ∙ ap (λ (y : ℕ). number_in (e y)) c.value-x.ensures
+    ∙ variable-number e a.words.now a.at (sym c.is.ensures ∙ c.if-is.false)

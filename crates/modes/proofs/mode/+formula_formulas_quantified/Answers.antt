@@ -1,0 +1,229 @@
+-- The proof of the cycle of calls {formula, formulas, quantified}. The measure is twice the levels left, and one more for
+-- `formulas` and `quantified`, which call `formula` at their own level; `formula` calls each of the two a level down.
+-- The loop of `formulas`: the formulas left decide.
+use Rattle.std.proofs.Common.{refl}
+use Rattle.std.specs.Prelude.{Bool}
+use Prim.Native.Nat.{ℕ, ◌+◌, ◌*◌, ◌-◌, ◌≤◌, ◌<◌}
+use native.Mathlib.Omega.{arith}
+use mathlib.Core.Path.{sym, ap, ◌∙◌}
+use mathlib.Core.List.{[], ◌∷◌}
+use borrow.Author.Rules.{rules}
+use borrow.Author.Tests.{not-true, not-false}
+use types.Run.{OneOf, miss}
+use denote.Enum.Declared.{tag_of}
+use Rattle.policies.specs.Node.{as_tag, as_role}
+use Rattle.policies.specs.declared.node.Tag.{Tag}
+use Rattle.policies.specs.declared.node.Tag.TheVariants.{Plain, Atom, Compare, Join, Quantifier, Some, Unused}
+use Rattle.policies.specs.contracts.node.Tag.{the_type as tag-type}
+use Rattle.policies.proofs.Stood.{Stood, formula-kind, level-fits, own-fits, next_in, level_in, level_down}
+use Rattle.modes.proofs.ModeFormula.{Leaf}
+use Rattle.modes.proofs.ModeFormula.{join-kind, join-here, join_asks, quantifier-range, quantifier-here, quantifier_asks}
+use Rattle.modes.proofs.ModeFormula.{leaf_asks}
+use Rattle.modes.proofs.ModeFormulaLoops.{SoFar, so_far_none, next_here, next-passed, next-refused, all-passed}
+use Rattle.modes.proofs.ModeFormulaLoops.{restriction-refused, variables-missed, body-here, body-asked}
+use Rattle.modes.proofs.mode.+formula_formulas_quantified.Goals as goal
+
+-- the tags that are left when joins and quantifiers are not
+leaf : (tag : Tag) → (((b : Bool) → tag ≡ Join b → ⊥) × ((b : Bool) → tag ≡ Quantifier b → ⊥)) → Leaf (as_tag tag)
+leaf (Plain b) k = tt
+leaf (Atom b) k = tt
+leaf (Compare b) k = tt
+leaf (Join b) k = absurd (k.0 b refl)
+leaf (Quantifier b) k = absurd (k.1 b refl)
+leaf Some k = tt
+leaf Unused k = tt
+
+pub formula-overflow_add-level : goal.formula-overflow_add-level
+formula-overflow_add-level t c =
+    omega (arith, level-fits _ _ _ _ _ _ c.requires.4 (as_tag c.tag_at-tag.result) c.tag_at-tag.ensures, c.cost.ensures)
+
+pub formula-size-requires : goal.formula-size-requires
+formula-size-requires t c =
+    own-fits c.args.table.now c.args.words.now (as_role c.args.role) c.args.above c.args.scope c.args.at
+    c.requires.4
+    (as_tag c.tag_at-tag.result)
+    c.tag_at-tag.ensures
+
+pub formula-overflow_add-next : goal.formula-overflow_add-next
+formula-overflow_add-next t c =
+    let formula_stood : Stood c.args.table.now c.args.words.now (as_role c.args.role) c.args.above c.args.scope c.args.at (as_tag c.tag_at-tag.result) (c.args.above + c.cost.result) (c.args.at + c.size.result) = record {
+      kind = c.requires.3;
+      here = c.requires.4;
+      known = c.tag_at-tag.ensures;
+      deep = ap (λ (n : ℕ). c.args.above + n) c.cost.ensures;
+      first = ap (λ (n : ℕ). c.args.at + n) (c.size.ensures (as_role c.args.role) c.args.scope);
+    } in
+    omega (arith, next_in (formula_stood))
+
+pub formula-formulas-requires : goal.formula-formulas-requires
+formula-formulas-requires t c =
+    let formula_stood : Stood c.args.table.now c.args.words.now (as_role c.args.role) c.args.above c.args.scope c.args.at (as_tag c.tag_at-tag.result) (c.args.above + c.cost.result) (c.args.at + c.size.result) = record {
+      kind = c.requires.3;
+      here = c.requires.4;
+      known = c.tag_at-tag.ensures;
+      deep = ap (λ (n : ℕ). c.args.above + n) c.cost.ensures;
+      first = ap (λ (n : ℕ). c.args.at + n) (c.size.ensures (as_role c.args.role) c.args.scope);
+    } in
+    let node = formula_stood in
+    let e = ap as_tag c.in-Join.is in (
+      omega (arith, level_down node, level_in node, c.decreases),
+      (
+        c.requires.0,
+        level_in node,
+        c.requires.2,
+        join-kind node e c.under.ensures c.value-n.ensures,
+        join-here node e c.under.ensures c.value-n.ensures,
+      ),
+    )
+
+pub formula-quantified-requires : goal.formula-quantified-requires
+formula-quantified-requires t c =
+    let formula_stood : Stood c.args.table.now c.args.words.now (as_role c.args.role) c.args.above c.args.scope c.args.at (as_tag c.tag_at-tag.result) (c.args.above + c.cost.result) (c.args.at + c.size.result) = record {
+      kind = c.requires.3;
+      here = c.requires.4;
+      known = c.tag_at-tag.ensures;
+      deep = ap (λ (n : ℕ). c.args.above + n) c.cost.ensures;
+      first = ap (λ (n : ℕ). c.args.at + n) (c.size.ensures (as_role c.args.role) c.args.scope);
+    } in
+    let node = formula_stood in
+    let e = ap as_tag c.in-Quantifier.is in (
+      omega (arith, level_down node, level_in node, c.decreases),
+      (
+        c.requires.0,
+        level_in node,
+        quantifier-range node e c.value-v.ensures,
+        quantifier-here node e c.value-v.ensures,
+      ),
+    )
+
+pub formula-returns-in-Join : goal.formula-returns-in-Join
+formula-returns-in-Join t c =
+    let formula_stood : Stood c.args.table.now c.args.words.now (as_role c.args.role) c.args.above c.args.scope c.args.at (as_tag c.tag_at-tag.result) (c.args.above + c.cost.result) (c.args.at + c.size.result) = record {
+      kind = c.requires.3;
+      here = c.requires.4;
+      known = c.tag_at-tag.ensures;
+      deep = ap (λ (n : ℕ). c.args.above + n) c.cost.ensures;
+      first = ap (λ (n : ℕ). c.args.at + n) (c.size.ensures (as_role c.args.role) c.args.scope);
+    } in
+    join_asks (formula_stood) (ap as_tag c.in-Join.is) c.under.ensures c.value-n.ensures
+    c.formulas.ensures
+
+pub formula-returns-in-Quantifier : goal.formula-returns-in-Quantifier
+formula-returns-in-Quantifier t c =
+    let formula_stood : Stood c.args.table.now c.args.words.now (as_role c.args.role) c.args.above c.args.scope c.args.at (as_tag c.tag_at-tag.result) (c.args.above + c.cost.result) (c.args.at + c.size.result) = record {
+      kind = c.requires.3;
+      here = c.requires.4;
+      known = c.tag_at-tag.ensures;
+      deep = ap (λ (n : ℕ). c.args.above + n) c.cost.ensures;
+      first = ap (λ (n : ℕ). c.args.at + n) (c.size.ensures (as_role c.args.role) c.args.scope);
+    } in
+    quantifier_asks (formula_stood) (ap as_tag c.in-Quantifier.is) c.value-v.ensures c.quantified.ensures
+
+pub formula-returns-in_default : goal.formula-returns-in_default
+formula-returns-in_default t c =
+    let formula_stood : Stood c.args.table.now c.args.words.now (as_role c.args.role) c.args.above c.args.scope c.args.at (as_tag c.tag_at-tag.result) (c.args.above + c.cost.result) (c.args.at + c.size.result) = record {
+      kind = c.requires.3;
+      here = c.requires.4;
+      known = c.tag_at-tag.ensures;
+      deep = ap (λ (n : ℕ). c.args.above + n) c.cost.ensures;
+      first = ap (λ (n : ℕ). c.args.at + n) (c.size.ensures (as_role c.args.role) c.args.scope);
+    } in
+    leaf_asks (formula_stood) (leaf c.tag_at-tag.result (c.in_default.not-Join, c.in_default.not-Quantifier))
+
+pub formulas-formula-child-requires : goal.formulas-formula-child-requires
+formulas-formula-child-requires t c =
+    let p = c.requires in
+    let s = c.args in (
+      omega (arith, p.0, p.1.1),
+      (
+        p.1.0,
+        p.1.1,
+        p.1.2,
+        p.1.3,
+        next_here s.table.now s.words.now (as_role s.role) s.above s.scope s.n s.at c.loop-i.i c.loop-i.next
+            c.loop-i.invariant.1
+            c.loop-i-test.true
+            p.1.4,
+      ),
+    )
+
+pub formulas-returns-in_default : goal.formulas-returns-in_default
+formulas-returns-in_default t c =
+    let s = c.args in
+    next-refused s.table.now s.words.now (as_role s.role) s.above s.scope s.n s.at c.loop-i.i c.loop-i.next
+    c.loop-i.invariant.1
+    c.loop-i-test.true
+    c.in_default.is
+    c.formula-child.ensures
+
+pub formulas-loop-i-preserved : goal.formulas-loop-i-preserved
+formulas-loop-i-preserved t c =
+    let s = c.args in (
+      omega (arith, c.loop-i-test.true),
+      next-passed s.table.now s.words.now (as_role s.role) s.above s.scope s.n s.at c.loop-i.i c.loop-i.next
+          c.loop-i.invariant.1
+          c.loop-i-test.true
+          c.in-Passed.is
+          c.formula-child.ensures,
+    )
+
+pub formulas-returns : goal.formulas-returns
+formulas-returns t c =
+    let s = c.args in
+    all-passed s.table.now s.words.now (as_role s.role) s.above s.scope s.n s.at c.loop-i.i c.loop-i.next
+    c.loop-i.invariant.1
+    c.loop-i-test.false
+
+pub quantified-returns-in-Refused : goal.quantified-returns-in-Refused
+quantified-returns-in-Refused t c =
+    let s = c.args in
+    restriction-refused s.table.now s.words.now s.level s.scope s.v s.at s.first
+    c.outer.result
+    c.outer.ensures.1
+    c.bind-restriction.result
+    c.bind-restriction.ensures
+    c.in-Refused.is
+
+pub quantified-returns-then-not-introduced : goal.quantified-returns-then-not-introduced
+quantified-returns-then-not-introduced t c =
+    let s = c.args in
+    variables-missed s.table.now s.words.now s.level s.scope s.v s.at s.first
+    c.outer.result
+    c.outer.ensures.1
+    c.bind-restriction.result
+    c.bind-restriction.ensures
+    c.in_default.is
+    (sym c.introduced.ensures ∙ c.if-not-introduced.true)
+
+pub quantified-formula-requires : goal.quantified-formula-requires
+quantified-formula-requires t c =
+    let p = c.requires in
+    let s = c.args in (
+      omega (arith, p.0, p.1.1),
+      (
+        p.1.0,
+        p.1.1,
+        p.1.2,
+        formula-kind,
+        body-here s.table.now s.words.now s.level s.scope s.v s.at s.first
+            c.outer.result
+            c.outer.ensures.1
+            c.bind-restriction.result
+            c.bind-restriction.ensures
+            c.in_default.is
+            p.1.3,
+      ),
+    )
+
+pub quantified-returns : goal.quantified-returns
+quantified-returns t c =
+    let s = c.args in
+    body-asked s.table.now s.words.now s.level s.scope s.v s.at s.first
+    c.outer.result
+    c.outer.ensures.1
+    c.bind-restriction.result
+    c.bind-restriction.ensures
+    c.in_default.is
+    (sym c.introduced.ensures ∙ c.if-not-introduced.false)
+    c.formula.result
+    c.formula.ensures

@@ -1,0 +1,83 @@
+-- `modes::mode::with_terms` meets its contract. The loop's invariant: the set so far, with the terms from number i on, is what is asked.
+use Prim.Native.Nat.{ℕ, ◌+◌, ◌*◌, ◌-◌, ◌≤◌, ◌<◌}
+use native.Mathlib.Omega.{arith}
+use mathlib.Core.Path.{◌≡◌, sym, ap, ◌∙◌}
+use mathlib.Core.Bool.{Bool, true, false}
+use borrow.Author.Rules.{rules}
+use borrow.Author.Tests.{not-true, not-false}
+use mathlib.Core.Logic.{⊎_elim}
+use lib.ListN.{length, set, length-set}
+use mathlib.Core.List.{List, ◌∷◌}
+use Rattle.model.specs.Tree.{Term}
+use Rattle.model.specs.Words.{value}
+use Rattle.model.specs.Reading.{term_at, in_scope}
+use Rattle.policies.specs.Standing.{terms_at}
+use Rattle.modes.specs.Mode.{set_of, with_terms}
+use Rattle.policies.proofs.TermLaws.{place-holds, terms_from, terms-first, terms-next, terms-last, term-constant, term-variable}
+use Rattle.policies.proofs.TermLaws.{variable-small}
+use Rattle.modes.proofs.ModeTerms.{with_constant, with_variable, with_none}
+use Rattle.modes.proofs.mode.with_terms.Reads as reads
+use Rattle.words.proofs.is.Reads as is-reads
+use Rattle.words.proofs.value.Reads as value-reads
+use Rattle.modes.proofs.mode.with_terms.Goals as goal
+
+
+pub loop-i-init : goal.loop-i-init
+loop-i-init c = (
+  omega arith,
+  search rules,
+  ap (with_terms (set_of c.args.bound)) (terms-first c.args.words.now c.args.first c.args.n),
+)
+
+pub bounds-set-x : goal.bounds-set-x
+bounds-set-x c =
+    let small : reads.Pre reads.Post invariant-loop decreases-loop) → c.is.result ≡ false → value c.args.words.now (c.args.first + 2 * c.loop-i.i + 1) < 16 = λ e. variable-small c.args.words.now (c.args.first + 2 * c.loop-i.i) 16
+    (place-holds (in_scope c.args.words.now 16) c.args.first c.args.n c.loop-i.i c.requires.1 c.loop-i-test.true)
+    (sym c.is.ensures ∙ e) in
+    omega (arith, c.value-x.ensures, small (c.if-not-is.true))
+
+pub loop-i-preserved : goal.loop-i-preserved
+loop-i-preserved c =
+    let small : reads.Pre reads.Post invariant-loop decreases-loop) → c.is.result ≡ false → value c.args.words.now (c.args.first + 2 * c.loop-i.i + 1) < 16 = λ e. variable-small c.args.words.now (c.args.first + 2 * c.loop-i.i) 16
+    (place-holds (in_scope c.args.words.now 16) c.args.first c.args.n c.loop-i.i c.requires.1 c.loop-i-test.true)
+    (sym c.is.ensures ∙ e) in
+    let a = c.args in
+    let i = c.loop-i.i in
+    let at = a.first + 2 * i in
+    let next :
+    with_terms (set_of a.bound) (terms_at a.words.now a.first a.n)
+    ≡ with_terms (set_of c.loop-i.set)
+    (term_at a.words.now at ∷ terms_from a.words.now a.first a.n (i + 1)) =
+    c.loop-i.invariant.2 ∙ ap (with_terms (set_of c.loop-i.set))
+    (terms-next a.words.now a.first a.n i c.loop-i-test.true) in
+    ⊎_elim
+    (λ w. let no-constant = not-true _ w.0.taken in let marks = c.loop-i.set in let v = value a.words.now
+    (at + 1) in let is : c.if-not-is.set ≡ set marks v true = w.2 ∙ ap (λ (k : ℕ). set marks k true) w.1.ensures in (
+      omega arith,
+      ap length is ∙ length-set marks v true ∙ c.loop-i.invariant.1,
+      next ∙ ap
+          (λ (t : Term). with_terms (set_of marks) (t ∷ terms_from a.words.now a.first a.n (i + 1)))
+          (term-variable a.words.now at (sym c.is.ensures ∙ no-constant)) ∙ with_variable marks v _
+          (omega (arith, small no-constant, c.loop-i.invariant.1)) ∙ ap
+          (λ (m : List Bool). with_terms (set_of m) (terms_from a.words.now a.first a.n (i + 1))) (sym is),
+    ))
+    (λ w. let constantly = not-false _ w.0.left in (
+      omega arith,
+      ap length w.1 ∙ c.loop-i.invariant.1,
+      next ∙ ap
+          (λ (t : Term). with_terms (set_of c.loop-i.set) (t ∷ terms_from a.words.now a.first a.n (i + 1)))
+          (term-constant a.words.now at (sym c.is.ensures ∙ constantly)) ∙ with_constant
+          (set_of c.loop-i.set) _ _ ∙ ap
+          (λ (m : List Bool). with_terms (set_of m) (terms_from a.words.now a.first a.n (i + 1))) (sym w.1),
+    ))
+    c.if-not-is.branch
+
+pub returns : goal.returns
+returns c =
+    let a = c.args in (
+      c.loop-i.invariant.1,
+      sym
+          (c.loop-i.invariant.2
+          ∙ ap (with_terms (set_of c.loop-i.set)) (terms-last a.words.now a.first a.n c.loop-i.i c.loop-i-test.false)
+          ∙ with_none (set_of c.loop-i.set)),
+    )

@@ -1,0 +1,27 @@
+-- `tptp_putting::tokens::put_terms` meets its contract: the first term, and those behind it. The loop's invariant: the terms
+-- behind the first stand up to the one reached. The measure is the number of those left.
+use Prim.Native.Nat.{◌-◌}
+use native.Mathlib.Omega.{arith}
+use mathlib.Core.Path.{◌∙◌}
+use Rattle.tptp_putting.specs.Texts.{term_text}
+use Rattle.tptp_putting.proofs.AddLaws.{Behind, behind-fits, behind_then, behind-is, Left, left-none, left-more, left_end}
+use Rattle.tptp_putting.proofs.TextLaws.{runs, runs_more, runs_none, next_term, terms-first}
+use borrow.Author.Rules.{rules}
+use Rattle.tptp_putting.proofs.tokens.put_terms.Goals as goal
+
+
+pub loop-i-preserved : goal.loop-i-preserved
+loop-i-preserved c =
+    let a = c.args in
+    left-more c.loop-i.invariant (next_term a.words.now a.first c.loop-i.i) _
+    (runs_more (next_term a.words.now a.first) c.loop-i.i a.n c.loop-i-test.true)
+    c.put_next_term-put.ensures c.put_next_term-put.auto.out
+
+pub returns : goal.returns
+returns c =
+    let head : let a = c.args in Behind (term_text a.words.now a.first) a.before a.out.now c.put_term-put.new.out c.put_term-put.result = record { adds = c.put_term-put.ensures; long = c.put_term-put.auto.out } in
+    let a = c.args in
+    let rest = left_end c.loop-i.invariant
+    (runs_none (next_term a.words.now a.first) c.loop-i.i a.n c.loop-i-test.false) in
+    behind-is (behind_then (head) rest)
+    (terms-first a.words.now a.first a.n c.requires.1)

@@ -1,0 +1,33 @@
+-- `tptp_putting::tuples::put_unequals` meets its contract: the first variable, and those behind it. The loop's invariant: the
+-- variables behind the first stand up to the word reached. The measure is the number of words left.
+use Prim.Native.Nat.{◌+◌, ◌-◌, ◌≤◌}
+use native.Mathlib.Omega.{arith}
+use mathlib.Core.Path.{refl, ◌∙◌}
+use Rattle.model.specs.Words.{word}
+use Rattle.tptp_putting.specs.Texts.{unequal_text}
+use Rattle.tptp_putting.proofs.AddLaws.{Behind, behind-fits, behind_then, behind-is, Left, left-none, left-more, left_end}
+use Rattle.tptp_putting.proofs.TextLaws.{next_unequal, unequals_rest, tuple_starts, tuple-more, tuple-none}
+use borrow.Author.Rules.{rules}
+use Rattle.tptp_putting.proofs.tuples.put_unequals.Goals as goal
+
+
+pub loop-i-preserved : goal.loop-i-preserved
+loop-i-preserved c =
+    let a = c.args in
+    let inv = c.loop-i.invariant in (
+      omega (arith, inv.0),
+      left-more inv.1 (next_unequal _ (word a.words.now c.loop-i.i)) _
+          (tuple-more a.scope a.words.now a.first (a.first + a.v) c.requires.3 c.loop-i.i _ inv.0
+          c.loop-i-test.true (omega (arith, inv.0)))
+          c.put_next_unequal-put.ensures c.put_next_unequal-put.auto.out,
+    )
+
+pub returns : goal.returns
+returns c =
+    let head : let a = c.args in Behind (unequal_text a.scope (word a.words.now a.first)) a.before a.out.now c.put_unequal-put.new.out c.put_unequal-put.result = record { adds = c.put_unequal-put.ensures; long = c.put_unequal-put.auto.out } in
+    let a = c.args in
+    let end = a.first + a.v in
+    let rest = left_end c.loop-i.invariant.1
+    (tuple-none a.scope a.words.now a.first end c.requires.3 c.loop-i.i c.loop-i-test.false) in
+    behind-is (behind_then (head) rest)
+    (tuple_starts a.scope a.words.now a.first end c.requires.3 a.v refl c.requires.1)
