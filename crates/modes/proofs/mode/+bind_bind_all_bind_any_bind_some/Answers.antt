@@ -182,13 +182,13 @@ bind_all-returns t c =
 pub bind_any-bind-first-requires : goal.bind_any-bind-first-requires
 bind_any-bind-first-requires t c =
     (
-      omega (arith, c.pre.0, c.pre.1.1),
+      omega (arith, c.decreases, c.requires.1),
       (
-        c.pre.1.0,
-        c.pre.1.1,
-        c.pre.1.2,
+        c.requires.0,
+        c.requires.1,
+        c.requires.2,
         any_here c.args.table.now c.args.words.now c.args.above
-            c.args.scope c.args.n c.args.at c.args.bound c.pre.1.3 c.pre.1.4,
+            c.args.scope c.args.n c.args.at c.args.bound c.requires.3 c.requires.4,
       ),
     )
 

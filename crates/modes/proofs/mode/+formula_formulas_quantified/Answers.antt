@@ -2,6 +2,7 @@
 -- `formulas` and `quantified`, which call `formula` at their own level; `formula` calls each of the two a level down.
 -- The loop of `formulas`: the formulas left decide.
 use Rattle.std.proofs.Common.{refl}
+use Rattle.std.specs.Prelude.{◌≡◌}
 use Rattle.std.specs.Prelude.{Bool}
 use Prim.Native.Nat.{ℕ, ◌+◌, ◌*◌, ◌-◌, ◌≤◌, ◌<◌}
 use native.Mathlib.Omega.{arith}
@@ -132,18 +133,17 @@ formula-returns-in_default t c =
 
 pub formulas-formula-child-requires : goal.formulas-formula-child-requires
 formulas-formula-child-requires t c =
-    let p = c.requires in
     let s = c.args in (
-      omega (arith, p.0, p.1.1),
+      omega (arith, c.decreases, c.requires.1),
       (
-        p.1.0,
-        p.1.1,
-        p.1.2,
-        p.1.3,
+        c.requires.0,
+        c.requires.1,
+        c.requires.2,
+        c.requires.3,
         next_here s.table.now s.words.now (as_role s.role) s.above s.scope s.n s.at c.loop-i.i c.loop-i.next
             c.loop-i.invariant.1
             c.loop-i-test.true
-            p.1.4,
+            c.requires.4,
       ),
     )
 
@@ -197,13 +197,12 @@ quantified-returns-then-not-introduced t c =
 
 pub quantified-formula-requires : goal.quantified-formula-requires
 quantified-formula-requires t c =
-    let p = c.requires in
     let s = c.args in (
-      omega (arith, p.0, p.1.1),
+      omega (arith, c.decreases, c.requires.1),
       (
-        p.1.0,
-        p.1.1,
-        p.1.2,
+        c.requires.0,
+        c.requires.1,
+        c.requires.2,
         formula-kind,
         body-here s.table.now s.words.now s.level s.scope s.v s.at s.first
             c.outer.result
@@ -211,7 +210,7 @@ quantified-formula-requires t c =
             c.bind-restriction.result
             c.bind-restriction.ensures
             c.in_default.is
-            p.1.3,
+            c.requires.3,
       ),
     )
 

@@ -11,6 +11,7 @@ use Rattle.modes.specs.Mode.{set_of}
 use Rattle.policies.proofs.TermLaws.{place-holds, terms_from, terms-first, terms-next, terms-last}
 use Rattle.modes.proofs.ModeTerms.{inputs_free, inputs_yes, inputs_no}
 use Rattle.modes.proofs.mode.inputs_bound.Goals as goal
+use Rattle.modes.proofs.mode.inputs_bound.Goals.{then-input+else-not-term_bound, else-input}
 
 
 pub loop-i-init : goal.loop-i-init
@@ -49,14 +50,14 @@ loop-i-preserved c =
     in (
       omega arith,
       next
-          ∙ ⊎_elim
-          (λ w.
-          inputs_yes a.table.now a.p (set_of a.bound) c.loop-i.i _ _
-          (sym c.input.ensures ∙ w.0.taken)
-          (sym w.1.ensures ∙ not-false _ w.2.left))
-          (λ w.
-          inputs_free a.table.now a.p (set_of a.bound) c.loop-i.i _ _ (sym c.input.ensures ∙ w.left))
-          c.if-input.branch,
+          ∙ elim c.if-input.branch [
+            then-input+else-not-term_bound w ↦
+              inputs_yes a.table.now a.p (set_of a.bound) c.loop-i.i _ _
+              (sym c.input.ensures ∙ w.if-input.true)
+              (sym w.term_bound.ensures ∙ w.if-not-term_bound.false)
+          | else-input w ↦
+              inputs_free a.table.now a.p (set_of a.bound) c.loop-i.i _ _ (sym c.input.ensures ∙ w.if-input.false)
+          ],
     )
 
 pub returns : goal.returns

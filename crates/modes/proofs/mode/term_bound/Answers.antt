@@ -22,5 +22,5 @@ bounds-bound-x c =
 
 pub returns : goal.returns
 returns c =
-    ap (set_of c.args.t2) c.value-x.ensures
-    ∙ variable-bound c.args.words.now c.args.i (set_of c.args.t2) (sym c.is.ensures ∙ c.if-is.false)
+    ap (set_of c.args.bound) c.value-x.ensures
+    ∙ variable-bound c.args.words.now c.args.i (set_of c.args.bound) (sym c.is.ensures ∙ c.if-is.false)

@@ -20,6 +20,7 @@ use Rattle.modes.proofs.mode.with_terms.Reads as reads
 use Rattle.words.proofs.is.Reads as is-reads
 use Rattle.words.proofs.value.Reads as value-reads
 use Rattle.modes.proofs.mode.with_terms.Goals as goal
+use Rattle.modes.proofs.mode.with_terms.Goals.{then-not-is, else-not-is}
 
 
 pub loop-i-init : goal.loop-i-init
@@ -31,14 +32,14 @@ loop-i-init c = (
 
 pub bounds-set-x : goal.bounds-set-x
 bounds-set-x c =
-    let small : reads.Pre reads.Post invariant-loop decreases-loop) → c.is.result ≡ false → value c.args.words.now (c.args.first + 2 * c.loop-i.i + 1) < 16 = λ e. variable-small c.args.words.now (c.args.first + 2 * c.loop-i.i) 16
+    let small : c.is.result ≡ false → value c.args.words.now (c.args.first + 2 * c.loop-i.i + 1) < 16 = λ e. variable-small c.args.words.now (c.args.first + 2 * c.loop-i.i) 16
     (place-holds (in_scope c.args.words.now 16) c.args.first c.args.n c.loop-i.i c.requires.1 c.loop-i-test.true)
     (sym c.is.ensures ∙ e) in
     omega (arith, c.value-x.ensures, small (c.if-not-is.true))
 
 pub loop-i-preserved : goal.loop-i-preserved
 loop-i-preserved c =
-    let small : reads.Pre reads.Post invariant-loop decreases-loop) → c.is.result ≡ false → value c.args.words.now (c.args.first + 2 * c.loop-i.i + 1) < 16 = λ e. variable-small c.args.words.now (c.args.first + 2 * c.loop-i.i) 16
+    let small : c.is.result ≡ false → value c.args.words.now (c.args.first + 2 * c.loop-i.i + 1) < 16 = λ e. variable-small c.args.words.now (c.args.first + 2 * c.loop-i.i) 16
     (place-holds (in_scope c.args.words.now 16) c.args.first c.args.n c.loop-i.i c.requires.1 c.loop-i-test.true)
     (sym c.is.ensures ∙ e) in
     let a = c.args in
@@ -50,9 +51,9 @@ loop-i-preserved c =
     (term_at a.words.now at ∷ terms_from a.words.now a.first a.n (i + 1)) =
     c.loop-i.invariant.2 ∙ ap (with_terms (set_of c.loop-i.set))
     (terms-next a.words.now a.first a.n i c.loop-i-test.true) in
-    ⊎_elim
-    (λ w. let no-constant = not-true _ w.0.taken in let marks = c.loop-i.set in let v = value a.words.now
-    (at + 1) in let is : c.if-not-is.set ≡ set marks v true = w.2 ∙ ap (λ (k : ℕ). set marks k true) w.1.ensures in (
+    elim c.if-not-is.branch [
+      then-not-is w ↦ let no-constant = w.if-not-is.true in let marks = c.loop-i.set in let v = value a.words.now
+    (at + 1) in let is : c.if-not-is.set ≡ set marks v true = w.set-is ∙ ap (λ (k : ℕ). set marks k true) w.value-x.ensures in (
       omega arith,
       ap length is ∙ length-set marks v true ∙ c.loop-i.invariant.1,
       next ∙ ap
@@ -60,17 +61,17 @@ loop-i-preserved c =
           (term-variable a.words.now at (sym c.is.ensures ∙ no-constant)) ∙ with_variable marks v _
           (omega (arith, small no-constant, c.loop-i.invariant.1)) ∙ ap
           (λ (m : List Bool). with_terms (set_of m) (terms_from a.words.now a.first a.n (i + 1))) (sym is),
-    ))
-    (λ w. let constantly = not-false _ w.0.left in (
+    )
+    | else-not-is w ↦ let constantly = w.if-not-is.false in (
       omega arith,
-      ap length w.1 ∙ c.loop-i.invariant.1,
+      ap length w.set-is ∙ c.loop-i.invariant.1,
       next ∙ ap
           (λ (t : Term). with_terms (set_of c.loop-i.set) (t ∷ terms_from a.words.now a.first a.n (i + 1)))
           (term-constant a.words.now at (sym c.is.ensures ∙ constantly)) ∙ with_constant
           (set_of c.loop-i.set) _ _ ∙ ap
-          (λ (m : List Bool). with_terms (set_of m) (terms_from a.words.now a.first a.n (i + 1))) (sym w.1),
-    ))
-    c.if-not-is.branch
+          (λ (m : List Bool). with_terms (set_of m) (terms_from a.words.now a.first a.n (i + 1))) (sym w.set-is),
+    )
+    ]
 
 pub returns : goal.returns
 returns c =

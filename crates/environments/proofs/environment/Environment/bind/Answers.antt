@@ -17,7 +17,7 @@ returns c =
     λ e h. let k = c.args.number in let back : to_z w32 (of_z w32 k) ≡ k = search rules in subst
     (λ (z : ℤ). Holds
     (record {
-      numbers = set c.args.t1.numbers c.args.variable z;
-      marks = set c.args.t1.marks c.args.variable
+      numbers = set c.args.self.numbers c.args.variable z;
+      marks = set c.args.self.marks c.args.variable
           true;
     }) (bind e c.args.variable k)) (sym back) (held-bind h c.args.variable k)

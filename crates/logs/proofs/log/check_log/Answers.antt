@@ -14,11 +14,9 @@ use Rattle.tables.specs.declared.Checked.TheVariants.{Passed, Refused}
 use Rattle.logs.specs.Log.{ask_rows, repeats_at}
 use Rattle.chains.proofs.Keys.{zeros-empty}
 use borrow.Author.Rules.{rules}
-use Rattle.logs.proofs.log.check_log.Statement.{statement}
-use Rattle.logs.proofs.log.check_log.Tie as tie
 use Rattle.logs.proofs.log.check_log.Reads as reads
-use Rattle.logs.proofs.log.check_log.Lts as lts
 use Rattle.logs.proofs.log.chain_and_check.Reads as chain-and-check-reads
+use Rattle.logs.proofs.log.check_log.Goals as goal
 
 module _ (table log : Words) where
   ask-whole : eqb (length log % 8) 0 ≡ false → refused LogLength 0 ≡ ask_log table log
@@ -33,58 +31,36 @@ module _ (table log : Words) where
   unfolding ask_log row_count ask ◌>>=◌ ask_rows repeats_at
   ask-rows e f = rw (e, f)
 
+
 -- a refusal is no pass
 never : {X : Type 0} {p : ℕ} → Refused LogLength p ≡ Passed → X
 never e = let z : ◌≡◌ {A = ℕ} 0 1 = cc in absurd (omega arith)
 
-returns : tie.Need-returns
-returns c =
-    let a = c.before.before.args in
-    record { asked = ask-whole a.table.now a.log.now (ne_eqb _ 0 c.if1.true); chained = λ e. never e }
+pub returns-then-log-ne0 : goal.returns-then-log-ne0
+returns-then-log-ne0 c =
+    let a = c.args in
+    record { asked = ask-whole a.table.now a.log.now (ne_eqb _ 0 c.if-log-ne0.true); chained = λ e. never e }
 
-returns-2 : tie.Need-returns-2
-returns-2 c =
-    let a = c.before.before.before.args in
+pub returns-then-log-gt4096 : goal.returns-then-log-gt4096
+returns-then-log-gt4096 c =
+    let a = c.args in
     record {
-      asked = ask-long a.table.now a.log.now (eq-eqb _ 0 c.before.if1.false) (lt-leb _ 4096 c.if2.true);
+      asked = ask-long a.table.now a.log.now (eq-eqb _ 0 c.if-log-ne0.false) (lt-leb _ 4096 c.if-log-gt4096.true);
       chained = λ e. never e;
     }
 
-slice-aggregate-chain-and-check : tie.Need-slice-aggregate-chain-and-check
-slice-aggregate-chain-and-check c = search rules
-
-chain-and-check-requires : tie.Need-chain-and-check-requires
+pub chain_and_check-requires : goal.chain_and_check-requires
 unfolding row_count
-chain-and-check-requires c κs =
-    let at-if2 = c.before.before in
-    let few = at-if2.if2.false in
-    let start = at-if2.before.before.before in
-    let a = start.args in
-    (few, few, zeros-empty 16384 (length a.log.now / 8) a.links.now 20480 start.requires (omega (arith, few)))
+chain_and_check-requires c =
+    let few = c.if-log-gt4096.false in
+    let a = c.args in
+    (few, few, zeros-empty 16384 (length a.log.now / 8) a.links.now 20480 c.requires (omega (arith, few)))
 
-same_length : tie.Need-same-length
-same_length c = search rules
-
-returns-3 : tie.Need-returns-3
-returns-3 c =
-    let at-chain-and-check = c.before.before.before in
-    let chain-and-check = at-chain-and-check.chain-and-check in
-    let at-if2 = at-chain-and-check.before.before.before in
-    let at-if1 = at-if2.before in
-    let a = at-if1.before.before.args in
+pub returns : goal.returns
+returns c =
+    let a = c.args in
     record {
-      asked = chain-and-check.ensures.0 ∙ sym
-          (ask-rows a.table.now a.log.now (eq-eqb _ 0 at-if1.if1.false) (le-leb _ 4096 at-if2.if2.false));
-      chained = λ e. chain-and-check.ensures.1;
+      asked = c.chain_and_check.ensures.result_value ∙ sym
+          (ask-rows a.table.now a.log.now (eq-eqb _ 0 c.if-log-ne0.false) (le-leb _ 4096 c.if-log-gt4096.false));
+      chained = λ e. c.chain_and_check.ensures.chained;
     }
-
-pub check_log_spec : {M : Type 1} → statement M
-check_log_spec =
-    tie.close
-    (tie.spec
-    returns
-    returns-2
-    slice-aggregate-chain-and-check
-    chain-and-check-requires
-    same_length
-    returns-3)

@@ -1,0 +1,39 @@
+-- `logs::log::unused` meets its contract. The invariant: the test comes to whether the arguments that are not 0 so far stand
+-- before the n-th, and the test of those from i on that are unused.
+use Prim.Native.Nat.{ℕ, ◌+◌, ◌-◌, ◌≤◌, max}
+use native.Mathlib.Omega.{arith}
+use mathlib.Core.Path.{◌≡◌, sym, ap, ◌∙◌}
+use mathlib.Core.Logic.{⊎_elim}
+use mathlib.Core.Bool.{◌&&◌}
+use lib.Dec.{leb}
+use borrow.Author.Tests.{not-true, not-false}
+use Rattle.logs.specs.Log.{unused_from}
+use Rattle.logs.proofs.Rows.{unused-start, unused-zero, unused-word, unused-last}
+use Rattle.logs.proofs.log.unused.Reads as reads
+use Rattle.words.proofs.zero.Reads as zero-reads
+use Rattle.logs.proofs.log.unused.Goals as goal
+
+
+pub loop-i-preserved : goal.loop-i-preserved
+loop-i-preserved c =
+    let a = c.args in
+    ⊎_elim
+    (λ w. let now = w.1 in (
+      omega arith,
+      omega arith,
+      c.loop-i.invariant.2 ∙ unused-word a.row.now c.requires a.n c.loop-i.i c.loop-i.used
+          c.loop-i-test.true c.loop-i.invariant.1 (sym c.zero.ensures ∙ not-true _ w.0.taken) ∙ ap
+          (λ (u : ℕ). leb u a.n && unused_from a.row.now (max a.n (c.loop-i.i + 1))) (sym now),
+    ))
+    (λ w. let now = w.1 in (
+      omega arith,
+      omega (arith, c.loop-i.invariant.1),
+      c.loop-i.invariant.2 ∙ unused-zero a.row.now c.requires a.n c.loop-i.i
+          c.loop-i.used c.loop-i-test.true (sym c.zero.ensures ∙ not-false _ w.0.left) ∙ ap
+          (λ (u : ℕ). leb u a.n && unused_from a.row.now (max a.n (c.loop-i.i + 1))) (sym now),
+    )) c.if-not-zero.branch
+
+pub returns : goal.returns
+returns c =
+    let a = c.args in
+    sym (c.loop-i.invariant.2 ∙ unused-last a.row.now c.requires a.n c.loop-i.i c.loop-i.used c.loop-i-test.false)

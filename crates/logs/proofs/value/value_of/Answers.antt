@@ -1,0 +1,63 @@
+-- `logs::value::value_of` meets its contract: what the row found says, or the predicate's completeness, is the atom's value.
+use native.Mathlib.Omega.{arith}
+use mathlib.Core.Path.{sym, ◌∙◌}
+use mathlib.Core.Bool.{true, false}
+use Rattle.model.specs.Log.{row_count}
+use Rattle.logs.proofs.Values.{first-inside, value_found, by_row, by_complete, by_nothing}
+use borrow.Author.Rules.{rules}
+use Rattle.logs.proofs.value.value_of.Reads as reads
+use Rattle.chains.proofs.key.of_atom.Reads as of-atom-reads
+use Rattle.chains.proofs.search.search.Reads as search-reads
+use Rattle.words.proofs.is.Reads as is-reads
+use Rattle.logs.proofs.value.value_of.Goals as goal
+
+
+pub overflow_mul-row : goal.overflow_mul-row
+unfolding row_count
+overflow_mul-row c =
+    let a = c.args in
+    let b =
+    first-inside a.log.now a.predicate a.arguments.now _ (row_count a.log.now) 0
+    (sym c.search-found.ensures ∙ c.in-At.is) in
+    omega arith
+
+pub overflow_add-row : goal.overflow_add-row
+unfolding row_count
+overflow_add-row c =
+    let a = c.args in
+    let b =
+    first-inside a.log.now a.predicate a.arguments.now _ (row_count a.log.now) 0
+    (sym c.search-found.ensures ∙ c.in-At.is) in
+    omega arith
+
+pub returns-then-is : goal.returns-then-is
+returns-then-is c =
+    let a = c.args in
+    λ ns long filled. sym
+    (value_found a.table.now a.log.now a.predicate c.requires.2 a.arguments.now ns c.requires.1
+    c.search-found.ensures long filled ∙ by_row a.table.now a.log.now a.predicate _ true
+    c.in-At.is (sym c.is.ensures ∙ c.if-is.true))
+
+pub returns-else-is : goal.returns-else-is
+returns-else-is c =
+    let a = c.args in
+    λ ns long filled. sym
+    (value_found a.table.now a.log.now a.predicate c.requires.2 a.arguments.now ns c.requires.1
+    c.search-found.ensures long filled ∙ by_row a.table.now a.log.now a.predicate _ false
+    c.in-At.is (sym c.is.ensures ∙ c.if-is.false))
+
+pub returns-then-complete : goal.returns-then-complete
+returns-then-complete c =
+    let a = c.args in
+    λ ns long filled. sym
+    (value_found a.table.now a.log.now a.predicate c.requires.2 a.arguments.now ns c.requires.1
+    c.search-found.ensures long filled ∙ by_complete a.table.now a.log.now a.predicate
+    c.in-Nothing.is (sym c.complete.ensures ∙ c.if-complete.true))
+
+pub returns-else-complete : goal.returns-else-complete
+returns-else-complete c =
+    let a = c.args in
+    λ ns long filled. sym
+    (value_found a.table.now a.log.now a.predicate c.requires.2 a.arguments.now ns c.requires.1
+    c.search-found.ensures long filled ∙ by_nothing a.table.now a.log.now a.predicate
+    c.in-Nothing.is (sym c.complete.ensures ∙ c.if-complete.false))
