@@ -12,26 +12,28 @@ use Rattle.logs.proofs.Rows.{unused-start, unused-zero, unused-word, unused-last
 use Rattle.logs.proofs.log.unused.Reads as reads
 use Rattle.words.proofs.zero.Reads as zero-reads
 use Rattle.logs.proofs.log.unused.Goals as goal
+use Rattle.logs.proofs.log.unused.Goals.{then-not-zero, else-not-zero}
 
 
 pub loop-i-preserved : goal.loop-i-preserved
 loop-i-preserved c =
     let a = c.args in
-    ⊎_elim
-    (λ w. let now = w.1 in (
-      omega arith,
-      omega arith,
-      c.loop-i.invariant.2 ∙ unused-word a.row.now c.requires a.n c.loop-i.i c.loop-i.used
-          c.loop-i-test.true c.loop-i.invariant.1 (sym c.zero.ensures ∙ not-true _ w.0.taken) ∙ ap
-          (λ (u : ℕ). leb u a.n && unused_from a.row.now (max a.n (c.loop-i.i + 1))) (sym now),
-    ))
-    (λ w. let now = w.1 in (
-      omega arith,
-      omega (arith, c.loop-i.invariant.1),
-      c.loop-i.invariant.2 ∙ unused-zero a.row.now c.requires a.n c.loop-i.i
-          c.loop-i.used c.loop-i-test.true (sym c.zero.ensures ∙ not-false _ w.0.left) ∙ ap
-          (λ (u : ℕ). leb u a.n && unused_from a.row.now (max a.n (c.loop-i.i + 1))) (sym now),
-    )) c.if-not-zero.branch
+    elim c.if-not-zero.branch [
+      then-not-zero w ↦ let now = w.used-is in (
+        omega arith,
+        omega arith,
+        c.loop-i.invariant.2 ∙ unused-word a.row.now c.requires a.n c.loop-i.i c.loop-i.used
+            c.loop-i-test.true c.loop-i.invariant.1 (sym c.zero.ensures ∙ w.if-not-zero.true) ∙ ap
+            (λ (u : ℕ). leb u a.n && unused_from a.row.now (max a.n (c.loop-i.i + 1))) (sym now),
+      )
+    | else-not-zero w ↦ let now = w.used-is in (
+        omega arith,
+        omega (arith, c.loop-i.invariant.1),
+        c.loop-i.invariant.2 ∙ unused-zero a.row.now c.requires a.n c.loop-i.i
+            c.loop-i.used c.loop-i-test.true (sym c.zero.ensures ∙ w.if-not-zero.false) ∙ ap
+            (λ (u : ℕ). leb u a.n && unused_from a.row.now (max a.n (c.loop-i.i + 1))) (sym now),
+      )
+    ]
 
 pub returns : goal.returns
 returns c =
