@@ -6,7 +6,6 @@ use mathlib.Core.Bool.{Bool, true, false, false≢true}
 use mathlib.Core.List.{List, [], ◌∷◌}
 use lib.ListN.{length, length-append}
 use lib.IntN.{ℤ}
-use types.Run.{OneOf, miss}
 use denote.Enum.Declared as Declared
 use Rattle.model.specs.Words.{Words, word}
 use Rattle.model.specs.Lists.{gather}
@@ -34,14 +33,14 @@ simple (T.Tag.quantifier b) = false
 simple T.Tag.some = false
 simple T.Tag.unused = true
 
-simple_tags : (tag : Tag) → OneOf (0 ∷ 1 ∷ 2 ∷ 3 ∷ 6 ∷ []) (Declared.tag_of the_type tag) → simple (as_tag tag) ≡ true
+simple_tags : (tag : Tag) → (((b : Bool) → tag ≡ Quantifier b → ⊥) × (tag ≡ Some → ⊥)) → simple (as_tag tag) ≡ true
 unfolding simple
 simple_tags (Plain b) k = refl
 simple_tags (Atom b) k = refl
 simple_tags (Compare b) k = refl
 simple_tags (Join b) k = refl
-simple_tags (Quantifier b) k = absurd (miss (0 ∷ 1 ∷ 2 ∷ 3 ∷ 6 ∷ []) 4 tt k)
-simple_tags Some k = absurd (miss (0 ∷ 1 ∷ 2 ∷ 3 ∷ 6 ∷ []) 5 tt k)
+simple_tags (Quantifier b) k = absurd (k.0 b refl)
+simple_tags Some k = absurd (k.1 refl)
 simple_tags Unused k = refl
 
 simple_kept : (t : Tree) → simple (root t) ≡ true → kept t ≡ mine t
@@ -150,7 +149,7 @@ module _ (words : Words) (at : ℕ) (tag : Tag) (told : as_tag tag ≡ T.tag_of 
 
     -- a node that keeps its own words
     pub after-own :
-        OneOf (0 ∷ 1 ∷ 2 ∷ 3 ∷ 6 ∷ []) (Declared.tag_of the_type tag) →
+        (((b : Bool) → tag ≡ Quantifier b → ⊥) × (tag ≡ Some → ⊥)) →
         (tree : Tree) (next : ℕ) → Grown words at tree next → at + own ≡ at + suc (length (kept tree))
     after-own k t next g =
         let same = simple_kept t (sym (ap simple (told ∙ tree_tag words at next t g)) ∙ simple_tags tag k) in

@@ -6,7 +6,6 @@ use mathlib.Core.Bool.{Bool, true, false, ◌&&◌, false≢true}
 use mathlib.Core.List.{[], ◌∷◌}
 use lib.ListN.{length}
 use lib.IntN.{pos}
-use types.Run.{OneOf, miss}
 use denote.Enum.Declared as D
 use Rattle.model.specs.Words.{Words, word, value, equal}
 use Rattle.model.specs.Table.{predicates, complete}
@@ -39,11 +38,11 @@ complete-atom table words at tag b p r is e q =
     q ∙ ap (complete table) e ∙ sym (ap (λ (k : Read). complete_at table words (as_tag k) at) is)
 
 pub complete-other :
-    (table words : Words) (at : ℕ) (tag : Read) → OneOf (0 ∷ 2 ∷ 3 ∷ 4 ∷ 5 ∷ 6 ∷ []) (D.tag_of the_type tag) →
+    (table words : Words) (at : ℕ) (tag : Read) → ((b : Bool) → tag ≡ Atom b → ⊥) →
     true ≡ complete_at table words (as_tag tag) at
 unfolding complete_at
 complete-other table words at (Plain b) k = refl
-complete-other table words at (Atom b) k = absurd (miss (0 ∷ 2 ∷ 3 ∷ 4 ∷ 5 ∷ 6 ∷ []) 1 tt k)
+complete-other table words at (Atom b) k = absurd (k b refl)
 complete-other table words at (Compare b) k = refl
 complete-other table words at (Join b) k = refl
 complete-other table words at (Quantifier b) k = refl

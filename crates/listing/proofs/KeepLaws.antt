@@ -5,7 +5,6 @@ use mathlib.Core.Bool.{Bool, true, false}
 use mathlib.Core.List.{[], ◌∷◌}
 use lib.ListN.{length}
 use lib.IntN.{ℤ}
-use types.Run.{OneOf, miss}
 use denote.Enum.Declared as D
 use Rattle.model.specs.Words.{Words, word, same, predicate_limit}
 use Rattle.model.specs.Lists.{all}
@@ -88,12 +87,12 @@ module _ (table words log : Words) (held : Held) (at : ℕ) where
 
   -- every other tag
   pub keeps_none :
-      (tag : Tag) → as_tag tag ≡ T.tag_of (word words at) → OneOf (3 ∷ 4 ∷ 5 ∷ 6 ∷ []) (D.tag_of the_type tag) →
+      (tag : Tag) → as_tag tag ≡ T.tag_of (word words at) → (((b : Bool) → tag ≡ Plain b → ⊥) × ((b : Bool) → tag ≡ Atom b → ⊥) × ((b : Bool) → tag ≡ Compare b → ⊥)) →
       TellsKept table words log held at false
   unfolding keeps_of
-  keeps_none (Plain b) told k e above scope c next holds node = absurd (miss (3 ∷ 4 ∷ 5 ∷ 6 ∷ []) 0 tt k)
-  keeps_none (Atom b) told k e above scope c next holds node = absurd (miss (3 ∷ 4 ∷ 5 ∷ 6 ∷ []) 1 tt k)
-  keeps_none (Compare b) told k e above scope c next holds node = absurd (miss (3 ∷ 4 ∷ 5 ∷ 6 ∷ []) 2 tt k)
+  keeps_none (Plain b) told k e above scope c next holds node = absurd (k.0 b refl)
+  keeps_none (Atom b) told k e above scope c next holds node = absurd (k.1 b refl)
+  keeps_none (Compare b) told k e above scope c next holds node = absurd (k.2 b refl)
   keeps_none (Join b) told k e above scope c next holds node =
       let (ts, tree) = has table words restriction above scope at (T.Tag.join b) told c next node in
       sym (ap (λ (t : Tree). keeps_of table (rows log) t e) tree)

@@ -1,0 +1,25 @@
+-- `instances::seen::key` meets its contract. The loop's invariant: the key is that of the words from number i on, added to the sum.
+use Prim.Native.Nat.{◌-◌, ◌≤◌}
+use native.Mathlib.Omega.{arith}
+use mathlib.Core.Path.{◌≡◌, sym, ◌∙◌}
+use lib.ListN.{take, drop}
+use Rattle.instances.specs.Keyed.{key_from, key_of}
+use Rattle.words.proofs.PartLaws.{part_from}
+use Rattle.instances.proofs.KeyLaws.{key-first, key_on, key-last}
+use borrow.Author.Rules.{rules}
+use Rattle.instances.proofs.seen.key.Goals as goal
+
+
+pub loop-i-preserved : goal.loop-i-preserved
+loop-i-preserved c =
+    let a_2 = c.args in
+    let a = a_2 in (
+      omega arith,
+      c.loop-i.invariant.1 ∙ key_on a.words.now a.at a.v c.loop-i.i c.loop-i.sum c.offset-word.result
+          c.loop-i-test.true c.requires c.offset-word.ensures,
+    )
+
+pub returns : goal.returns
+returns c =
+    let a = c.args in
+    sym (c.loop-i.invariant.1 ∙ key-last a.words.now a.at a.v c.loop-i.i c.loop-i.sum c.loop-i-test.false)

@@ -1,0 +1,16 @@
+-- `instances::seen::seen` meets its contract. The loop's invariant: the tuple is one of the entries if it is one of those below the link,
+-- the last of which has its key. The measure is the link, which falls along a chain.
+use Prim.Native.Nat.{◌-◌}
+use native.Mathlib.Omega.{arith}
+use lib.ListN.{take, drop, length}
+use Rattle.instances.specs.Keyed.{entry_at}
+use Rattle.instances.proofs.InstanceLaws.{tuple-room}
+use Rattle.instances.proofs.KeyLaws.{Walking, key-small, walking_first, walking_found, walking_on, walking_last, link_less}
+use borrow.Author.Rules.{rules}
+use Rattle.instances.proofs.seen.seen.Given as goal
+
+abbrev pub invariant-loop-link : goal.invariant-loop-link
+invariant-loop-link l = Walking (entry_at l.words l.from l.m l.v l.scratch l.start) (take l.v (drop l.at l.scratch)) l.n l.link
+
+abbrev pub decreases-loop-link : goal.decreases-loop-link
+decreases-loop-link l = l.link

@@ -1,0 +1,15 @@
+-- `tptp_binders::tuples::further` meets its contract. The loop's invariant: so many numbers were read and laid.
+use native.Mathlib.Omega.{arith}
+use Prim.Native.Nat.{ℕ, ◌-◌, ◌≤◌}
+use mathlib.Core.Path.{◌≡◌, refl, subst, ◌∙◌}
+use lib.ListN.{length}
+use Rattle.tptp_tokens.specs.Steps.{Within, Behind}
+use Rattle.tptp_binders.proofs.TupleLaws.{Furthers, furthers_none, furthers_more, furthers_end}
+use borrow.Author.Rules.{rules}
+use Rattle.tptp_binders.proofs.tuples.further.Given as goal
+
+abbrev pub invariant-loop-i : goal.invariant-loop-i
+invariant-loop-i l = Behind (Furthers l.n l.x l.w l.text l.initial.out l.out l.i) l.initial.end l.end × Within l.text l.end × (l.i ≤ l.n) × (length l.out ≡ length l.initial.out)
+
+abbrev pub decreases-loop-i : goal.decreases-loop-i
+decreases-loop-i l = l.n - l.i
