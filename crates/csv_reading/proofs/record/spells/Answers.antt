@@ -1,0 +1,30 @@
+-- `csv_reading::record::spells` meets its contract, from the test of the row and the arity of its predicate.
+use Prim.Native.Nat.{◌<◌, ◌≤◌}
+use native.Mathlib.Omega.{arith}
+use mathlib.Core.Path.{◌≡◌, sym, ap, ◌∙◌}
+use borrow.Author.Tests.{not-true, not-false}
+use Rattle.model.specs.Words.{value}
+use Rattle.model.specs.Table.{predicates, arity}
+use Rattle.laws.specs.LogText.Back.{good-arity}
+use Rattle.csv_reading.proofs.RecordLaws.{spells_bad, spells-good}
+use borrow.Author.Rules.{rules}
+use Rattle.csv_reading.proofs.record.spells.Goals as goal
+
+
+pub returns-then-not-good_row : goal.returns-then-not-good_row
+returns-then-not-good_row c =
+    spells_bad c.args.table.now c.args.row.now c.args.fields _ c.requires.1 c.clear.ensures
+    (sym c.good_row.ensures ∙ c.if-not-good_row.true)
+
+pub overflow_add-result : goal.overflow_add-result
+overflow_add-result c =
+    let there : let table = c.args.table.now in (value c.clear.new.buffer 0 < predicates table) × (arity table (value c.clear.new.buffer 0) ≤ 6) = good-arity c.args.table.now c.requires.0 c.clear.new.buffer (sym c.good_row.ensures ∙ c.if-not-good_row.false) in
+    let arity-is : c.arity.result ≡ arity c.args.table.now (value c.clear.new.buffer 0) = c.arity.ensures ∙ ap (arity c.args.table.now) c.value.ensures in
+    omega (arith, arity-is, (there).1)
+
+pub returns : goal.returns
+returns c =
+    let arity-is : c.arity.result ≡ arity c.args.table.now (value c.clear.new.buffer 0) = c.arity.ensures ∙ ap (arity c.args.table.now) c.value.ensures in
+    rw (arity-is)
+    (spells-good c.args.table.now c.args.row.now c.args.fields c.clear.new.buffer c.requires.1
+    c.clear.ensures (sym c.good_row.ensures ∙ c.if-not-good_row.false))

@@ -1,0 +1,217 @@
+-- The proof of the cycle of calls {list, list_join, list_some}. The measure is twice the levels left: one more for
+-- `list_join`, which calls `list` at its own level, and one less for `list_some`, which calls it a level down.
+-- The loop: the children passed made the lists that stand, and those left stand at the index reached.
+use Rattle.std.specs.Prelude.{Bool}
+use Prim.Native.Nat.{ℕ, ◌+◌, ◌*◌, ◌-◌, ◌≤◌, ◌<◌}
+use native.Mathlib.Omega.{arith}
+use mathlib.Core.Path.{◌≡◌, refl, sym, ap, ◌∙◌, subst}
+use mathlib.Core.Bool.{true, false}
+use mathlib.Core.List.{[], ◌∷◌}
+use types.Run.{OneOf, miss}
+use denote.Enum.Declared.{tag_of}
+use lib.ListN.{length}
+use borrow.Author.Rules.{rules}
+use Rattle.model.specs.Level.{restriction}
+use Rattle.model.specs.Tag as T
+use Rattle.policies.specs.Standing.{HereAll}
+use Rattle.policies.specs.Node.{as_tag}
+use Rattle.policies.specs.declared.node.Tag.{Tag}
+use Rattle.policies.specs.declared.node.Tag.TheVariants.{Plain, Atom, Compare, Join, Quantifier, Some, Unused}
+use Rattle.policies.specs.contracts.node.Tag.{the_type as tag-type}
+use Rattle.policies.proofs.Standing.{here-atom, here-join, here-some, low, inside, inside-all}
+use Rattle.listing.proofs.Leaves.{LeafTag}
+use Rattle.listing.specs.Restrictions.{MakesTree}
+use Rattle.listing.proofs.AtomLaws.{terms-there}
+use Rattle.listing.proofs.JoinLaws.{SoFar, join_first, join_asks, join-stop, join_passing, join-next, join-numbers, join_close}
+use Rattle.listing.proofs.WalkLaws.{from-atom, from-kept, from-join, from_some}
+use Rattle.listing.proofs.SomeLaws.{some-short, some-inside, some_holds, some-full, some_end}
+use Prim.Native.Nat.{ℕ, ◌<◌}
+use Rattle.listing.proofs.restriction.+list_list_join_list_some.Goals as goal
+
+-- the tags that are left when joins, some and atoms are not
+other : (tag : Tag) → (((b : Bool) → tag ≡ Atom b → ⊥) × ((b : Bool) → tag ≡ Join b → ⊥) × (tag ≡ Some → ⊥)) → LeafTag (as_tag tag)
+other (Plain b) k = tt
+other (Atom b) k = absurd (k.0 b refl)
+other (Compare b) k = tt
+other (Join b) k = absurd (k.1 b refl)
+other (Quantifier b) k = tt
+other Some k = absurd (k.2 refl)
+other Unused k = tt
+
+pub list-list_join-requires : goal.list-list_join-requires
+list-list_join-requires t c =
+    let a = c.args in
+    let j =
+    here-join a.table.now a.words.now a.above a.scope a.at
+    _ (ap as_tag (sym c.in-Join.is) ∙ c.tag_at-tag.ensures) c.requires.3 in
+    let l = low a.table.now a.words.now restriction a.above a.scope a.at c.requires.3 in
+    let here =
+    subst (λ (n : ℕ). HereAll a.table.now a.words.now restriction (a.above + 1) a.scope n (a.at + 2))
+    (sym c.value-n.ensures) j.0 in (
+      omega (arith, l, c.decreases),
+      (
+        c.requires.0,
+        l,
+        c.requires.2,
+        omega (arith, j.1, c.value-n.ensures),
+        here,
+        c.requires.4,
+        c.requires.5,
+      ),
+    )
+
+pub list-list_some-requires : goal.list-list_some-requires
+list-list_some-requires t c =
+    let a = c.args in
+    let k =
+    here-some a.table.now a.words.now a.above a.scope a.at
+    (ap as_tag (sym c.in-Some.is) ∙ c.tag_at-tag.ensures)
+    c.requires.3 in
+    let l = low a.table.now a.words.now restriction a.above a.scope a.at c.requires.3 in (
+      omega (arith, l, c.decreases),
+      (c.requires.0, omega (arith, l), omega (arith, k.0), k.1, c.requires.4, c.requires.5),
+    )
+
+pub list-list_atom-requires : goal.list-list_atom-requires
+list-list_atom-requires t c =
+    let a = c.args in (
+      c.requires.0.linked,
+      here-atom a.table.now a.words.now a.above a.scope a.at
+          c.requires.0.few c.requires.2 _ (ap as_tag (sym c.in-Atom.is) ∙ c.tag_at-tag.ensures)
+          c.requires.3 (omega (arith)),
+      c.requires.4,
+      c.requires.5,
+      terms-there
+          a.table.now a.words.now a.above a.scope a.at _
+          (ap as_tag (sym c.in-Atom.is) ∙ c.tag_at-tag.ensures) c.requires.3,
+    )
+
+pub list-returns-in-Join : goal.list-returns-in-Join
+list-returns-in-Join t c =
+    let a = c.args in
+    λ es h. from-join a.table.now a.words.now a.log.now a.above a.scope a.at es a.room
+    a.scratch.now _ _ _ (ap as_tag (sym c.in-Join.is) ∙ c.tag_at-tag.ensures)
+    (λ ts next nodes n. c.list_join.ensures es h ts next nodes (n ∙ sym c.value-n.ensures))
+
+pub list-returns-in-Some : goal.list-returns-in-Some
+list-returns-in-Some t c =
+    let a = c.args in
+    λ es h. from_some a.table.now a.words.now a.log.now a.above a.scope a.at es a.room
+    a.scratch.now _ _ (ap as_tag (sym c.in-Some.is) ∙ c.tag_at-tag.ensures)
+    (c.list_some.ensures es h)
+
+pub list-returns-then-holds : goal.list-returns-then-holds
+list-returns-then-holds t c =
+    let a = c.args in
+    λ es h. from-atom a.table.now a.words.now a.log.now a.above a.scope a.at es a.room
+    a.scratch.now _ _
+    (ap T.Tag.atom (sym c.if-holds.true)
+    ∙ (ap as_tag (sym c.in-Atom.is) ∙ c.tag_at-tag.ensures))
+    (c.list_atom.ensures es h)
+
+pub list-returns-else-holds : goal.list-returns-else-holds
+list-returns-else-holds t c =
+    let a = c.args in
+    λ es h. from-kept a.table.now a.words.now a.log.now a.above a.scope a.at es a.room
+    a.scratch.now _ _ (T.Tag.atom false)
+    (ap T.Tag.atom (sym c.if-holds.false) ∙ (ap as_tag (sym c.in-Atom.is) ∙ c.tag_at-tag.ensures))
+    tt (c.list_kept.ensures es h)
+
+pub list-returns-in_default : goal.list-returns-in_default
+list-returns-in_default t c =
+    let a = c.args in
+    λ es h. from-kept a.table.now a.words.now a.log.now a.above a.scope a.at es a.room
+    a.scratch.now _ _ (as_tag c.tag_at-tag.result) c.tag_at-tag.ensures (other c.tag_at-tag.result (c.in_default.not-Atom, c.in_default.not-Join, c.in_default.not-Some))
+    (c.list_kept-in_default.ensures es h)
+
+pub list_join-loop-i-init : goal.list_join-loop-i-init
+list_join-loop-i-init t c =
+    let a = c.args in (
+      omega arith,
+      refl,
+      join_first a.table.now a.words.now a.log.now a.above a.scope a.n a.at a.room
+          a.scratch.now c.requires.5 a.every,
+    )
+
+pub list_join-list-child-requires : goal.list_join-list-child-requires
+list_join-list-child-requires t c =
+    let a = c.args in
+    let (here, roomy, holds) =
+    join_asks a.table.now a.words.now a.log.now a.above a.scope a.n a.at a.room
+    a.scratch.now c.requires.5 c.requires.4 c.requires.6 c.loop-i.i c.loop-i.next c.loop-i.handed c.loop-i.scratch
+    c.loop-i.invariant.1 a.every c.loop-i.invariant.2
+    c.loop-i-test.true in (
+      omega (arith, c.decreases, c.requires.1),
+      (c.requires.0, c.requires.1, c.requires.2, here, roomy, holds),
+    )
+
+pub list_join-returns-in_default : goal.list_join-returns-in_default
+list_join-returns-in_default t c =
+    let a = c.args in
+    join-stop a.table.now a.words.now a.log.now a.above a.scope a.n a.at a.room
+    a.scratch.now c.requires.5 c.requires.4 c.requires.6 c.loop-i.i c.loop-i.next c.loop-i.handed c.loop-i.scratch
+    c.loop-i.invariant.1 a.every c.loop-i.invariant.2
+    c.loop-i-test.true c.in_default.is c.list-child.ensures
+
+pub list_join-pass_on-handed-requires : goal.list_join-pass_on-handed-requires
+list_join-pass_on-handed-requires t c =
+    let a = c.args in
+    join_passing a.table.now a.words.now a.log.now a.above a.scope a.n a.at a.room
+    a.scratch.now c.requires.5 c.requires.4 c.requires.6 c.loop-i.i c.loop-i.next c.loop-i.handed c.loop-i.scratch
+    c.loop-i.invariant.1 a.every c.loop-i.invariant.2
+    c.loop-i-test.true c.in-List.is c.list-child.ensures
+    c.list-child.auto.scratch
+
+pub list_join-loop-i-preserved : goal.list_join-loop-i-preserved
+list_join-loop-i-preserved t c =
+    let a = c.args in (
+      omega (arith, c.loop-i-test.true),
+      c.pass_on-handed.auto.scratch ∙ c.list-child.auto.scratch ∙ c.loop-i.invariant.1,
+      join-next a.table.now a.words.now a.log.now a.above a.scope a.n a.at a.room
+          a.scratch.now c.requires.5 c.requires.4 c.requires.6 c.loop-i.i c.loop-i.next c.loop-i.handed c.loop-i.scratch
+          c.loop-i.invariant.1 a.every c.loop-i.invariant.2
+          c.loop-i-test.true c.in-List.is c.list-child.ensures _ _ c.pass_on-handed.ensures,
+    )
+
+pub list_join-returns : goal.list_join-returns
+list_join-returns t c =
+    let a = c.args in
+    join_close a.table.now a.words.now a.log.now a.above a.scope a.n a.at a.room
+    a.scratch.now c.requires.5 c.requires.4 c.requires.6 c.loop-i.i c.loop-i.next c.loop-i.handed c.loop-i.scratch
+    c.loop-i.invariant.1 a.every c.loop-i.invariant.2
+    c.loop-i-test.false c.requires.3 c.loop-i.invariant.0 _ c.close.ensures
+
+pub list_some-returns-in_default : goal.list_some-returns-in_default
+list_some-returns-in_default t c =
+    let a = c.args in
+    λ es h d next node. some-short a.table.now a.log.now a.scope d es a.room a.scratch.now _ next
+    (subst (MakesTree a.table.now a.log.now d (a.scope + 1) next es a.room a.scratch.now _)
+    c.in_default.is (c.list-child.ensures es h d next node))
+
+pub list_some-returns-then-to : goal.list_some-returns-then-to
+list_some-returns-then-to t c =
+    let a = c.args in
+    λ es h d next node. some-full a.table.now a.log.now a.scope d es a.room a.scratch.now _ next _ _
+    (subst (MakesTree a.table.now a.log.now d (a.scope + 1) next es a.room a.scratch.now _)
+    c.in-List.is (c.list-child.ensures es h d next node)) _
+    (c.release_all.ensures _
+    (some_holds a.table.now a.log.now a.scope d es a.room a.scratch.now _ next _ _
+    (subst (MakesTree a.table.now a.log.now d (a.scope + 1) next es a.room a.scratch.now _)
+    c.in-List.is (c.list-child.ensures es h d next node))).listed
+    (some_holds a.table.now a.log.now a.scope d es a.room a.scratch.now _ next _ _
+    (subst (MakesTree a.table.now a.log.now d (a.scope + 1) next es a.room a.scratch.now _)
+    c.in-List.is (c.list-child.ensures es h d next node))).long) c.if-to.true
+
+pub list_some-returns : goal.list_some-returns
+list_some-returns t c =
+    let a = c.args in
+    λ es h d next node. some_end a.table.now a.log.now a.scope d es a.room a.scratch.now _ next _ _
+    (subst (MakesTree a.table.now a.log.now d (a.scope + 1) next es a.room a.scratch.now _)
+    c.in-List.is (c.list-child.ensures es h d next node)) _
+    (c.release_all.ensures _
+    (some_holds a.table.now a.log.now a.scope d es a.room a.scratch.now _ next _ _
+    (subst (MakesTree a.table.now a.log.now d (a.scope + 1) next es a.room a.scratch.now _)
+    c.in-List.is (c.list-child.ensures es h d next node))).listed
+    (some_holds a.table.now a.log.now a.scope d es a.room a.scratch.now _ next _ _
+    (subst (MakesTree a.table.now a.log.now d (a.scope + 1) next es a.room a.scratch.now _)
+    c.in-List.is (c.list-child.ensures es h d next node))).long) c.if-to.false c.counted.ensures

@@ -1,0 +1,39 @@
+-- `log_texts::settle_rows` meets its contract: too many rows, no room, or the questions asked of them where they stand.
+use Prim.Native.Nat.{◌*◌}
+use native.Mathlib.Omega.{arith}
+use mathlib.Core.Path.{◌≡◌, sym, ap, ◌∙◌}
+use lib.ListN.{length}
+use lib.Seq.{length-take-le}
+use Rattle.model.specs.Words.{Words}
+use Rattle.model.specs.Answer.{passed}
+use Rattle.model.specs.Log.{ask_log}
+use Rattle.tables.specs.Checked.{outcome}
+use Rattle.csv_reading.specs.Rows.{ask_text}
+use Rattle.log_texts.proofs.LogReading.{log-long, log-stands, settled-many, settled-refused, settled-passed}
+use borrow.Author.Rules.{rules}
+use Rattle.log_texts.proofs.settle_rows.Goals as goal
+
+
+pub returns-then-rows-gt4096 : goal.returns-then-rows-gt4096
+returns-then-rows-gt4096 c =
+    let a = c.args in
+    λ log e. settled-many a.table.now _ log a.rows
+    (log-long a.table.now a.text.now a.buffer.now a.rows c.requires.1 log e) c.if-rows-gt4096.true
+
+pub returns-in-Refused : goal.returns-in-Refused
+returns-in-Refused c =
+    let asked_of : (log : Words) → let a = c.args in ask_text a.table.now a.text.now ≡ passed log → outcome c.check_rows-asked.result ≡ ask_log a.table.now log = λ log e. let a = c.args in
+    c.check_rows-asked.ensures
+    ∙ ap (ask_log a.table.now) (log-stands a.table.now a.text.now a.buffer.now a.rows c.requires.1 log e c.if-buffer-n.false) in
+    let a = c.args in
+    λ log e. settled-refused a.table.now _ log (sym (asked_of log e) ∙ ap outcome c.in-Refused.is)
+
+pub returns-in-Passed : goal.returns-in-Passed
+returns-in-Passed c =
+    let asked_of : (log : Words) → let a = c.args in ask_text a.table.now a.text.now ≡ passed log → outcome c.check_rows-asked.result ≡ ask_log a.table.now log = λ log e. let a = c.args in
+    c.check_rows-asked.ensures
+    ∙ ap (ask_log a.table.now) (log-stands a.table.now a.text.now a.buffer.now a.rows c.requires.1 log e c.if-buffer-n.false) in
+    let a = c.args in
+    λ log e. let long = log-long a.table.now a.text.now a.buffer.now a.rows c.requires.1 log e in
+    settled-passed a.table.now _ log a.rows long (sym (asked_of log e) ∙ ap outcome c.in-Passed.is)
+    (omega (arith, c.if-buffer-n.false))
