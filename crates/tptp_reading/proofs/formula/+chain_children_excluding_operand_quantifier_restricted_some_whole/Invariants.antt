@@ -58,6 +58,9 @@ decreases-restricted l = 5 * l.room + 2
 abbrev pub decreases-some : goal.decreases-some
 decreases-some l = 5 * l.room
 
+abbrev pub decreases-whole : goal.decreases-whole
+decreases-whole l = 5 * l.room + 4
+
 abbrev pub invariant-children-loop-role : goal.invariant-children-loop-role
 invariant-children-loop-role l =
     Joining l.room l.every l.table (as_role l.role) l.above l.scope l.start (state_of l.initial.known l.initial.set) l.text l.at l.initial.out l.out (state_of l.known l.set) l.next l.n

@@ -1,0 +1,51 @@
+-- `nodes::conclude::conclude` meets its contract: the join is finished, with the last part added if the restriction is not
+-- closed.
+use native.Mathlib.Omega.{arith}
+use mathlib.Core.Path.{sym, ◌∙◌}
+use Rattle.nodes.proofs.Concluding.{concluding_here, concluding_sizes, concluding_restriction, concluding_closed}
+use Rattle.nodes.proofs.Concluding.{concluded-closed, concluding_long, concluding_adding, concluding_joining, concluded_open}
+use borrow.Author.Rules.{rules}
+use Rattle.nodes.proofs.conclude.conclude.Goals as goal
+
+
+pub overflow_mul-v : goal.overflow_mul-v
+overflow_mul-v c =
+    let h =
+    concluding_sizes c.requires.2 c.value-v.result c.value-m.result c.value-v.ensures c.value-m.ensures in
+    omega (arith, c.ranges)
+
+pub overflow_add-at-4 : goal.overflow_add-at-4
+overflow_add-at-4 c =
+    let h =
+    concluding_sizes c.requires.2 c.value-v.result c.value-m.result c.value-v.ensures c.value-m.ensures in
+    omega (arith, c.ranges)
+
+pub closed-requires : goal.closed-requires
+closed-requires c =
+    concluding_restriction c.requires.2 c.value-v.result c.value-m.result c.value-v.ensures c.value-m.ensures
+
+pub returns-then-closed : goal.returns-then-closed
+returns-then-closed c =
+    λ a. concluded-closed a _ _
+    (sym
+    (concluding_closed a c.value-v.result c.value-m.result c.value-v.ensures c.value-m.ensures _
+    c.closed.ensures) ∙ c.if-closed.true) c.finish.ensures
+
+pub add-whole-requires : goal.add-whole-requires
+add-whole-requires c =
+    let long = concluding_long c.requires.2 _ _ c.last-answer.ensures in
+    (omega arith, concluding_adding c.requires.2 _ _ c.last-answer.ensures)
+
+pub finish-requires-2 : goal.finish-requires-2
+finish-requires-2 c =
+    let long = concluding_long c.requires.2 _ _ c.last-answer.ensures in
+    (omega arith, (_, _, _, _, concluding_joining c.requires.2 _ _ c.last-answer.ensures _ _ c.add-whole.ensures))
+
+pub returns : goal.returns
+returns c = λ a.
+    let closed =
+    sym
+    (concluding_closed a c.value-v.result c.value-m.result c.value-v.ensures c.value-m.ensures _
+    c.closed.ensures) ∙ c.if-closed.false in
+    concluded_open a _ _ c.last-answer.ensures _ _ c.add-whole.ensures (omega arith) _ _
+    closed c.finish-2.ensures
