@@ -186,7 +186,7 @@ excluding-returns-then-i-stop t c =
     c.requires.4
     c.tuples-listed.ensures (omega (arith, c.behind_tuples.ensures)) (c.count_words.ensures a.set.now) c.operand-end.ensures
     c.in-At.behind c.skip-i.result c.in-At.is c.skip-i.ensures
-    (λ c. omega (arith, c, c.if-i-stop.true))
+    (λ q. omega (arith, q, c.if-i-stop.true))
     (state_of c.operand-end.new.known c.operand-end.new.set)
 
 pub excluding-returns : goal.excluding-returns
@@ -206,13 +206,13 @@ excluding-returns t c =
 pub operand-returns-then-text-i : goal.operand-returns-then-text-i
 operand-returns-then-text-i t c =
     let a = c.args in
-    (operand-over a.room (is_formula (as_role a.role)) a.scope a.text.now a.at _ c.skip-i.ensures c.if-text-i.taken, tt)
+    (operand-over a.room (is_formula (as_role a.role)) a.scope a.text.now a.at _ c.skip-i.ensures c.if-text-i.true, tt)
 
 pub operand-returns-in_default : goal.operand-returns-in_default
 operand-returns-in_default t c =
     let a = c.args in
     operand-refused a.room (is_formula (as_role a.role)) a.scope a.text.now a.at _ c.skip-i.ensures
-    (omega (arith, c.if-text-i.left)) c.if-b-eq40.taken
+    (omega (arith, c.if-text-i.false)) c.if-b-eq40.true
     (λ tree. Told a.table.now tree (as_role a.role) a.above a.scope (state_of a.known.now a.set.now)
     (state_of a.known.now a.set.now) a.out.now a.out.now) _ c.opening-open.ensures
     c.in_default.is
@@ -221,8 +221,8 @@ pub operand-chain-requires : goal.operand-chain-requires
 operand-chain-requires t c =
     let a = c.args in
     let opens =
-    subst (Steps (opening a.room) a.text.now c.skip-i.result) c.«open».given.1 c.opening-open.ensures in
-    let room = opening-room a.room a.text.now c.skip-i.result c.«open».given.0.0 opens.reads in
+    subst (Steps (opening a.room) a.text.now c.skip-i.result) c.in-At.is c.opening-open.ensures in
+    let room = opening-room a.room a.text.now c.skip-i.result c.in-At.inside opens.reads in
     let less = c.less.ensures in (
       omega (arith, c.decreases, room, less),
       (
@@ -243,7 +243,7 @@ pub operand-returns-then-b-eq40 : goal.operand-returns-then-b-eq40
 operand-returns-then-b-eq40 t c =
     let a = c.args in
     operand-chain a.room (is_formula (as_role a.role)) a.scope a.text.now a.at _ c.skip-i.ensures
-    (omega (arith, c.if-text-i.false)) c.if-b-eq40.true _ c.opening-open.ensures _ c.«open».given.1 _ c.less.ensures
+    (omega (arith, c.if-text-i.false)) c.if-b-eq40.true _ c.opening-open.ensures _ c.in-At.is _ c.less.ensures
     (λ tree. Told a.table.now tree (as_role a.role) a.above a.scope (state_of a.known.now a.set.now)
     (state_of c.chain.new.known c.chain.new.set) a.out.now
     c.chain.new.out) c.chain.result c.chain.ensures
@@ -323,7 +323,7 @@ quantifier-restricted-inner-requires t c =
     let (falls, begins) =
     quantifier-begins a.every a.text.now a.at a.room a.scope c.requires.1 c.requires.2 c.binder-bound.result
     c.binder-bound.ensures
-    c.then_opening-open.result c.then_opening-open.ensures.0 c.less.result c.«open».given.0.0 c.«open».given.1
+    c.then_opening-open.result c.then_opening-open.ensures.0 c.less.result c.in-At.inside c.in-At.is
     c.less.ensures
     a.table.now (as_role a.role) a.above (a.above + c.cost.result) _ _ c.outer_variables.result
     (state_of a.known.now a.set.now) (state_of c.enter.new.known c.enter.new.set)
@@ -331,7 +331,7 @@ quantifier-restricted-inner-requires t c =
     c.outer_variables.ensures in
     let count = quantifier-variables a.every a.text.now a.at a.room a.scope c.requires.1 c.requires.2
     c.binder-bound.result c.binder-bound.ensures
-    c.then_opening-open.result c.then_opening-open.ensures.0 c.less.result c.«open».given.0.0 c.«open».given.1
+    c.then_opening-open.result c.then_opening-open.ensures.0 c.less.result c.in-At.inside c.in-At.is
     c.less.ensures in
     (omega (arith, falls, c.decreases), (begins, count.0, count.1))
 
@@ -340,7 +340,7 @@ quantifier-returns-in_default-sign t c =
     let a = c.args in
     quantifier_unsigned a.every a.text.now a.at a.room a.scope c.requires.1 c.requires.2 c.binder-bound.result
     c.binder-bound.ensures
-    c.then_opening-open.result c.then_opening-open.ensures.0 c.less.result c.«open».given.0.0 c.«open».given.1
+    c.then_opening-open.result c.then_opening-open.ensures.0 c.less.result c.in-At.inside c.in-At.is
     c.less.ensures
     a.table.now (as_role a.role) a.above (a.above + c.cost.result) (state_of a.known.now a.set.now)
     (state_of c.enter.new.known c.enter.new.set) a.out.now c.restricted-inner.new.out
@@ -355,7 +355,7 @@ quantifier-operand-last-requires t c =
     let (falls, begins) =
     quantifier-begins a.every a.text.now a.at a.room a.scope c.requires.1 c.requires.2 c.binder-bound.result
     c.binder-bound.ensures
-    c.then_opening-open.result c.then_opening-open.ensures.0 c.less.result c.«open».given.0.0 c.«open».given.1
+    c.then_opening-open.result c.then_opening-open.ensures.0 c.less.result c.in-At.inside c.in-At.is
     c.less.ensures
     a.table.now (as_role a.role) a.above (a.above + c.cost.result) _ _ c.outer_variables.result
     (state_of a.known.now a.set.now) (state_of c.enter.new.known c.enter.new.set)
@@ -364,7 +364,7 @@ quantifier-operand-last-requires t c =
       omega (arith, falls, c.decreases, c.less-2.ensures, c.less.ensures),
       quantifier-body a.every a.text.now a.at a.room a.scope c.requires.1 c.requires.2 c.binder-bound.result
           c.binder-bound.ensures
-          c.then_opening-open.result c.then_opening-open.ensures.0 c.less.result c.«open».given.0.0 c.«open».given.1
+          c.then_opening-open.result c.then_opening-open.ensures.0 c.less.result c.in-At.inside c.in-At.is
           c.less.ensures
           a.table.now (as_role a.role) a.above (a.above + c.cost.result) (state_of a.known.now a.set.now)
           (state_of c.enter.new.known c.enter.new.set) a.out.now c.restricted-inner.new.out
@@ -381,7 +381,7 @@ quantifier-returns t c =
     let a = c.args in
     quantifier-read a.every a.text.now a.at a.room a.scope c.requires.1 c.requires.2 c.binder-bound.result
     c.binder-bound.ensures
-    c.then_opening-open.result c.then_opening-open.ensures.0 c.less.result c.«open».given.0.0 c.«open».given.1
+    c.then_opening-open.result c.then_opening-open.ensures.0 c.less.result c.in-At.inside c.in-At.is
     c.less.ensures
     a.table.now (as_role a.role) a.above (a.above + c.cost.result) (state_of a.known.now a.set.now)
     (state_of c.enter.new.known c.enter.new.set) a.out.now c.restricted-inner.new.out
@@ -419,8 +419,8 @@ restricted-excluding-requires t c =
     let a = c.args in
     let (falls, begins, levels) =
     restricted-begins a.table.now a.text.now a.at a.room a.level (a.x + a.v) c.less.result
-    c.«open».given.0.0 (state_of a.known.now a.set.now) c.opening-open.result c.requires.0
-    c.opening-open.ensures c.«open».given.1 c.less.ensures in (
+    c.in-At.inside (state_of a.known.now a.set.now) c.opening-open.result c.requires.0
+    c.opening-open.ensures c.in-At.is c.less.ensures in (
       omega (arith, falls, c.decreases),
       (begins, c.requires.1, c.requires.2, c.stop_index-stop.ensures, sym c.begins_excluding.ensures ∙ c.if-begins_excluding.true),
     )
@@ -432,7 +432,7 @@ restricted-returns-then-begins_excluding t c =
     c.excluding.new.out c.requires.0.ready.counted a.text.now a.at a.room
     c.requires.0.high
     (sym c.begins.ensures ∙ c.if-not-begins.false) c.opening-open.result c.opening-open.ensures
-    c.less.result c.«open».given.0.0 c.stop_index-stop.result c.«open».given.1 c.less.ensures
+    c.less.result c.in-At.inside c.stop_index-stop.result c.in-At.is c.less.ensures
     (many c.excluding.result c.excluding.new.known c.excluding.new.set)
     c.excluding.ensures
 
@@ -441,8 +441,8 @@ restricted-chain-end-requires t c =
     let a = c.args in
     let (falls, begins, levels) =
     restricted-begins a.table.now a.text.now a.at a.room a.level (a.x + a.v) c.less-2.result
-    c.«open».given.0.0 (state_of a.known.now a.set.now) c.opening-open.result
-    c.requires.0 c.opening-open.ensures c.«open».given.1 c.less-2.ensures in
+    c.in-At.inside (state_of a.known.now a.set.now) c.opening-open.result
+    c.requires.0 c.opening-open.ensures c.in-At.is c.less-2.ensures in
     (omega (arith, falls, c.decreases), (begins, levels, foretold a.text.now _ _ _ _ c.stop_index-stop.ensures c.stands-ahead.ensures (omega arith)))
 
 pub restricted-returns : goal.restricted-returns
@@ -451,7 +451,7 @@ restricted-returns t c =
     restricted-chain a.table.now a.level a.x a.v (state_of a.known.now a.set.now) a.out.now
     c.chain-end.new.out c.requires.0.ready.counted a.text.now a.at a.room c.requires.0.high
     (sym c.begins.ensures ∙ c.if-not-begins.false) c.opening-open.result c.opening-open.ensures
-    c.less-2.result c.«open».given.0.0 c.stop_index-stop.result c.«open».given.1 c.less-2.ensures
+    c.less-2.result c.in-At.inside c.stop_index-stop.result c.in-At.is c.less-2.ensures
     (came c.chain-end.result c.chain-end.new.known c.chain-end.new.set)
     c.stop_index-stop.ensures (sym c.begins_excluding.ensures ∙ c.if-begins_excluding.false) c.chain-end.ensures
 
@@ -467,9 +467,9 @@ some-whole-end-requires t c =
     let a = c.args in
     let (falls, begins, levels) = some-begins a.text.now a.at a.room a.scope c.requires.1 c.requires.2
     c.binder-bound.result c.binder-bound.ensures
-    c.then_opening-open.result c.then_opening-open.ensures.0 a.table.now a.above c.less.result c.«open».given.0.0 _ _
+    c.then_opening-open.result c.then_opening-open.ensures.0 a.table.now a.above c.less.result c.in-At.inside _ _
     (state_of a.known.now a.set.now) (state_of c.enter.new.known c.enter.new.set)
-    c.requires.0 c.«open».given.1 c.then_opening-open.ensures.1 c.less.ensures refl refl c.enter.ensures in
+    c.requires.0 c.in-At.is c.then_opening-open.ensures.1 c.less.ensures refl refl c.enter.ensures in
     (omega (arith, falls, c.decreases), (begins, levels))
 
 pub some-returns : goal.some-returns
@@ -478,10 +478,10 @@ some-returns t c =
     some_read a.text.now a.at a.room a.scope c.requires.1 c.requires.2 c.binder-bound.result c.binder-bound.ensures
     c.then_opening-open.result c.then_opening-open.ensures.0 a.table.now a.above (state_of a.known.now a.set.now)
     a.out.now c.lay.new.out
-    c.less.result c.«open».given.0.0 _ _ (state_of c.enter.new.known c.enter.new.set)
+    c.less.result c.in-At.inside _ _ (state_of c.enter.new.known c.enter.new.set)
     (came c.whole-end.result c.whole-end.new.known c.whole-end.new.set)
     c.whole-end.new.out (state_of c.drop_variable.new.known c.drop_variable.new.set)
-    c.«open».given.1 c.less.ensures refl refl c.enter.ensures c.whole-end.ensures c.lay.ensures.0
+    c.in-At.is c.less.ensures refl refl c.enter.ensures c.whole-end.ensures c.lay.ensures.0
     c.drop_variable.ensures
 
 pub whole-returns-then-every-some : goal.whole-returns-then-every-some

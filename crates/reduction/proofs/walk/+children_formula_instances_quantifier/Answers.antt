@@ -1,0 +1,659 @@
+-- The proof of the cycle of calls {children, formula, instances, quantifier}. The measure is three times the levels left, and
+-- one more for `children` and `instances`, which call `formula` at their own level, and two for `quantifier`, which calls
+-- `instances` there; `formula` calls each of them a level down.
+-- The loops: the children or instances passed are in the state of the join.
+use Prim.Native.Nat.{ℕ, ◌+◌, ◌*◌, ◌-◌, ◌/◌, ◌≤◌, ◌<◌}
+use native.Mathlib.Omega.{arith}
+use mathlib.Core.Path.{◌≡◌, refl, sym, ap, ◌∙◌, subst}
+use mathlib.Core.Bool.{Bool, true}
+use mathlib.Core.List.{List, [], ◌∷◌}
+use types.Run.{OneOf, miss}
+use denote.Enum.Declared.{tag_of}
+use lib.ListN.{length}
+use lib.IntN.{ℤ}
+use borrow.Author.Rules.{rules}
+use Rattle.model.specs.Level as L
+use Rattle.model.specs.Reading.{is_formula}
+use Rattle.policies.specs.Node.{as_tag, as_role}
+use Rattle.policies.specs.declared.node.Tag.{Tag}
+use Rattle.policies.specs.declared.node.Tag.TheVariants.{Plain, Atom, Compare, Join, Quantifier, Some, Unused}
+use Rattle.policies.specs.contracts.node.Tag.{the_type as tag-type}
+use Rattle.model.specs.Tag as T
+use mathlib.Core.Logic.{◌⊎◌, inl, inr, ⊎_elim}
+use Rattle.policies.proofs.Stood.{Stood, formula-kind, level-fits, own-fits, next_in, level_in, level_down}
+use Rattle.reduction.specs.Walk.{ReducesNode}
+use Rattle.joining.proofs.Lending.{rest, rest-long, lent_long}
+use Rattle.reduction.proofs.WalkChildren.{ChildrenSoFar, children-start, children-within, children-here, children-short}
+use Rattle.reduction.proofs.WalkChildren.{children_adding, children-next, children-state, children_end}
+use Rattle.reduction.proofs.WalkNodes.{node-plain, atom-here, node-atom, compare-here, node-compare, join-here, node-join}
+use Rattle.reduction.proofs.WalkNodes.{quantifier-here, node-quantifier, node-some, node-unused}
+use Rattle.reduction.proofs.WalkInstances.{not_short, ScratchKept, InstancesSoFar, instances-start, kept-start, kept-within}
+use Rattle.reduction.proofs.WalkInstances.{kept_lent, instance_place, instance_some, instances_adding, instances-next}
+use Rattle.reduction.proofs.WalkInstances.{instances-short, instances-within, instances_end, instances-none, instances-tree}
+use Rattle.reduction.proofs.WalkQuantifier.{quantifier-short, quantifier-whole, concluding, body-here, restriction-here}
+use Rattle.reduction.proofs.WalkQuantifier.{variables-few, first-within}
+use Rattle.model.specs.Words.{value}
+use Rattle.model.specs.Tree.{Tree}
+use Rattle.laws.specs.Reading.Nodes.{Node}
+use Rattle.nodes.specs.Ground.{Outer}
+use Rattle.nodes.specs.Prepare as PS
+use Rattle.nodes.specs.Conclude.{Quantified}
+use Rattle.reduction.specs.Walk.{Works}
+use Rattle.reduction.proofs.WalkQuantifier.{found, body_at, prepared_short, prepared_stood}
+use Rattle.reduction.proofs.walk.+children_formula_instances_quantifier.Goals as goal
+
+-- an operand is a formula
+operand-kind : (b : Bool) → is_formula (L.Role.operand b) ≡ true
+unfolding is_formula
+operand-kind b = refl
+
+-- the tags that no formula has
+other_tag : (tag : Tag) → (((b : Bool) → tag ≡ Plain b → ⊥) × ((b : Bool) → tag ≡ Atom b → ⊥) × ((b : Bool) → tag ≡ Compare b → ⊥) × ((b : Bool) → tag ≡ Join b → ⊥) × ((b : Bool) → tag ≡ Quantifier b → ⊥)) → (as_tag tag ≡ T.Tag.some) ⊎ (as_tag tag ≡ T.Tag.unused)
+other_tag (Plain b) k = absurd (k.0 b refl)
+other_tag (Atom b) k = absurd (k.1 b refl)
+other_tag (Compare b) k = absurd (k.2 b refl)
+other_tag (Join b) k = absurd (k.3 b refl)
+other_tag (Quantifier b) k = absurd (k.4 b refl)
+other_tag Some k = inl refl
+other_tag Unused k = inr refl
+
+pub children-loop-i-init : goal.children-loop-i-init
+children-loop-i-init t c =
+    let a = c.args in (
+      omega arith,
+      refl,
+      refl,
+      children-start a.table.now a.words.now a.log.now a.kind a.above
+          a.scope a.environment (length a.scratch.now / 17) a.n a.at c.new-join.ensures,
+    )
+
+pub children-formula-child-requires : goal.children-formula-child-requires
+children-formula-child-requires t c =
+    let a = c.args in (
+      omega (arith, c.decreases, c.requires.1),
+      (
+        c.requires.0,
+        c.requires.1,
+        c.requires.2,
+        omega
+            (arith, rest-long c.loop-i.out c.loop-i.join.words, c.loop-i.invariant.2, c.requires.3),
+        operand-kind a.kind,
+        children-here a.table.now a.words.now a.log.now a.kind a.above a.scope a.environment
+            (length a.scratch.now / 17) a.n a.at c.loop-i.i c.loop-i.next c.loop-i.join c.loop-i.out c.loop-i.invariant.3
+            c.loop-i-test.true c.requires.4 c.requires.5,
+        c.requires.5,
+      ),
+    )
+
+pub children-returns-in-Short : goal.children-returns-in-Short
+children-returns-in-Short t c =
+    let child : let a = c.args in ReducesNode a.table.now a.words.now a.log.now (L.Role.operand a.kind) a.above a.scope c.loop-i.next a.environment (length a.scratch.now / 17) (rest c.loop-i.out c.loop-i.join.words) c.formula-child.new.out c.formula-child.result = let a = c.args in
+    subst
+    (λ (n : ℕ). ReducesNode a.table.now a.words.now a.log.now (L.Role.operand a.kind) a.above
+    a.scope c.loop-i.next a.environment (n / 17) (rest c.loop-i.out c.loop-i.join.words)
+    c.formula-child.new.out c.formula-child.result) c.loop-i.invariant.1 c.formula-child.ensures in
+    let a = c.args in
+    children-short a.table.now a.words.now a.log.now a.kind a.above a.scope a.environment
+    (length a.scratch.now / 17) a.n a.at c.loop-i.i c.loop-i.next c.loop-i.join c.loop-i.out c.loop-i.invariant.3
+    c.loop-i-test.true c.formula-child.new.out c.formula-child.result (child)
+    c.in-Short.is
+    (lent_long c.loop-i.out c.loop-i.join.words c.formula-child.new.out
+    (children-within a.table.now a.words.now a.log.now a.kind a.above a.scope a.environment
+    (length a.scratch.now / 17) a.n a.at c.loop-i.i c.loop-i.next c.loop-i.join c.loop-i.out c.loop-i.invariant.3
+    c.requires.4 c.requires.5) c.formula-child.auto.out ∙ c.loop-i.invariant.2) _
+    c.in-Short.is
+
+pub children-add-join-requires : goal.children-add-join-requires
+children-add-join-requires t c =
+    let child : let a = c.args in ReducesNode a.table.now a.words.now a.log.now (L.Role.operand a.kind) a.above a.scope c.loop-i.next a.environment (length a.scratch.now / 17) (rest c.loop-i.out c.loop-i.join.words) c.formula-child.new.out c.formula-child.result = let a = c.args in
+    subst
+    (λ (n : ℕ). ReducesNode a.table.now a.words.now a.log.now (L.Role.operand a.kind) a.above
+    a.scope c.loop-i.next a.environment (n / 17) (rest c.loop-i.out c.loop-i.join.words)
+    c.formula-child.new.out c.formula-child.result) c.loop-i.invariant.1 c.formula-child.ensures in
+    let a = c.args in (
+      omega (
+        arith,
+        lent_long c.loop-i.out c.loop-i.join.words c.formula-child.new.out
+            (children-within a.table.now a.words.now a.log.now a.kind a.above a.scope a.environment
+            (length a.scratch.now / 17) a.n a.at c.loop-i.i c.loop-i.next c.loop-i.join c.loop-i.out c.loop-i.invariant.3
+            c.requires.4 c.requires.5) c.formula-child.auto.out,
+        c.loop-i.invariant.2,
+        c.requires.3,
+      ),
+      children_adding a.table.now a.words.now a.log.now a.kind a.above a.scope a.environment
+          (length a.scratch.now / 17) a.n a.at c.loop-i.i c.loop-i.next c.loop-i.join c.loop-i.out c.loop-i.invariant.3
+          c.loop-i-test.true c.formula-child.new.out c.formula-child.result (child)
+          c.requires.4 c.requires.5,
+    )
+
+pub children-loop-i-preserved : goal.children-loop-i-preserved
+children-loop-i-preserved t c =
+    let child : let a = c.args in ReducesNode a.table.now a.words.now a.log.now (L.Role.operand a.kind) a.above a.scope c.loop-i.next a.environment (length a.scratch.now / 17) (rest c.loop-i.out c.loop-i.join.words) c.formula-child.new.out c.formula-child.result = let a = c.args in
+    subst
+    (λ (n : ℕ). ReducesNode a.table.now a.words.now a.log.now (L.Role.operand a.kind) a.above
+    a.scope c.loop-i.next a.environment (n / 17) (rest c.loop-i.out c.loop-i.join.words)
+    c.formula-child.new.out c.formula-child.result) c.loop-i.invariant.1 c.formula-child.ensures in
+    let a = c.args in (
+      omega (arith, c.loop-i-test.true),
+      c.formula-child.auto.scratch ∙ c.loop-i.invariant.1,
+      c.add-join.auto.out ∙ lent_long
+          c.loop-i.out c.loop-i.join.words c.formula-child.new.out
+          (children-within a.table.now a.words.now a.log.now a.kind a.above a.scope a.environment
+          (length a.scratch.now / 17) a.n a.at c.loop-i.i c.loop-i.next c.loop-i.join c.loop-i.out c.loop-i.invariant.3
+          c.requires.4 c.requires.5) c.formula-child.auto.out ∙ c.loop-i.invariant.2,
+      children-next
+          a.table.now a.words.now a.log.now a.kind a.above a.scope a.environment
+          (length a.scratch.now / 17) a.n a.at c.loop-i.i c.loop-i.next c.loop-i.join c.loop-i.out c.loop-i.invariant.3
+          c.loop-i-test.true c.formula-child.new.out c.formula-child.result (child)
+          (not_short _ c.in_default.not-Short) _ _ c.add-join.ensures,
+    )
+
+pub children-returns : goal.children-returns
+children-returns t c =
+    let a = c.args in
+    children_end a.table.now a.words.now a.log.now a.kind a.above a.scope a.environment
+    (length a.scratch.now / 17) a.n a.at c.loop-i.i c.loop-i.next c.loop-i.join c.loop-i.out c.loop-i.invariant.3
+    c.loop-i-test.false c.loop-i.invariant.2 _ _ c.finish-answer.ensures
+
+pub formula-overflow_add-level : goal.formula-overflow_add-level
+formula-overflow_add-level t c =
+    omega
+    (arith, level-fits _ _ _ _ _ _ c.requires.5 (as_tag c.tag_at-tag.result) c.tag_at-tag.ensures, c.cost.ensures)
+
+pub formula-size-requires : goal.formula-size-requires
+formula-size-requires t c =
+    let a = c.args in
+    own-fits a.table.now a.words.now (as_role a.role) a.above a.scope a.at c.requires.5
+    (as_tag c.tag_at-tag.result) c.tag_at-tag.ensures
+
+pub formula-overflow_add-next : goal.formula-overflow_add-next
+formula-overflow_add-next t c =
+    let formula_stood : let a = c.args in Stood a.table.now a.words.now (as_role a.role) a.above a.scope a.at (as_tag c.tag_at-tag.result) (a.above + c.cost.result) (a.at + c.size.result) = let a = c.args in
+    record {
+      kind = c.requires.4;
+      here = c.requires.5;
+      known = c.tag_at-tag.ensures;
+      deep = ap
+          (λ (n : ℕ). a.above + n) c.cost.ensures;
+      first = ap (λ (n : ℕ). a.at + n)
+          (c.size.ensures (as_role a.role) a.scope);
+    } in
+    omega (arith, next_in (formula_stood))
+
+pub formula-atom-requires : goal.formula-atom-requires
+formula-atom-requires t c =
+    let formula_stood : let a = c.args in Stood a.table.now a.words.now (as_role a.role) a.above a.scope a.at (as_tag c.tag_at-tag.result) (a.above + c.cost.result) (a.at + c.size.result) = let a = c.args in
+    record {
+      kind = c.requires.4;
+      here = c.requires.5;
+      known = c.tag_at-tag.ensures;
+      deep = ap
+          (λ (n : ℕ). a.above + n) c.cost.ensures;
+      first = ap (λ (n : ℕ). a.at + n)
+          (c.size.ensures (as_role a.role) a.scope);
+    } in
+    let a = c.args in (
+      c.requires.0,
+      c.requires.2,
+      atom-here a.table.now a.words.now a.log.now
+          (formula_stood) a.environment (length a.scratch.now / 17) (ap as_tag c.in-Atom.is),
+    )
+
+pub formula-compare-requires : goal.formula-compare-requires
+formula-compare-requires t c =
+    let formula_stood : let a = c.args in Stood a.table.now a.words.now (as_role a.role) a.above a.scope a.at (as_tag c.tag_at-tag.result) (a.above + c.cost.result) (a.at + c.size.result) = let a = c.args in
+    record {
+      kind = c.requires.4;
+      here = c.requires.5;
+      known = c.tag_at-tag.ensures;
+      deep = ap
+          (λ (n : ℕ). a.above + n) c.cost.ensures;
+      first = ap (λ (n : ℕ). a.at + n)
+          (c.size.ensures (as_role a.role) a.scope);
+    } in
+    let a = c.args in
+    compare-here a.table.now a.words.now a.log.now (formula_stood) a.environment
+    (length a.scratch.now / 17) c.requires.2 (ap as_tag c.in-Compare.is)
+
+pub formula-children-requires : goal.formula-children-requires
+formula-children-requires t c =
+    let formula_stood : let a = c.args in Stood a.table.now a.words.now (as_role a.role) a.above a.scope a.at (as_tag c.tag_at-tag.result) (a.above + c.cost.result) (a.at + c.size.result) = let a = c.args in
+    record {
+      kind = c.requires.4;
+      here = c.requires.5;
+      known = c.tag_at-tag.ensures;
+      deep = ap
+          (λ (n : ℕ). a.above + n) c.cost.ensures;
+      first = ap (λ (n : ℕ). a.at + n)
+          (c.size.ensures (as_role a.role) a.scope);
+    } in
+    let a = c.args in (
+      omega (arith, level_down (formula_stood), level_in (formula_stood), c.decreases),
+      (
+        c.requires.0,
+        level_in (formula_stood),
+        c.requires.2,
+        c.requires.3,
+        join-here a.table.now
+            a.words.now a.log.now (formula_stood) a.environment (length a.scratch.now / 17)
+            (ap as_tag c.in-Join.is) c.value-n.ensures,
+        c.requires.6,
+      ),
+    )
+
+pub formula-quantifier-requires : goal.formula-quantifier-requires
+formula-quantifier-requires t c =
+    let formula_stood : let a = c.args in Stood a.table.now a.words.now (as_role a.role) a.above a.scope a.at (as_tag c.tag_at-tag.result) (a.above + c.cost.result) (a.at + c.size.result) = let a = c.args in
+    record {
+      kind = c.requires.4;
+      here = c.requires.5;
+      known = c.tag_at-tag.ensures;
+      deep = ap
+          (λ (n : ℕ). a.above + n) c.cost.ensures;
+      first = ap (λ (n : ℕ). a.at + n)
+          (c.size.ensures (as_role a.role) a.scope);
+    } in
+    let a = c.args in (
+      omega (arith, level_down (formula_stood), level_in (formula_stood), c.decreases),
+      (
+        c.requires.0,
+        level_in (formula_stood),
+        c.requires.2,
+        c.requires.3,
+        quantifier-here
+            a.table.now a.words.now a.log.now (formula_stood) a.environment
+            (length a.scratch.now / 17) (ap as_tag c.in-Quantifier.is),
+        c.requires.6,
+      ),
+    )
+
+pub formula-returns-in-Plain : goal.formula-returns-in-Plain
+formula-returns-in-Plain t c =
+    let formula_stood : let a = c.args in Stood a.table.now a.words.now (as_role a.role) a.above a.scope a.at (as_tag c.tag_at-tag.result) (a.above + c.cost.result) (a.at + c.size.result) = let a = c.args in
+    record {
+      kind = c.requires.4;
+      here = c.requires.5;
+      known = c.tag_at-tag.ensures;
+      deep = ap
+          (λ (n : ℕ). a.above + n) c.cost.ensures;
+      first = ap (λ (n : ℕ). a.at + n)
+          (c.size.ensures (as_role a.role) a.scope);
+    } in
+    let a = c.args in
+    node-plain a.table.now a.words.now a.log.now (formula_stood) a.environment
+    (length a.scratch.now / 17) (ap as_tag c.in-Plain.is) a.out.now
+
+pub formula-returns-in-Atom : goal.formula-returns-in-Atom
+formula-returns-in-Atom t c =
+    let formula_stood : let a = c.args in Stood a.table.now a.words.now (as_role a.role) a.above a.scope a.at (as_tag c.tag_at-tag.result) (a.above + c.cost.result) (a.at + c.size.result) = let a = c.args in
+    record {
+      kind = c.requires.4;
+      here = c.requires.5;
+      known = c.tag_at-tag.ensures;
+      deep = ap
+          (λ (n : ℕ). a.above + n) c.cost.ensures;
+      first = ap (λ (n : ℕ). a.at + n)
+          (c.size.ensures (as_role a.role) a.scope);
+    } in
+    let a = c.args in
+    node-atom a.table.now a.words.now a.log.now (formula_stood) a.environment
+    (length a.scratch.now / 17) (ap as_tag c.in-Atom.is) a.out.now _ _ c.atom.ensures
+
+pub formula-returns-in-Compare : goal.formula-returns-in-Compare
+formula-returns-in-Compare t c =
+    let formula_stood : let a = c.args in Stood a.table.now a.words.now (as_role a.role) a.above a.scope a.at (as_tag c.tag_at-tag.result) (a.above + c.cost.result) (a.at + c.size.result) = let a = c.args in
+    record {
+      kind = c.requires.4;
+      here = c.requires.5;
+      known = c.tag_at-tag.ensures;
+      deep = ap
+          (λ (n : ℕ). a.above + n) c.cost.ensures;
+      first = ap (λ (n : ℕ). a.at + n)
+          (c.size.ensures (as_role a.role) a.scope);
+    } in
+    let a = c.args in
+    node-compare a.table.now a.words.now a.log.now (formula_stood) a.environment
+    (length a.scratch.now / 17) (ap as_tag c.in-Compare.is) a.out.now _ c.compare.ensures
+
+pub formula-returns-in-Join : goal.formula-returns-in-Join
+formula-returns-in-Join t c =
+    let formula_stood : let a = c.args in Stood a.table.now a.words.now (as_role a.role) a.above a.scope a.at (as_tag c.tag_at-tag.result) (a.above + c.cost.result) (a.at + c.size.result) = let a = c.args in
+    record {
+      kind = c.requires.4;
+      here = c.requires.5;
+      known = c.tag_at-tag.ensures;
+      deep = ap
+          (λ (n : ℕ). a.above + n) c.cost.ensures;
+      first = ap (λ (n : ℕ). a.at + n)
+          (c.size.ensures (as_role a.role) a.scope);
+    } in
+    let a = c.args in
+    node-join a.table.now a.words.now a.log.now (formula_stood) a.environment
+    (length a.scratch.now / 17) (ap as_tag c.in-Join.is) c.value-n.ensures
+    c.children.ensures
+
+pub formula-returns-in-Quantifier : goal.formula-returns-in-Quantifier
+formula-returns-in-Quantifier t c =
+    let formula_stood : let a = c.args in Stood a.table.now a.words.now (as_role a.role) a.above a.scope a.at (as_tag c.tag_at-tag.result) (a.above + c.cost.result) (a.at + c.size.result) = let a = c.args in
+    record {
+      kind = c.requires.4;
+      here = c.requires.5;
+      known = c.tag_at-tag.ensures;
+      deep = ap
+          (λ (n : ℕ). a.above + n) c.cost.ensures;
+      first = ap (λ (n : ℕ). a.at + n)
+          (c.size.ensures (as_role a.role) a.scope);
+    } in
+    let a = c.args in
+    node-quantifier a.table.now a.words.now a.log.now (formula_stood) a.environment
+    (length a.scratch.now / 17) (ap as_tag c.in-Quantifier.is) c.quantifier.ensures
+
+pub formula-returns-in_default : goal.formula-returns-in_default
+formula-returns-in_default t c =
+    let formula_stood : let a = c.args in Stood a.table.now a.words.now (as_role a.role) a.above a.scope a.at (as_tag c.tag_at-tag.result) (a.above + c.cost.result) (a.at + c.size.result) = let a = c.args in
+    record {
+      kind = c.requires.4;
+      here = c.requires.5;
+      known = c.tag_at-tag.ensures;
+      deep = ap
+          (λ (n : ℕ). a.above + n) c.cost.ensures;
+      first = ap (λ (n : ℕ). a.at + n)
+          (c.size.ensures (as_role a.role) a.scope);
+    } in
+    let a = c.args in
+    ⊎_elim
+    (λ e. node-some a.table.now a.words.now a.log.now (formula_stood) a.environment
+    (length a.scratch.now / 17) e)
+    (λ e. node-unused a.table.now a.words.now a.log.now (formula_stood) a.environment
+    (length a.scratch.now / 17) e) (other_tag c.tag_at-tag.result (c.in_default.not-Plain, c.in_default.not-Atom, c.in_default.not-Compare, c.in_default.not-Join, c.in_default.not-Quantifier))
+
+pub instances-loop-i-init : goal.instances-loop-i-init
+instances-loop-i-init t c =
+    let a = c.args in (
+      omega arith,
+      kept-start a.table.now a.words.now a.log.now a.kind a.level a.scope a.v
+          a.placed.body a.placed.from a.placed.count a.placed.used a.environment a.scratch.now,
+      refl,
+      instances-start a.table.now
+          a.words.now a.log.now a.kind a.level a.scope a.v a.placed.body a.placed.from a.placed.count a.placed.used
+          a.environment a.scratch.now a.placed.body c.new-join.result a.out.now c.new-join.ensures,
+    )
+
+pub instances-offset_bounds-out-start : goal.instances-offset_bounds-out-start
+instances-offset_bounds-out-start t c =
+    let a = c.args in
+    omega (
+      arith,
+      instances-within a.table.now a.words.now a.log.now a.kind a.level a.scope a.v
+          a.placed.body a.placed.from a.placed.count a.placed.used a.environment a.scratch.now c.loop-i.i c.loop-i.next c.loop-i.join
+          c.loop-i.out c.loop-i.invariant.3 c.requires.4 c.requires.7 c.requires.8,
+      c.loop-i.invariant.2,
+      c.requires.3,
+    )
+
+pub instances-slice_bounds-formula-count-in-loop-i : goal.instances-slice_bounds-formula-count-in-loop-i
+instances-slice_bounds-formula-count-in-loop-i t c =
+    let a = c.args in
+    instances-within a.table.now a.words.now a.log.now a.kind a.level a.scope a.v a.placed.body
+    a.placed.from a.placed.count a.placed.used a.environment a.scratch.now c.loop-i.i c.loop-i.next c.loop-i.join c.loop-i.out
+    c.loop-i.invariant.3 c.requires.4 c.requires.7 c.requires.8
+
+pub instances-slice_bounds-formula-start-in-loop-i : goal.instances-slice_bounds-formula-start-in-loop-i
+instances-slice_bounds-formula-start-in-loop-i t c =
+    let a = c.args in
+    instances-within a.table.now a.words.now a.log.now a.kind a.level a.scope a.v a.placed.body
+    a.placed.from a.placed.count a.placed.used a.environment a.scratch.now c.loop-i.i c.loop-i.next c.loop-i.join c.loop-i.out
+    c.loop-i.invariant.3 c.requires.4 c.requires.7 c.requires.8
+
+pub instances-formula-child-requires : goal.instances-formula-child-requires
+instances-formula-child-requires t c =
+    let a = c.args in (
+      omega (arith, c.decreases, c.requires.1),
+      (
+        c.requires.0,
+        c.requires.1,
+        c.requires.2,
+        omega
+            (arith, rest-long c.loop-i.out c.loop-i.join.words, c.loop-i.invariant.2, c.requires.3),
+        formula-kind,
+        c.requires.4,
+        instance_some a.table.now a.words.now a.log.now a.kind a.level a.scope
+            a.v a.placed.body a.placed.from a.placed.count a.placed.used a.environment a.scratch.now c.loop-i.scratch c.loop-i.invariant.1
+            c.requires.6 c.loop-i.i c.loop-i-test.true c.requires.5 c.requires.2
+            c.instance-bound.result c.instance-bound.ensures c.requires.7,
+      ),
+    )
+
+pub instances-add-join-requires : goal.instances-add-join-requires
+instances-add-join-requires t c =
+    let a = c.args in (
+      omega (
+        arith,
+        lent_long c.loop-i.out c.loop-i.join.words c.formula-child.new.out
+            (instances-within a.table.now a.words.now a.log.now a.kind a.level a.scope a.v a.placed.body
+            a.placed.from a.placed.count a.placed.used a.environment a.scratch.now c.loop-i.i c.loop-i.next c.loop-i.join c.loop-i.out
+            c.loop-i.invariant.3 c.requires.4 c.requires.7 c.requires.8) c.formula-child.auto.out,
+        c.loop-i.invariant.2,
+        c.requires.3,
+      ),
+      instances_adding a.table.now a.words.now a.log.now a.kind
+          a.level a.scope a.v a.placed.body a.placed.from a.placed.count a.placed.used a.environment a.scratch.now
+          c.loop-i.scratch c.loop-i.invariant.1 c.requires.6 c.loop-i.i c.loop-i-test.true c.requires.5
+          c.requires.2 c.instance-bound.result c.instance-bound.ensures c.loop-i.next c.loop-i.join c.loop-i.out c.loop-i.invariant.3
+          c.formula-child.new.out c.formula-child.result c.formula-child.ensures c.requires.4 c.requires.7
+          c.requires.8,
+    )
+
+pub instances-loop-i-preserved : goal.instances-loop-i-preserved
+instances-loop-i-preserved t c =
+    let a = c.args in (
+      omega (arith, c.loop-i-test.true),
+      kept_lent a.table.now a.words.now a.log.now a.kind a.level
+          a.scope a.v a.placed.body a.placed.from a.placed.count a.placed.used a.environment a.scratch.now c.loop-i.scratch
+          c.loop-i.invariant.1 c.requires.6 c.formula-child.new.scratch c.formula-child.auto.scratch,
+      c.add-join.auto.out ∙ lent_long c.loop-i.out c.loop-i.join.words c.formula-child.new.out
+          (instances-within a.table.now a.words.now a.log.now a.kind a.level a.scope a.v a.placed.body
+          a.placed.from a.placed.count a.placed.used a.environment a.scratch.now c.loop-i.i c.loop-i.next c.loop-i.join c.loop-i.out
+          c.loop-i.invariant.3 c.requires.4 c.requires.7 c.requires.8) c.formula-child.auto.out
+          ∙ c.loop-i.invariant.2,
+      instances-next a.table.now a.words.now a.log.now a.kind a.level a.scope
+          a.v a.placed.body a.placed.from a.placed.count a.placed.used a.environment a.scratch.now c.loop-i.scratch c.loop-i.invariant.1
+          c.requires.6 c.loop-i.i c.loop-i-test.true c.requires.5 c.requires.2 c.instance-bound.result
+          c.instance-bound.ensures c.loop-i.next c.loop-i.join c.loop-i.out c.loop-i.invariant.3 c.formula-child.new.out
+          c.formula-child.result c.formula-child.ensures _ _ c.add-join.ensures (not_short _ c.in_default.not-Short),
+    )
+
+pub instances-tree_end-requires : goal.instances-tree_end-requires
+instances-tree_end-requires t c =
+    let a = c.args in
+    instances-tree a.table.now a.words.now a.log.now a.kind a.level a.scope a.v a.placed.body
+    a.placed.from a.placed.count a.placed.used a.environment a.scratch.now c.requires.4
+
+pub quantifier-prepare-prepared-requires : goal.quantifier-prepare-prepared-requires
+quantifier-prepare-prepared-requires t c =
+    let a = c.args in (
+      c.requires.0,
+      c.requires.1,
+      variables-few a.table.now a.words.now a.log.now a.kind
+          a.level a.scope a.at c.value-v.result c.value-v.ensures c.requires.4.0 c.requires.4.1
+          c.requires.4.2 c.requires.4.3 c.requires.4.4 c.requires.4.5,
+      first-within
+          a.table.now a.words.now a.log.now a.kind a.level a.scope a.at c.value-v.result
+          c.value-v.ensures c.requires.4.0 c.requires.4.1 c.requires.4.2 c.requires.4.3
+          c.requires.4.4 c.requires.4.5,
+      (
+        c.requires.4.2,
+        _,
+        restriction-here a.table.now a.words.now a.log.now a.kind a.level
+            a.scope a.at c.value-v.result c.value-v.ensures c.requires.4.0 c.requires.4.1
+            c.requires.4.2 c.requires.4.3 c.requires.4.4 c.requires.4.5,
+      ),
+      c.requires.5,
+    )
+
+pub quantifier-returns-in_default : goal.quantifier-returns-in_default
+quantifier-returns-in_default t c =
+    let a = c.args in
+    λ ρ v excluded d f next o q. quantifier-short a.table.now a.words.now a.log.now a.kind a.level
+    a.scope a.at c.value-v.result c.value-v.ensures v excluded d f next q a.environment ρ o
+    (length a.scratch.now / 17) _
+    (prepared_short a.table.now a.words.now a.log.now a.kind a.level a.scope a.at
+    c.value-v.result c.value-v.ensures v excluded d f next q a.environment ρ o (length a.scratch.now / 17)
+    c.prepare-prepared.new.scratch c.prepare-prepared.result c.in_default.is
+    (c.prepare-prepared.ensures ρ d _ o
+    (restriction-here a.table.now a.words.now a.log.now a.kind a.level a.scope a.at
+    c.value-v.result c.value-v.ensures v excluded d f next q))) refl refl
+
+pub quantifier-instances-worked-requires : goal.quantifier-instances-worked-requires
+quantifier-instances-worked-requires t c =
+    let stood : let a = c.args in (ρ : List ℤ) (v : ℕ) (excluded : List (List ℤ)) (d f : Tree) (next : ℕ) (o : Outer a.environment a.scope ρ) (q : Quantified a.table.now a.words.now a.kind a.level a.scope a.at v excluded d f next) → PS.InstancesStand a.table.now a.words.now a.log.now a.scope c.value-v.result a.at d ρ (body_at a.table.now a.words.now a.log.now a.kind a.level a.scope a.at c.value-v.result c.value-v.ensures v excluded d f next q) (length a.scratch.now / 17) c.prepare-prepared.new.scratch c.in-Instances.placed = let a = c.args in
+    λ ρ v excluded d f next o q.
+    (prepared_stood a.table.now a.words.now a.log.now a.kind a.level a.scope a.at
+    c.value-v.result c.value-v.ensures v excluded d f next q a.environment ρ o (length a.scratch.now / 17)
+    c.prepare-prepared.new.scratch c.prepare-prepared.result c.in-Instances.placed c.in-Instances.is
+    (c.prepare-prepared.ensures ρ d _ o
+    (restriction-here a.table.now a.words.now a.log.now a.kind a.level a.scope a.at
+    c.value-v.result c.value-v.ensures v excluded d f next q))) in
+    let a = c.args in
+    let s =
+    (stood c.requires.5.0 c.requires.4.0 c.requires.4.1 c.requires.4.2
+    c.requires.4.3 c.requires.4.4 c.requires.5.1 c.requires.4.5) in (
+      omega (arith, c.decreases, c.requires.1),
+      (
+        c.requires.0,
+        c.requires.1,
+        variables-few a.table.now a.words.now a.log.now a.kind
+            a.level a.scope a.at c.value-v.result c.value-v.ensures c.requires.4.0 c.requires.4.1
+            c.requires.4.2 c.requires.4.3 c.requires.4.4 c.requires.4.5,
+        c.requires.3,
+        (
+          c.requires.4.3,
+          c.requires.4.4,
+          subst
+              (λ (n : ℕ). Node a.table.now a.words.now L.Role.formula a.level (a.scope + c.value-v.result) n
+              c.requires.4.3 c.requires.4.4) (sym s.behind)
+              (body-here a.table.now a.words.now a.log.now a.kind a.level a.scope a.at c.value-v.result
+              c.value-v.ensures c.requires.4.0 c.requires.4.1 c.requires.4.2 c.requires.4.3
+              c.requires.4.4 c.requires.4.5),
+        ),
+        s.below,
+        omega
+            (arith, s.fits, c.prepare-prepared.auto.scratch),
+        c.requires.5,
+        (
+          found a.table.now a.words.now a.log.now a.kind a.level a.scope a.at c.value-v.result
+              c.value-v.ensures c.requires.4.0 c.requires.4.1 c.requires.4.2 c.requires.4.3
+              c.requires.4.4 c.requires.4.5 a.environment c.requires.5.0 c.requires.5.1,
+          s.found,
+        ),
+      ),
+    )
+
+pub quantifier-returns-then-join : goal.quantifier-returns-then-join
+quantifier-returns-then-join t c =
+    let stood : let a = c.args in (ρ : List ℤ) (v : ℕ) (excluded : List (List ℤ)) (d f : Tree) (next : ℕ) (o : Outer a.environment a.scope ρ) (q : Quantified a.table.now a.words.now a.kind a.level a.scope a.at v excluded d f next) → PS.InstancesStand a.table.now a.words.now a.log.now a.scope c.value-v.result a.at d ρ (body_at a.table.now a.words.now a.log.now a.kind a.level a.scope a.at c.value-v.result c.value-v.ensures v excluded d f next q) (length a.scratch.now / 17) c.prepare-prepared.new.scratch c.in-Instances.placed = let a = c.args in
+    λ ρ v excluded d f next o q.
+    (prepared_stood a.table.now a.words.now a.log.now a.kind a.level a.scope a.at
+    c.value-v.result c.value-v.ensures v excluded d f next q a.environment ρ o (length a.scratch.now / 17)
+    c.prepare-prepared.new.scratch c.prepare-prepared.result c.in-Instances.placed c.in-Instances.is
+    (c.prepare-prepared.ensures ρ d _ o
+    (restriction-here a.table.now a.words.now a.log.now a.kind a.level a.scope a.at
+    c.value-v.result c.value-v.ensures v excluded d f next q))) in
+    let worked : let a = c.args in (ρ : List ℤ) (v : ℕ) (excluded : List (List ℤ)) (d f : Tree) (next : ℕ) (o : Outer a.environment a.scope ρ) (q : Quantified a.table.now a.words.now a.kind a.level a.scope a.at v excluded d f next) → Works a.kind a.table.now a.log.now f ρ (found a.table.now a.words.now a.log.now a.kind a.level a.scope a.at c.value-v.result c.value-v.ensures v excluded d f next q a.environment ρ o) (length c.prepare-prepared.new.scratch / 17 - c.in-Instances.placed.used) next c.instances-worked.new.out c.instances-worked.result = let a = c.args in
+    λ ρ v excluded d f next o q.
+    (c.instances-worked.ensures.works ρ
+    (found a.table.now a.words.now a.log.now a.kind a.level a.scope a.at c.value-v.result
+    c.value-v.ensures v excluded d f next q a.environment ρ o) f next o
+    (stood ρ v excluded d f next o q).found
+    (subst
+    (λ (n : ℕ). Node a.table.now a.words.now L.Role.formula a.level (a.scope + c.value-v.result) n f next)
+    (sym (stood ρ v excluded d f next o q).behind)
+    (body-here a.table.now a.words.now a.log.now a.kind a.level a.scope a.at c.value-v.result
+    c.value-v.ensures v excluded d f next q))) in
+    let a = c.args in
+    λ ρ v excluded d f next o q. let s = (stood ρ v excluded d f next o q) in quantifier-short a.table.now
+    a.words.now a.log.now a.kind a.level a.scope a.at c.value-v.result c.value-v.ensures v excluded
+    d f next q a.environment ρ o (length a.scratch.now / 17) _
+    (omega (
+      arith,
+      (worked ρ v excluded d f next o q).short c.if-join.true,
+      s.counted,
+      s.fits,
+      c.prepare-prepared.auto.scratch,
+    )) c.instances-worked.auto.out refl
+
+pub quantifier-conclude-answer-requires : goal.quantifier-conclude-answer-requires
+quantifier-conclude-answer-requires t c =
+    let stood : let a = c.args in (ρ : List ℤ) (v : ℕ) (excluded : List (List ℤ)) (d f : Tree) (next : ℕ) (o : Outer a.environment a.scope ρ) (q : Quantified a.table.now a.words.now a.kind a.level a.scope a.at v excluded d f next) → PS.InstancesStand a.table.now a.words.now a.log.now a.scope c.value-v.result a.at d ρ (body_at a.table.now a.words.now a.log.now a.kind a.level a.scope a.at c.value-v.result c.value-v.ensures v excluded d f next q) (length a.scratch.now / 17) c.prepare-prepared.new.scratch c.in-Instances.placed = let a = c.args in
+    λ ρ v excluded d f next o q.
+    (prepared_stood a.table.now a.words.now a.log.now a.kind a.level a.scope a.at
+    c.value-v.result c.value-v.ensures v excluded d f next q a.environment ρ o (length a.scratch.now / 17)
+    c.prepare-prepared.new.scratch c.prepare-prepared.result c.in-Instances.placed c.in-Instances.is
+    (c.prepare-prepared.ensures ρ d _ o
+    (restriction-here a.table.now a.words.now a.log.now a.kind a.level a.scope a.at
+    c.value-v.result c.value-v.ensures v excluded d f next q))) in
+    let worked : let a = c.args in (ρ : List ℤ) (v : ℕ) (excluded : List (List ℤ)) (d f : Tree) (next : ℕ) (o : Outer a.environment a.scope ρ) (q : Quantified a.table.now a.words.now a.kind a.level a.scope a.at v excluded d f next) → Works a.kind a.table.now a.log.now f ρ (found a.table.now a.words.now a.log.now a.kind a.level a.scope a.at c.value-v.result c.value-v.ensures v excluded d f next q a.environment ρ o) (length c.prepare-prepared.new.scratch / 17 - c.in-Instances.placed.used) next c.instances-worked.new.out c.instances-worked.result = let a = c.args in
+    λ ρ v excluded d f next o q.
+    (c.instances-worked.ensures.works ρ
+    (found a.table.now a.words.now a.log.now a.kind a.level a.scope a.at c.value-v.result
+    c.value-v.ensures v excluded d f next q a.environment ρ o) f next o
+    (stood ρ v excluded d f next o q).found
+    (subst
+    (λ (n : ℕ). Node a.table.now a.words.now L.Role.formula a.level (a.scope + c.value-v.result) n f next)
+    (sym (stood ρ v excluded d f next o q).behind)
+    (body-here a.table.now a.words.now a.log.now a.kind a.level a.scope a.at c.value-v.result
+    c.value-v.ensures v excluded d f next q))) in
+    let a = c.args in
+    let s =
+    (stood c.requires.5.0 c.requires.4.0 c.requires.4.1 c.requires.4.2
+    c.requires.4.3 c.requires.4.4 c.requires.5.1 c.requires.4.5) in (
+      omega (arith, c.instances-worked.auto.out, c.requires.3),
+      omega
+          (arith, s.below, s.fits, c.prepare-prepared.auto.scratch, c.instances-worked.auto.scratch),
+      (concluding a.table.now a.words.now a.log.now a.kind a.level a.scope a.at c.value-v.result
+          c.value-v.ensures c.requires.4.0 c.requires.4.1 c.requires.4.2 c.requires.4.3
+          c.requires.4.4 c.requires.4.5 a.environment c.requires.5.0 c.requires.5.1
+          c.prepare-prepared.new.scratch c.instances-worked.new.scratch c.instances-worked.new.out
+          c.in-Instances.placed.from c.in-Instances.placed.count c.in-Instances.placed.used
+          (length c.prepare-prepared.new.scratch / 17 - c.in-Instances.placed.used) c.in-Instances.placed.body
+          c.instances-worked.result s.below c.instances-worked.ensures.scratch_unchanged s.found s.behind
+          (worked c.requires.5.0 c.requires.4.0 c.requires.4.1 c.requires.4.2
+          c.requires.4.3 c.requires.4.4 c.requires.5.1 c.requires.4.5) c.if-join.false),
+    )
+
+pub quantifier-returns : goal.quantifier-returns
+quantifier-returns t c =
+    let stood : let a = c.args in (ρ : List ℤ) (v : ℕ) (excluded : List (List ℤ)) (d f : Tree) (next : ℕ) (o : Outer a.environment a.scope ρ) (q : Quantified a.table.now a.words.now a.kind a.level a.scope a.at v excluded d f next) → PS.InstancesStand a.table.now a.words.now a.log.now a.scope c.value-v.result a.at d ρ (body_at a.table.now a.words.now a.log.now a.kind a.level a.scope a.at c.value-v.result c.value-v.ensures v excluded d f next q) (length a.scratch.now / 17) c.prepare-prepared.new.scratch c.in-Instances.placed = let a = c.args in
+    λ ρ v excluded d f next o q.
+    (prepared_stood a.table.now a.words.now a.log.now a.kind a.level a.scope a.at
+    c.value-v.result c.value-v.ensures v excluded d f next q a.environment ρ o (length a.scratch.now / 17)
+    c.prepare-prepared.new.scratch c.prepare-prepared.result c.in-Instances.placed c.in-Instances.is
+    (c.prepare-prepared.ensures ρ d _ o
+    (restriction-here a.table.now a.words.now a.log.now a.kind a.level a.scope a.at
+    c.value-v.result c.value-v.ensures v excluded d f next q))) in
+    let worked : let a = c.args in (ρ : List ℤ) (v : ℕ) (excluded : List (List ℤ)) (d f : Tree) (next : ℕ) (o : Outer a.environment a.scope ρ) (q : Quantified a.table.now a.words.now a.kind a.level a.scope a.at v excluded d f next) → Works a.kind a.table.now a.log.now f ρ (found a.table.now a.words.now a.log.now a.kind a.level a.scope a.at c.value-v.result c.value-v.ensures v excluded d f next q a.environment ρ o) (length c.prepare-prepared.new.scratch / 17 - c.in-Instances.placed.used) next c.instances-worked.new.out c.instances-worked.result = let a = c.args in
+    λ ρ v excluded d f next o q.
+    (c.instances-worked.ensures.works ρ
+    (found a.table.now a.words.now a.log.now a.kind a.level a.scope a.at c.value-v.result
+    c.value-v.ensures v excluded d f next q a.environment ρ o) f next o
+    (stood ρ v excluded d f next o q).found
+    (subst
+    (λ (n : ℕ). Node a.table.now a.words.now L.Role.formula a.level (a.scope + c.value-v.result) n f next)
+    (sym (stood ρ v excluded d f next o q).behind)
+    (body-here a.table.now a.words.now a.log.now a.kind a.level a.scope a.at c.value-v.result
+    c.value-v.ensures v excluded d f next q))) in
+    let a = c.args in
+    let the-length = length c.prepare-prepared.new.scratch / 17 - c.in-Instances.placed.used in
+    λ ρ v excluded d f next o q. let s = (stood ρ v excluded d f next o q) in quantifier-whole a.table.now
+    a.words.now a.log.now a.kind a.level a.scope a.at c.value-v.result c.value-v.ensures v excluded
+    d f next q a.environment ρ o (length a.scratch.now / 17) c.in-Instances.placed.used the-length _ _
+    (ap (λ (n : ℕ). n / 17 - c.in-Instances.placed.used) c.prepare-prepared.auto.scratch) s.counted s.fits
+    c.instances-worked.auto.out
+    (c.conclude-answer.ensures
+    (concluding a.table.now a.words.now a.log.now a.kind a.level a.scope a.at c.value-v.result
+    c.value-v.ensures v excluded d f next q a.environment ρ o c.prepare-prepared.new.scratch
+    c.instances-worked.new.scratch c.instances-worked.new.out c.in-Instances.placed.from
+    c.in-Instances.placed.count c.in-Instances.placed.used the-length c.in-Instances.placed.body
+    c.instances-worked.result s.below c.instances-worked.ensures.scratch_unchanged s.found s.behind
+    (worked ρ v excluded d f next o q) c.if-join.false))
+    ((worked ρ v excluded d f next o q).behind c.if-join.false)
