@@ -62,10 +62,6 @@ pub enough_means :
 enough_means {places} {need} {t} {before} {after} {r} ok a =
     ⊎_elim (λ w. absurd (ok w.1)) (λ w. ltb-false places need w.0) (told_means r places need (length before) t a.is)
 
--- an answer of another variant
-pub not_short : (r : Reduced) → OneOf (1 ∷ 2 ∷ 3 ∷ []) (tag_of the_type r) → r ≡ Short → ⊥
-not_short r k e = miss (1 ∷ 2 ∷ 3 ∷ []) 0 tt (subst (λ (x : Reduced). OneOf (1 ∷ 2 ∷ 3 ∷ []) (tag_of the_type x)) e k)
-
 -- the places behind the first so many
 pub places-left : (n u : ℕ) → 17 * u ≤ n → (n - 17 * u) / 17 ≡ n / 17 - u
 places-left n u h = omega arith

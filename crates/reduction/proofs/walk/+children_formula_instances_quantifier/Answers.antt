@@ -27,7 +27,7 @@ use Rattle.reduction.proofs.WalkChildren.{ChildrenSoFar, children-start, childre
 use Rattle.reduction.proofs.WalkChildren.{children_adding, children-next, children-state, children_end}
 use Rattle.reduction.proofs.WalkNodes.{node-plain, atom-here, node-atom, compare-here, node-compare, join-here, node-join}
 use Rattle.reduction.proofs.WalkNodes.{quantifier-here, node-quantifier, node-some, node-unused}
-use Rattle.reduction.proofs.WalkInstances.{not_short, ScratchKept, InstancesSoFar, instances-start, kept-start, kept-within}
+use Rattle.reduction.proofs.WalkInstances.{ScratchKept, InstancesSoFar, instances-start, kept-start, kept-within}
 use Rattle.reduction.proofs.WalkInstances.{kept_lent, instance_place, instance_some, instances_adding, instances-next}
 use Rattle.reduction.proofs.WalkInstances.{instances-short, instances-within, instances_end, instances-none, instances-tree}
 use Rattle.reduction.proofs.WalkQuantifier.{quantifier-short, quantifier-whole, concluding, body-here, restriction-here}
@@ -145,7 +145,7 @@ children-loop-i-preserved t c =
           a.table.now a.words.now a.log.now a.kind a.above a.scope a.environment
           (length a.scratch.now / 17) a.n a.at c.loop-i.i c.loop-i.next c.loop-i.join c.loop-i.out c.loop-i.invariant.3
           c.loop-i-test.true c.formula-child.new.out c.formula-child.result (child)
-          (not_short _ c.in_default.not-Short) _ _ c.add-join.ensures,
+          c.in_default.not-Short _ _ c.add-join.ensures,
     )
 
 pub children-returns : goal.children-returns
@@ -460,7 +460,7 @@ instances-loop-i-preserved t c =
           a.v a.placed.body a.placed.from a.placed.count a.placed.used a.environment a.scratch.now c.loop-i.scratch c.loop-i.invariant.1
           c.requires.6 c.loop-i.i c.loop-i-test.true c.requires.5 c.requires.2 c.instance-bound.result
           c.instance-bound.ensures c.loop-i.next c.loop-i.join c.loop-i.out c.loop-i.invariant.3 c.formula-child.new.out
-          c.formula-child.result c.formula-child.ensures _ _ c.add-join.ensures (not_short _ c.in_default.not-Short),
+          c.formula-child.result c.formula-child.ensures _ _ c.add-join.ensures c.in_default.not-Short,
     )
 
 pub instances-tree_end-requires : goal.instances-tree_end-requires
@@ -657,3 +657,34 @@ quantifier-returns t c =
     c.instances-worked.result s.below c.instances-worked.ensures.scratch_unchanged s.found s.behind
     (worked ρ v excluded d f next o q) c.if-join.false))
     ((worked ρ v excluded d f next o q).behind c.if-join.false)
+
+pub instances-returns-in-Short : goal.instances-returns-in-Short
+instances-returns-in-Short t c =
+    let a = c.args in record {
+      works = instances-short a.table.now a.words.now a.log.now a.kind a.level a.scope a.v a.placed.body
+          a.placed.from a.placed.count a.placed.used a.environment a.scratch.now c.loop-i.scratch c.loop-i.invariant.1 c.requires.6
+          c.loop-i.i c.loop-i-test.true c.requires.5 c.requires.2 c.instance-bound.result
+          c.instance-bound.ensures c.loop-i.next c.loop-i.join c.loop-i.out c.loop-i.invariant.3 c.formula-child.new.out
+          c.formula-child.result c.formula-child.ensures _ _ c.add-join.ensures c.in-Short.is c.loop-i.next;
+      scratch_unchanged = (kept_lent a.table.now a.words.now a.log.now a.kind a.level a.scope a.v a.placed.body a.placed.from
+          a.placed.count a.placed.used a.environment a.scratch.now c.loop-i.scratch c.loop-i.invariant.1 c.requires.6
+          c.formula-child.new.scratch c.formula-child.auto.scratch).1;
+    }
+
+pub instances-returns-then-k-eq0 : goal.instances-returns-then-k-eq0
+instances-returns-then-k-eq0 t c =
+    let a = c.args in record {
+      works = instances-none a.table.now a.words.now a.log.now a.kind a.level a.scope a.v a.placed.body
+          a.placed.from a.placed.count a.placed.used a.environment a.scratch.now c.loop-i.i c.loop-i.next c.loop-i.join c.loop-i.out
+          c.loop-i.invariant.3 c.if-k-eq0.true _ c.tree_end.ensures;
+      scratch_unchanged = c.loop-i.invariant.1.1;
+    }
+
+pub instances-returns : goal.instances-returns
+instances-returns t c =
+    let a = c.args in record {
+      works = instances_end a.table.now a.words.now a.log.now a.kind a.level a.scope a.v a.placed.body
+          a.placed.from a.placed.count a.placed.used a.environment a.scratch.now c.loop-i.i c.loop-i.next c.loop-i.join c.loop-i.out
+          c.loop-i.invariant.3 c.loop-i-test.false (omega (arith, c.if-k-eq0.false));
+      scratch_unchanged = c.loop-i.invariant.1.1;
+    }

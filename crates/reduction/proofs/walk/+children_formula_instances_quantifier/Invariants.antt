@@ -27,7 +27,7 @@ use Rattle.reduction.proofs.WalkChildren.{ChildrenSoFar, children-start, childre
 use Rattle.reduction.proofs.WalkChildren.{children_adding, children-next, children-state, children_end}
 use Rattle.reduction.proofs.WalkNodes.{node-plain, atom-here, node-atom, compare-here, node-compare, join-here, node-join}
 use Rattle.reduction.proofs.WalkNodes.{quantifier-here, node-quantifier, node-some, node-unused}
-use Rattle.reduction.proofs.WalkInstances.{not_short, ScratchKept, InstancesSoFar, instances-start, kept-start, kept-within}
+use Rattle.reduction.proofs.WalkInstances.{ScratchKept, InstancesSoFar, instances-start, kept-start, kept-within}
 use Rattle.reduction.proofs.WalkInstances.{kept_lent, instance_place, instance_some, instances_adding, instances-next}
 use Rattle.reduction.proofs.WalkInstances.{instances-short, instances-within, instances_end, instances-none, instances-tree}
 use Rattle.reduction.proofs.WalkQuantifier.{quantifier-short, quantifier-whole, concluding, body-here, restriction-here}
