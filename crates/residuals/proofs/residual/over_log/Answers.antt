@@ -1,0 +1,34 @@
+-- `residuals::residual::over_log` meets its contract, from what the log's check, the walk and its settling ensure.
+use mathlib.Core.Path.{◌≡◌, sym, ap, ◌∙◌}
+use lib.ListN.{length}
+use Rattle.model.specs.Answer.{passed}
+use Rattle.model.specs.Log.{ask_log}
+use Rattle.tables.specs.Checked.{outcome}
+use Rattle.residuals.proofs.ReduceCall.{root, log-refused, chains, all_asked}
+use borrow.Author.Rules.{rules}
+use Rattle.residuals.proofs.residual.over_log.Goals as goal
+
+
+pub returns-in-Refused : goal.returns-in-Refused
+returns-in-Refused c =
+    let a = c.args in
+    log-refused a.table.now a.policy.now a.log.now _ _ c.requires.0 _
+    (sym c.check_and_link-checked.ensures.asked ∙ ap outcome c.in-Refused.is)
+
+pub walk_policy-reduced-requires : goal.walk_policy-reduced-requires
+walk_policy-reduced-requires c =
+    let logged : let a = c.args in ask_log a.table.now a.log.now ≡ passed tt = sym c.check_and_link-checked.ensures.asked ∙ ap outcome c.in_default.is in
+    let a = c.args in (
+      chains a.table.now a.policy.now a.log.now 0 0 c.requires.0 (logged)
+          (c.check_and_link-checked.ensures.linked c.in_default.is),
+      (c.requires.0.0, _, root a.table.now a.policy.now a.log.now 0 0 c.requires.0),
+    )
+
+pub returns : goal.returns
+returns c =
+    let logged : let a = c.args in ask_log a.table.now a.log.now ≡ passed tt = sym c.check_and_link-checked.ensures.asked ∙ ap outcome c.in_default.is in
+    let a = c.args in
+    let node = root a.table.now a.policy.now a.log.now 0 0 c.requires.0 in
+    all_asked a.table.now a.policy.now a.log.now (length a.scratch.now) (length a.buffer.now)
+    c.requires.0 (logged) c.walk_policy-reduced.auto.buffer
+    (c.settle.ensures _ _ _ (c.walk_policy-reduced.ensures c.requires.0.0 _ node))

@@ -1,0 +1,28 @@
+-- `residuals::residual::walk_policy` meets its contract, from what the walk of the root ensures.
+use native.Mathlib.Omega.{arith}
+use mathlib.Core.Path.{refl, sym}
+use mathlib.Core.List.{[]}
+use Rattle.model.specs.Reading.{is_formula}
+use Rattle.residuals.proofs.ReduceWalking.{lent_long, lent_few, walked_whole}
+use borrow.Author.Rules.{rules}
+use Rattle.residuals.proofs.residual.walk_policy.Goals as goal
+
+
+pub formula-walked-requires : goal.formula-walked-requires
+unfolding is_formula
+formula-walked-requires c =
+    let a = c.args in (
+      c.requires.0,
+      omega arith,
+      omega arith,
+      lent_few a.buffer.now c.lendable-room.result c.lendable-room.ensures,
+      refl,
+      c.requires.1,
+      ([], (c.empty.ensures.0, refl)),
+    )
+
+pub returns : goal.returns
+returns c =
+    let a = c.args in
+    λ tree next node. let answers = (c.formula-walked.ensures [] tree next (c.empty.ensures.0, refl)
+    node).answers in walked_whole a.buffer.now c.lendable-room.result c.lendable-room.ensures _ answers.long answers
