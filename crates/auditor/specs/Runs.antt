@@ -9,7 +9,7 @@ use Rattle.model.specs.Words.{Words}
 use Rattle.model.specs.Log.{front}
 use Rattle.model.specs.Calls.{Result, check_policy, check_log}
 use Rattle.model.specs.Runs.{Call, accepted, leaves, next, after, held, RunClaim, EveryRun}
-use Rattle.laws.specs.Runs.Claim.{every-run}
+use Rattle.laws.proofs.Runs.Claim.{every-run}
 use Rattle.auditor.specs.Reduce.{Reduces}
 
 -- a served call: the rows of its front part, the words lent, the answer, and the words of scratch and buffer afterwards

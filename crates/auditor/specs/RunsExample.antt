@@ -13,7 +13,7 @@ use Rattle.model.specs.Calls.{zeros, ask_policy}
 use Rattle.model.specs.Runs.{proviso}
 use Rattle.model.specs.Examples.{words, T, computing}
 use Rattle.laws.specs.Answer.{answers}
-use Rattle.laws.specs.Runs.Example.{log, policy, log-accepted, policy-accepted, extensions, extends}
+use Rattle.laws.proofs.Runs.Example.{log, policy, log-accepted, policy-accepted, extensions, extends}
 use Rattle.auditor.specs.Runs.{Served, call_of, kept, Serves, ServedClaim, every_served_run}
 
 -- what a caller lends, not cleared before

@@ -449,12 +449,3 @@ front-extends table (row ∷ rest) (suc k) e p ns g b f =
     (λ h. rw h (rw h at f))
     (λ h. rw h (front-extends table rest k e p ns g b (rw h at f)))
     (decide (holds p ns row))
-
--- the same of a log and its front part
-pub log-extends :
-    (table log : Words) (k : ℕ) →
-    all (λ row. not (says_true row && complete table (value row 0))) (drop k (rows log)) ≡ true →
-    Extends table (value_in table (rows (front k log))) (value_in table (rows log))
-log-extends table log k e =
-    subst (λ (l : List Words). Extends table (value_in table l) (value_in table (rows log))) (sym (rows-front log k))
-    (front-extends table (rows log) k e)

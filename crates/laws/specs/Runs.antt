@@ -1,3 +1,2 @@
--- The run claim of model's Runs.antt, and a run that meets its premises.
+-- One call of a run of model's Runs.antt.
 pub mod Claim
-pub mod Example

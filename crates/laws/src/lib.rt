@@ -1,2 +1,2 @@
-// Theorems about the definitions of model: all of it stands in specs/.
+// Theorems about the definitions of model: all of it stands in specs/ and proofs/.
 #![tactic(auto)]

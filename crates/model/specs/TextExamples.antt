@@ -116,8 +116,8 @@ cases =
     ∷ no "3,1,7" 14 0
     ∷ no "-1,1,7" 14 0
     ∷ no "0,2,7,9,100" 14 0
-    -- 10: the same record twice
-    ∷ repeats 2 10 1
+    -- 8, by one record; it is asked before 10, so that the records may all be the same
+    ∷ repeats 4097 8 0
     -- 14 is asked of every record before 10, and 10 before 12; then 12, by one word
     ∷ no "2,1,5\r\n2,0,5\r\n2,1" 14 2
     ∷ no "2,1,5\r\n2,0,5\r\n" 10 1
@@ -141,5 +141,5 @@ computing_logs = tt
 
 -- the claim
 pub text_examples : map comes_out cases ≡ map must_come_out cases
-unfolding computing_logs cases
+unfolding computing Bytes.bytes repeated text_left comes_out must_come_out no row extremes cases Bytes.digit Csv.text_data Csv.quotable Csv.content Csv.doubled Csv.spell_field Csv.spell_record Csv.spell CsvReading.move_behind CsvReading.move_bare CsvReading.move_first CsvReading.move CsvReading.add_byte CsvReading.add_field CsvReading.add_record CsvReading.at_end CsvReading.follow CsvReading.read_from CsvReading.read_csv Decimal.numeral Decimal.plain_digits Decimal.good_number Decimal.number_of Decimal.digits Decimal.decimal LogText.row_of LogText.spells_row LogText.ask_records LogText.log_lines LogText.log_text Calls.in_room Calls.ask_reading Calls.read_log_call Calls.ask_writing Calls.filled_text Calls.text_result Calls.write_log_call
 text_examples = refl

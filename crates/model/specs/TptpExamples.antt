@@ -136,9 +136,25 @@ cases =
     ∷ no (policy "![X0:$int]:($true=>$true)") 7 0
     ∷ no (policy "p9(1)&") 15 18
     ∷ no (deep_text 63) 4 191
-    -- 257 parentheses open at once, and 15 behind the 257th
+    -- 256 parentheses open at once, 257 of them, and 15 behind the 257th
+    ∷ no (deep_text 255) 4 191
     ∷ no (deep_text 256) 4 1803
+    ∷ no (bytes "tff(a,axiom," ++ deep 256) 4 1803
     ∷ no (inner 256 "%") 4 1803
+    -- the 257th as that of an atom, a comparison and its sum, a quantifier and a "some"; around a restriction, and around an
+    -- excluded tuple, or what might be one
+    ∷ no (inner 255 "p2(%") 4 1799
+    ∷ no (inner 255 "~p2(%") 4 1800
+    ∷ no (inner 255 "$lesseq(%") 4 1804
+    ∷ no (inner 254 "$lesseq($sum(%") 4 1802
+    ∷ no (inner 255 "![X0:$int]:(%") 4 1808
+    ∷ no (inner 254 "![X0:$int]:(?[X1:$int]:(%") 4 1813
+    ∷ no (inner 254 "![X0:$int]:((%") 4 1802
+    ∷ no (inner 253 "![X0:$int,X1:$int]:(($true&(X0!=7|X1!=9))=>$true)") 4 1810
+    ∷ no (inner 253 "![X0:$int,X1:$int]:(($true&(%") 4 1810
+    -- one too many where none may stand: 15
+    ∷ no (inner 255 "$true(") 15 1802
+    ∷ no (inner 255 "~(") 15 1798
     -- 7 before 12; 12, by one word
     ∷ reads (policy "![X0:$int]:(p2(X0)=>$true)") 7 3 0 []
     ∷ reads (policy "~p2(0)") 12 0 0 (words (0 ∷ 0 ∷ 0 ∷ 0 ∷ []))
@@ -160,5 +176,5 @@ computing_policies = tt
 
 -- the claim
 pub tptp_examples : map comes_out cases ≡ map must_come_out cases
-unfolding computing_policies cases
+unfolding computing Bytes.bytes text_left comes_out must_come_out policy no yes deep deep_text inner R cases Bytes.digit Bytes.blank Bytes.small Bytes.capital Bytes.word_byte Decimal.digits Decimal.decimal Tptp.predicate_token Tptp.variable_token Tptp.term_token Tptp.parenthesized Tptp.separated Tptp.connective Tptp.negation Tptp.binder Tptp.unequals Tptp.excludes Tptp.restricted Tptp.is_join Tptp.enclosed Tptp.tokens Tptp.text_tokens Tptp.policy_text TptpReading.give TptpReading.stop TptpReading.onwards TptpReading.◌>>=◌ TptpReading.blanks TptpReading.peek TptpReading.literal TptpReading.look TptpReading.token TptpReading.more_digits TptpReading.number TptpReading.natural TptpReading.integer TptpReading.word_bytes TptpReading.name TptpReading.opening TptpReading.up_to TptpReading.more TptpReading.term TptpReading.terms TptpReading.read_atom TptpReading.read_compare TptpReading.read_dollar TptpReading.read_negated TptpReading.declaration TptpReading.variables TptpReading.read_binder TptpReading.unequal TptpReading.read_unequals TptpReading.read_tuple TptpReading.behind_blanks TptpReading.begins_with TptpReading.begins_tuple TptpReading.begins_excluding TptpReading.trees TptpReading.joining TptpReading.whole TptpReading.read_quantifier TptpReading.read_some TptpReading.read_join TptpReading.read_operand TptpReading.excluding TptpReading.read_restriction TptpReading.no_readers TptpReading.readers TptpReading.ending TptpReading.read_whole TptpReading.tree_of TptpReading.read_tptp TptpReading.read_text Calls.in_room Calls.ask_policy_reading Calls.read_policy_call Calls.ask_policy_writing Calls.filled_text Calls.text_result Calls.write_policy_call
 tptp_examples = refl

@@ -12,9 +12,10 @@ use Rattle.model.specs.Answer.{passed, refused, ask, ◌>>=◌}
 use Rattle.model.specs.Tree.{Term, atom, compare}
 use Rattle.model.specs.Reading.{places, term_at}
 use Rattle.model.specs.Mode.{Variables, is_bound, inputs_bound, bindings}
+use Rattle.laws.specs.Reading.Parts.{AtomParts, CompareParts}
 use Rattle.laws.specs.Reading.Items.{two-places}
 use Rattle.policies.specs.Standing.{terms_at}
-use Rattle.modes.specs.Mode.{set_of, with_terms, BindsAtom, BindsCompare}
+use Rattle.modes.specs.Mode.{set_of, with_terms, Binds}
 use Rattle.tables.specs.declared.Checked.{Checked}
 use Rattle.tables.specs.declared.Checked.TheVariants.{Passed, Refused}
 use Rattle.policies.proofs.Standing.{AtomWords, atom-words, compare-words}
@@ -65,7 +66,10 @@ module _ (table words : Words) (marks : List Bool) (sixteen : length marks ≡ 1
   )
 
   abbrev After : Checked → List Bool → Type 0
-  After asked set = BindsAtom holds table words at (set_of marks) (record { asked = asked; set = set; next = at + 3 + 2 * nn })
+  After asked set =
+      (p : ℕ) (ts : List Term) (scope next : ℕ) →
+      AtomParts words scope at next p ts →
+      Binds (atom holds p ts) table (set_of marks) scope at next (record { asked = asked; set = set; next = at + 3 + 2 * nn })
 
   pub atom_inputs_no : holds ≡ true → inputs_bound table pn (set_of marks) 0 (terms_at words (at + 3) nn) ≡ false → After (Refused Mode at) marks
   atom_inputs_no h e p ts scope next a =
@@ -111,7 +115,10 @@ module _ (table words : Words) (marks : List Bool) (sixteen : length marks ≡ 1
 -- what comes of a comparison
 module _ (words : Words) (marks : List Bool) (sixteen : length marks ≡ 16) (at : ℕ) where
   abbrev AfterCompare : Checked → Type 0
-  AfterCompare asked = BindsCompare words at (set_of marks) (record { asked = asked; set = marks; next = at + 6 })
+  AfterCompare asked =
+      (table : Words) (b : Bool) (d : ℤ) (x y : Term) (scope next : ℕ) →
+      CompareParts words scope at next d x y →
+      Binds (compare b d x y) table (set_of marks) scope at next (record { asked = asked; set = marks; next = at + 6 })
 
   pub compare-all-no : all (is_bound (set_of marks)) (terms_at words (at + 2) 2) ≡ false → AfterCompare (Refused Mode at)
   compare-all-no e table b d x y scope next a =

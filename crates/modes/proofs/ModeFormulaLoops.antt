@@ -23,7 +23,7 @@ use Rattle.modes.specs.declared.mode.Bound.{Bound}
 use Rattle.modes.specs.declared.mode.Moded.{Moded}
 use Rattle.modes.specs.declared.mode.Moded.TheVariants as M
 use Rattle.policies.specs.Standing.{Here, HereAll}
-use Rattle.modes.specs.Mode.{set_of, told, HereBoth, Both, BindsHere, told_modes, Asks, AsksAll, AsksBoth, ask_both}
+use Rattle.modes.specs.Mode.{set_of, told, HereBoth, Both, Binds, told_modes, Asks, AsksAll, AsksBoth, ask_both}
 
 -- what a walk told says what the outcome is
 other-told : {a b : ℕ} {q : Refusal} → M.Passed a ≡ M.Refused q b → ⊥
@@ -166,7 +166,10 @@ module _ (c f : Tree) (table : Words) (scope v at first : ℕ) where
 module _ (table words : Words) (level scope v at first : ℕ) (outer : List Bool)
     (outside : (x : ℕ) → set_of outer x ≡ ltb x scope)
     (r : Bound)
-    (came : BindsHere table words level (scope + v) first (set_of outer) r) where
+    (came :
+    (c : Tree) (next : ℕ) →
+    Node table words restriction level (scope + v) first c next →
+    Binds c table (set_of outer) (scope + v) first next r) where
   abbrev Told : Moded → Type 0
   Told s = AsksBoth table words level scope v at first s
 

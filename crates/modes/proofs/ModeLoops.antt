@@ -9,16 +9,16 @@ use lib.ListN.{length}
 use Rattle.model.specs.declared.Refusal.{Refusal}
 use Rattle.model.specs.Words.{Words}
 use Rattle.model.specs.Answer.{Outcome, passed, refused, ◌>>=◌}
-use Rattle.model.specs.Tree.{Trees, nil, cons, count, encode_all}
+use Rattle.model.specs.Tree.{Tree, Trees, nil, cons, count, encode_all}
 use Rattle.model.specs.Level.{restriction}
 use Rattle.model.specs.Mode.{Variables, size, bindings, bindings_all, bindings_any}
-use Rattle.laws.specs.Reading.Nodes.{Nodes}
+use Rattle.laws.specs.Reading.Nodes.{Node, Nodes}
 use Rattle.laws.specs.Reading.Parts.{first-parts, rest-parts}
 use Rattle.tables.specs.declared.Checked.{Checked}
 use Rattle.tables.specs.declared.Checked.TheVariants.{Passed, Refused}
 use Rattle.modes.specs.declared.mode.Bound.{Bound}
 use Rattle.policies.specs.Standing.{Here, HereAll}
-use Rattle.modes.specs.Mode.{set_of, told, BindsHere, BindsAll, BindsAny}
+use Rattle.modes.specs.Mode.{set_of, told, Binds, BindsAll, BindsAny}
 use Rattle.policies.proofs.Standing.{first-left, none_left}
 use Rattle.modes.proofs.ModeTerms.{and-true}
 
@@ -53,8 +53,8 @@ module _ (table words : Words) (above scope : ℕ) where
   all_nil b at = refl
 
   -- what a walk of the child at an index came to
-  abbrev Child : (next : ℕ) (b : Variables) (r : Bound) → Type 0
-  Child next b r = BindsHere table words above scope next b r
+  abbrev pub Child : (next : ℕ) (b : Variables) (r : Bound) → Type 0
+  Child next b r = (c : Tree) (behind : ℕ) → Node table words restriction above scope next c behind → Binds c table b scope next behind r
 
   -- its marks are sixteen
   pub came-marks : (next : ℕ) (b : Variables) (r : Bound) → Here table words restriction above scope next → Child next b r → length r.set ≡ 16
@@ -98,7 +98,7 @@ module _ (table words : Words) (above scope : ℕ) where
     -- a child that was refused
     pub all-stop :
         i < n → (r : Bound) → Child next (set_of set) r → {q : Refusal} {p : ℕ} → r.asked ≡ Refused q p →
-        BindsAll table words above scope n at (set_of bound) r
+        (ts : Trees) (end : ℕ) → Stand at ts end → count ts ≡ n → BindsAll ts table (set_of bound) scope at end r
     unfolding bindings_all ◌>>=◌
     all-stop h r child {q} {p} e ts end s c =
         let (rest, s', left, is) = inv ts end s c in
@@ -117,7 +117,8 @@ module _ (table words : Words) (above scope : ℕ) where
     -- no child is left
     pub all_end :
         n ≤ i → length set ≡ 16 →
-        BindsAll table words above scope n at (set_of bound) (record { asked = Passed; set = set; next = next })
+        (ts : Trees) (end : ℕ) → Stand at ts end → count ts ≡ n →
+        BindsAll ts table (set_of bound) scope at end (record { asked = Passed; set = set; next = next })
     all_end h l ts end s c =
         let (rest, s', left, is) = inv ts end s c in
         let none = none_left table words above scope next rest end s' (omega arith) in
@@ -159,7 +160,7 @@ module _ (table words : Words) (above scope : ℕ) where
     -- the first branch was refused
     pub any-first-stop :
         (r : Bound) → Child at (set_of bound) r → {q : Refusal} {p : ℕ} → r.asked ≡ Refused q p →
-        BindsAny table words above scope n at (set_of bound) r
+        (ts : Trees) (end : ℕ) → Stand at ts end → count ts ≡ n → BindsAny ts table (set_of bound) scope at end r
     unfolding bindings_any ◌>>=◌
     any-first-stop r child {q} {p} e ts end s c =
         let (t, us, k) = first-left table words above scope at n 0 ts end (omega arith) some s in
@@ -205,7 +206,7 @@ module _ (table words : Words) (above scope : ℕ) where
 
       pub any-stop :
           i < n → (r : Bound) → Child next (set_of bound) r → {q : Refusal} {p : ℕ} → r.asked ≡ Refused q p →
-          BindsAny table words above scope n at (set_of bound) r
+          (ts : Trees) (end : ℕ) → Stand at ts end → count ts ≡ n → BindsAny ts table (set_of bound) scope at end r
       unfolding bindings_any ◌>>=◌ meets
       any-stop h r child {q} {p} e ts end s c =
           let (rest, s', left, is) = inv ts end s c in
@@ -223,7 +224,8 @@ module _ (table words : Words) (above scope : ℕ) where
 
       pub any_end :
           n ≤ i → length set ≡ 16 →
-          BindsAny table words above scope n at (set_of bound) (record { asked = Passed; set = set; next = next })
+          (ts : Trees) (end : ℕ) → Stand at ts end → count ts ≡ n →
+          BindsAny ts table (set_of bound) scope at end (record { asked = Passed; set = set; next = next })
       unfolding bindings_any ◌>>=◌ meets
       any_end h l ts end s c =
           let (rest, s', left, is) = inv ts end s c in

@@ -8,17 +8,20 @@ use Rattle.model.specs.declared.Refusal.{Refusal}
 use Rattle.model.specs.declared.Refusal.TheVariants.{Mode}
 use Rattle.model.specs.Words.{Words}
 use Rattle.model.specs.Answer.{passed, refused, ask, ◌>>=◌}
+use Rattle.model.specs.Tree.{Tree, some}
+use Rattle.model.specs.Level.{restriction}
 use Rattle.model.specs.Mode.{Variables, bindings}
+use Rattle.laws.specs.Reading.Nodes.{Node}
 use Rattle.tables.specs.declared.Checked.{Checked}
 use Rattle.tables.specs.declared.Checked.TheVariants.{Passed, Refused}
 use Rattle.modes.specs.declared.mode.Bound.{Bound}
-use Rattle.modes.specs.Mode.{set_of, told, BindsHere, BindsSome}
-use Rattle.modes.proofs.ModeLoops.{not-both}
+use Rattle.modes.specs.Mode.{set_of, told, Binds}
+use Rattle.modes.proofs.ModeLoops.{not-both, Child}
 use Rattle.modes.proofs.ModeTerms.{set_dropped}
 
-module _ (table words : Words) (above scope at : ℕ) (v : Variables) (r : Bound) (child : BindsHere table words (above + 1) (scope + 1) (at + 1) v r) where
+module _ (table words : Words) (above scope at : ℕ) (v : Variables) (r : Bound) (child : Child table words (above + 1) (scope + 1) (at + 1) v r) where
   abbrev Comes : Bound → Type 0
-  Comes z = BindsSome table words above scope at v z
+  Comes z = (c : Tree) (next : ℕ) → Node table words restriction (above + 1) (scope + 1) (at + 1) c next → Binds (some c) table v scope at next z
 
   -- the child was refused
   pub some-stop : {q : Refusal} {p : ℕ} → r.asked ≡ Refused q p → Comes r

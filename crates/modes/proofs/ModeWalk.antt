@@ -7,12 +7,12 @@ use mathlib.Core.Logic.{⊎_elim}
 use mathlib.Core.Bool.{Bool, true, false, false≢true}
 use mathlib.Core.List.{List}
 use lib.ListN.{length}
-use lib.IntN.{pos, nat_abs}
+use lib.IntN.{ℤ, pos, nat_abs}
 use Rattle.model.specs.Words.{Words, word, value, below, equal}
 use Rattle.model.specs.Lists.{all}
 use Rattle.model.specs.Table.{predicates}
 use Rattle.model.specs.Tag.{Tag, tag_of}
-use Rattle.model.specs.Tree.{Tree, plain, atom, compare, join, quantifier, some}
+use Rattle.model.specs.Tree.{Term, Tree, Trees, plain, atom, compare, join, quantifier, some, count}
 use Rattle.model.specs.Level.{Role, restriction, under}
 use Rattle.model.specs.Reading.{places, in_scope, is_formula}
 use Rattle.model.specs.Mode.{Variables, bindings}
@@ -23,14 +23,14 @@ use Rattle.laws.specs.Level.{greatest-least}
 use Rattle.laws.specs.Reading.Back.{encode_nonempty}
 use Rattle.laws.specs.Reading.Items.{two-places}
 use Rattle.laws.specs.Words.Standing.{below-value, below-pos}
-use Rattle.laws.specs.Reading.Nodes.{Node}
-use Rattle.laws.specs.Reading.Parts.{root, root_tag, atom-parts, compare-parts, join-parts, some-parts}
+use Rattle.laws.specs.Reading.Nodes.{Node, Nodes}
+use Rattle.laws.specs.Reading.Parts.{root, root_tag, AtomParts, CompareParts, atom-parts, compare-parts, join-parts, some-parts}
 use Rattle.laws.specs.Reading.Parts.{plain-parts}
 use Rattle.tables.specs.declared.Checked.TheVariants.{Passed}
 use Rattle.modes.specs.declared.mode.Bound.{Bound}
 use Rattle.policies.specs.Standing.{Here, HereAll, HereAtom}
 use Rattle.policies.proofs.Standing.{has}
-use Rattle.modes.specs.Mode.{set_of, Binds, BindsHere, BindsAll, BindsAny, BindsSome, BindsAtom, BindsCompare}
+use Rattle.modes.specs.Mode.{set_of, Binds, BindsAll, BindsAny}
 
 -- the tags that the walk of a restriction has no case for
 abbrev pub Other : (tag : Tag) → Type 0
@@ -49,15 +49,21 @@ module _ (table words : Words) (above scope at : ℕ) where
   -- from what comes of the node's parts to what comes of the node
   module _ (v : Variables) (r : Bound) where
     abbrev Comes : Type 0
-    Comes = BindsHere table words above scope at v r
+    Comes = (c : Tree) (next : ℕ) → Restricts c next → Binds c table v scope at next r
 
-    pub from-atom : (b : Bool) → Tag.atom b ≡ tag_of (word words at) → BindsAtom b table words at v r → Comes
+    pub from-atom :
+        (b : Bool) → Tag.atom b ≡ tag_of (word words at) →
+        ((p : ℕ) (ts : List Term) (scope next : ℕ) → AtomParts words scope at next p ts → Binds (atom b p ts) table v scope at next r) →
+        Comes
     from-atom b e h c next node =
         let (p, ts, is) = has table words restriction above scope at (Tag.atom b) e c next node in
         subst (λ (t : Tree). Binds t table v scope at next r) (sym is)
         (h p ts scope next (atom-parts table words restriction above scope at next b p ts (subst (λ (t : Tree). Restricts t next) is node)))
 
-    pub from-compare : (b : Bool) → Tag.compare b ≡ tag_of (word words at) → BindsCompare words at v r → Comes
+    pub from-compare :
+        (b : Bool) → Tag.compare b ≡ tag_of (word words at) →
+        ((table : Words) (b : Bool) (d : ℤ) (x y : Term) (scope next : ℕ) → CompareParts words scope at next d x y → Binds (compare b d x y) table v scope at next r) →
+        Comes
     from-compare b e h c next node =
         let (d, x, y, is) = has table words restriction above scope at (Tag.compare b) e c next node in
         subst (λ (t : Tree). Binds t table v scope at next r) (sym is)
@@ -65,7 +71,7 @@ module _ (table words : Words) (above scope at : ℕ) where
 
     pub from_all :
         Tag.join true ≡ tag_of (word words at) →
-        BindsAll table words (above + 1) scope (value words (at + 1)) (at + 2) v r →
+        ((ts : Trees) (next : ℕ) → Nodes table words restriction (above + 1) scope (at + 2) ts next → count ts ≡ value words (at + 1) → BindsAll ts table v scope (at + 2) next r) →
         Comes
     unfolding value bindings under
     from_all e h c next node =
@@ -75,7 +81,7 @@ module _ (table words : Words) (above scope at : ℕ) where
 
     pub from-any :
         Tag.join false ≡ tag_of (word words at) →
-        BindsAny table words (above + 1) scope (value words (at + 1)) (at + 2) v r →
+        ((ts : Trees) (next : ℕ) → Nodes table words restriction (above + 1) scope (at + 2) ts next → count ts ≡ value words (at + 1) → BindsAny ts table v scope (at + 2) next r) →
         Comes
     unfolding value bindings under
     from-any e h c next node =
@@ -83,7 +89,10 @@ module _ (table words : Words) (above scope at : ℕ) where
         let a = join-parts table words restriction above scope at next false ts (subst (λ (t : Tree). Restricts t next) is node) in
         subst (λ (t : Tree). Binds t table v scope at next r) (sym is) (h ts next a.children (sym (ap nat_abs a.number)))
 
-    pub from_some : Tag.some ≡ tag_of (word words at) → BindsSome table words above scope at v r → Comes
+    pub from_some :
+        Tag.some ≡ tag_of (word words at) →
+        ((c : Tree) (next : ℕ) → Node table words restriction (above + 1) (scope + 1) (at + 1) c next → Binds (some c) table v scope at next r) →
+        Comes
     from_some e h c next node =
         let (d, is) = has table words restriction above scope at Tag.some e c next node in
         subst (λ (t : Tree). Binds t table v scope at next r) (sym is)
@@ -92,7 +101,7 @@ module _ (table words : Words) (above scope at : ℕ) where
   -- a plain node, the only other one in a restriction
   pub from-plain :
       (tag : Tag) → tag ≡ tag_of (word words at) → Other tag → (marks : List Bool) → length marks ≡ 16 →
-      BindsHere table words above scope at (set_of marks) (record { asked = Passed; set = marks; next = at + 1 })
+      (c : Tree) (next : ℕ) → Restricts c next → Binds c table (set_of marks) scope at next (record { asked = Passed; set = marks; next = at + 1 })
   unfolding bindings Formed is_formula
   from-plain (Tag.plain b) e o marks l c next node =
       let is = has table words restriction above scope at (Tag.plain b) e c next node in

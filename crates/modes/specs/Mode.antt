@@ -1,15 +1,14 @@
 -- What the code's sets of variables and its walks say, as those of model.
-use Rattle.std.specs.Prelude.{ℕ, ◌+◌, ◌*◌, ◌^◌, ◌≤◌, ◌<◌, ◌≡◌, Bool, true, false, ◌||◌, List, map, length, get_or, ℤ, ltb}
+use Rattle.std.specs.Prelude.{ℕ, ◌+◌, ◌*◌, ◌^◌, ◌≤◌, ◌<◌, ◌≡◌, Bool, true, false, ◌||◌, List, map, length, get_or, ltb}
 use Rattle.model.specs.Words.{Words, value}
 use Rattle.model.specs.declared.Refusal.TheVariants.{Mode}
 use Rattle.model.specs.Answer.{Outcome, passed, refused, ask, ◌>>=◌}
 use Rattle.model.specs.Level.{Role, restriction, formula}
 use Rattle.model.specs.Lists.{span, all, any}
-use Rattle.model.specs.Tree.{Term, Tree, Trees, atom, compare, some, count}
+use Rattle.model.specs.Tree.{Term, Tree, Trees, count}
 use Rattle.model.specs.Reading.{places, term_at, in_scope}
 use Rattle.model.specs.Mode.{Variables, is_variable, size, bindings, bindings_all, bindings_any, ask_modes, ask_modes_all}
 use Rattle.laws.specs.Reading.Nodes.{Node, Nodes}
-use Rattle.laws.specs.Reading.Parts.{AtomParts, CompareParts}
 use Rattle.tables.specs.declared.Checked.{Checked}
 use Rattle.tables.specs.declared.Checked.TheVariants.{Passed, Refused}
 use Rattle.modes.specs.declared.mode.Bound.{Bound}
@@ -38,44 +37,11 @@ pub record Came (o : Outcome Variables) (next : ℕ) (r : Bound) : Type 0 where
 abbrev pub Binds : (c : Tree) (table : Words) (b : Variables) (scope at next : ℕ) (r : Bound) → Type 0
 Binds c table b scope at next r = Came (bindings c table b scope at) next r
 
--- r is what the restriction at an index binds
-abbrev pub BindsHere : (table words : Words) (above scope at : ℕ) (b : Variables) (r : Bound) → Type 0
-BindsHere table words above scope at b r =
-    (c : Tree) (next : ℕ) → Node table words restriction above scope at c next → Binds c table b scope at next r
+abbrev pub BindsAll : (ts : Trees) (table : Words) (b : Variables) (scope at next : ℕ) (r : Bound) → Type 0
+BindsAll ts table b scope at next r = Came (bindings_all ts table b scope at) next r
 
--- the same of the n children of an all-of there, and of an any-of
-abbrev pub BindsAll : (table words : Words) (above scope n at : ℕ) (b : Variables) (r : Bound) → Type 0
-BindsAll table words above scope n at b r =
-    (ts : Trees) (next : ℕ) →
-    Nodes table words restriction above scope at ts next →
-    count ts ≡ n →
-    Came (bindings_all ts table b scope at) next r
-
-abbrev pub BindsAny : (table words : Words) (above scope n at : ℕ) (b : Variables) (r : Bound) → Type 0
-BindsAny table words above scope n at b r =
-    (ts : Trees) (next : ℕ) →
-    Nodes table words restriction above scope at ts next →
-    count ts ≡ n →
-    Came (bindings_any ts table b scope at) next r
-
--- the same of a "some" at an index, whose child stands behind its tag; of an atom; and of a comparison, under every table
-abbrev pub BindsSome : (table words : Words) (above scope at : ℕ) (b : Variables) (r : Bound) → Type 0
-BindsSome table words above scope at b r =
-    (c : Tree) (next : ℕ) →
-    Node table words restriction (above + 1) (scope + 1) (at + 1) c next →
-    Binds (some c) table b scope at next r
-
-abbrev pub BindsAtom : (holds : Bool) (table words : Words) (at : ℕ) (b : Variables) (r : Bound) → Type 0
-BindsAtom holds table words at b r =
-    (p : ℕ) (ts : List Term) (scope next : ℕ) →
-    AtomParts words scope at next p ts →
-    Binds (atom holds p ts) table b scope at next r
-
-abbrev pub BindsCompare : (words : Words) (at : ℕ) (b : Variables) (r : Bound) → Type 0
-BindsCompare words at b r =
-    (table : Words) (holds : Bool) (d : ℤ) (x y : Term) (scope next : ℕ) →
-    CompareParts words scope at next d x y →
-    Binds (compare holds d x y) table b scope at next r
+abbrev pub BindsAny : (ts : Trees) (table : Words) (b : Variables) (scope at next : ℕ) (r : Bound) → Type 0
+BindsAny ts table b scope at next r = Came (bindings_any ts table b scope at) next r
 
 -- what a walk of formulas says: that the mode rule passed, and the index behind them; or where it was refused
 unfoldable pub told_modes : Outcome (Unit {0}) → ℕ → Moded

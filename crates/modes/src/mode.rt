@@ -1,5 +1,6 @@
 // The mode rule: question 7, in a second pass over a policy that was read. Sets of variables go by value.
-ghost use Rattle.std.specs.Prelude.{◌≡◌, true, ◌&&◌, ltb, ℕ, ◌+◌, ◌*◌, ◌^◌, ◌≤◌, ◌<◌, length};
+ghost use Rattle.std.specs.Prelude.{◌≡◌, Bool, true, ◌&&◌, ltb, List, ℕ, ◌+◌, ◌*◌, ◌^◌, ◌≤◌, ◌<◌, length, ℤ};
+ghost use Rattle.model.specs.Words as W;
 ghost use Rattle.model.specs.Lists.{all, span};
 ghost use Rattle.model.specs.Table.{input, predicates};
 ghost use Rattle.model.specs.Mode.{is_bound, inputs_bound, ask_modes};
@@ -8,10 +9,11 @@ ghost use Rattle.model.specs.Level as L;
 ghost use Rattle.tables.specs.Checked.{outcome};
 ghost use Rattle.policies.specs.Node.{as_role};
 ghost use Rattle.policies.specs.Standing.{terms_at, HereAtom, Here, HereAll};
-ghost use Rattle.modes.specs.Mode.{set_of, with_terms, BindsHere, BindsAll, BindsAny, BindsSome, BindsAtom, BindsCompare};
+ghost use Rattle.modes.specs.Mode.{set_of, with_terms, Binds, BindsAll, BindsAny};
 ghost use Rattle.modes.specs.Mode.{HereBoth, Asks, AsksAll, AsksBoth};
-ghost use Rattle.model.specs.Tree.{Tree};
-ghost use Rattle.laws.specs.Reading.Nodes.{Node};
+ghost use Rattle.model.specs.Tree.{Term, Tree, Trees, atom, compare, some, count};
+ghost use Rattle.laws.specs.Reading.Parts.{AtomParts, CompareParts};
+ghost use Rattle.laws.specs.Reading.Nodes.{Node, Nodes};
 
 use model::Refusal;
 use policies::node;
@@ -104,7 +106,7 @@ fn with_terms(words: &[i32], bound: [bool; 16], first: usize, n: usize) -> [bool
 // An atom, of tag 2 (true) or 3, in a restriction.
 fn bind_atom(table: &[i32], words: &[i32], bound: [bool; 16], holds: bool, at: usize) -> Bound
     requires { HereAtom words.now at }
-    ensures { BindsAtom holds table.now words.now at (set_of bound) result }
+    ensures { (p : ℕ) (ts : List Term) (scope next : ℕ) → AtomParts words.now scope at next p ts → Binds (atom holds p ts) table.now (set_of bound) scope at next result }
 {
     let p = words::value(words, at + 1);
     let n = words::value(words, at + 2);
@@ -141,7 +143,7 @@ fn bind_atom(table: &[i32], words: &[i32], bound: [bool; 16], holds: bool, at: u
 // A comparison in a restriction.
 fn bind_compare(words: &[i32], bound: [bool; 16], at: usize) -> Bound
     requires { (at + 6 < 2 ^ 64) × (all (in_scope words.now 16) (places (at + 2) 2) ≡ true) }
-    ensures { BindsCompare words.now at (set_of bound) result }
+    ensures { (table : W.Words) (b : Bool) (d : ℤ) (x y : Term) (scope next : ℕ) → CompareParts words.now scope at next d x y → Binds (compare b d x y) table (set_of bound) scope at next result }
 {
     if !all_bound(words, bound, at + 2, 2) {
         return Bound {
@@ -169,7 +171,7 @@ fn bind_all(
     at: usize,
 ) -> Bound
     requires { (predicates table.now ≤ 256) × (above ≤ 64) × (scope ≤ 16) × HereAll table.now words.now L.Role.restriction above scope n at }
-    ensures { BindsAll table.now words.now above scope n at (set_of bound) result }
+    ensures { (ts : Trees) (next : ℕ) → Nodes table.now words.now L.Role.restriction above scope at ts next → count ts ≡ n → BindsAll ts table.now (set_of bound) scope at next result }
 {
     let mut set = bound;
     let mut next = at;
@@ -204,7 +206,7 @@ fn bind_any(
     at: usize,
 ) -> Bound
     requires { (predicates table.now ≤ 256) × (above ≤ 64) × (scope ≤ 16) × (1 ≤ n) × HereAll table.now words.now L.Role.restriction above scope n at }
-    ensures { BindsAny table.now words.now above scope n at (set_of bound) result }
+    ensures { (ts : Trees) (next : ℕ) → Nodes table.now words.now L.Role.restriction above scope at ts next → count ts ≡ n → BindsAny ts table.now (set_of bound) scope at next result }
 {
     let first = bind(table, words, bound, above, scope, at);
     let outcome = first.asked;
@@ -259,7 +261,7 @@ fn bind_some(
     at: usize,
 ) -> Bound
     requires { (predicates table.now ≤ 256) × (above < 64) × (scope < 16) × Here table.now words.now L.Role.restriction (above + 1) (scope + 1) (at + 1) }
-    ensures { BindsSome table.now words.now above scope at (set_of bound) result }
+    ensures { (c : Tree) (next : ℕ) → Node table.now words.now L.Role.restriction (above + 1) (scope + 1) (at + 1) c next → Binds (some c) table.now (set_of bound) scope at next result }
 {
     let child = bind(table, words, bound, above + 1, scope + 1, at + 1);
     let asked = child.asked;
@@ -294,7 +296,7 @@ pub fn bind(
     at: usize,
 ) -> Bound
     requires { (predicates table.now ≤ 256) × (above ≤ 64) × (scope ≤ 16) × Here table.now words.now L.Role.restriction above scope at }
-    ensures { BindsHere table.now words.now above scope at (set_of bound) result }
+    ensures { (c : Tree) (next : ℕ) → Node table.now words.now L.Role.restriction above scope at c next → Binds c table.now (set_of bound) scope at next result }
 {
     let tag = node::tag_at(words, at);
     match tag {

@@ -1,9 +1,12 @@
 // The residual of a policy over a log, at the front of a buffer: questions 1 to 12, in their order.
-ghost use Rattle.std.specs.Prelude.{◌≡◌, ℕ, ◌/◌, length, replicate};
+ghost use Rattle.std.specs.Prelude.{◌≡◌, ℕ, ◌/◌, ◌≤◌, length, replicate, []};
 ghost use Rattle.model.specs.Words.{place_words};
 ghost use Rattle.model.specs.Level as L;
 ghost use Rattle.model.specs.Tree.{Tree, plain};
-ghost use Rattle.model.specs.Calls.{write};
+ghost use Rattle.model.specs.Log.{rows};
+ghost use Rattle.model.specs.Reduction.{reduce, need};
+ghost use Rattle.model.specs.Calls.{write, ask_reduction};
+ghost use Rattle.laws.specs.Reading.Nodes.{Node};
 ghost use Rattle.policies.specs.Standing.{Here};
 ghost use Rattle.checks.specs.Accepts.{Accepts};
 ghost use Rattle.listing.specs.Restrictions.{Chains};
@@ -39,7 +42,9 @@ fn walk_policy(
     buffer: &mut [i32],
 ) -> Reduced
     requires { Chains table.now log.now links.now × Here table.now policy.now L.Role.formula 0 0 0 }
-    ensures { R.WalkedPolicy table.now policy.now log.now (length scratch.old / place_words) buffer.new result }
+    ensures { (tree : Tree) (next : ℕ) →
+        Node table.now policy.now L.Role.formula 0 0 0 tree next →
+        R.Walked (length scratch.old / place_words) (need table.now (rows log.now) tree []) (reduce table.now (rows log.now) tree []) buffer.new result }
 {
     let room = lendable(buffer.len());
     let walked = walk::formula(
@@ -97,7 +102,7 @@ fn over_log(
     buffer: &mut [i32],
 ) -> Answer
     requires { Accepts table.now policy.now × (links.old ≡ replicate 33026 0) }
-    ensures { R.LeavesResidual table.now policy.now log.now (length scratch.old) (length buffer.old) buffer.new result }
+    ensures { R.Leaves (ask_reduction table.now policy.now log.now (length scratch.old) (length buffer.old)) (length buffer.old) buffer.new result }
 {
     let checked = links::check_and_link(table, log, links);
     if let Checked::Refused(refusal, place) = checked {
@@ -115,7 +120,7 @@ pub fn residual(
     scratch: &mut [i32],
     buffer: &mut [i32],
 ) -> Answer
-    ensures { R.LeavesResidual table.now policy.now log.now (length scratch.old) (length buffer.old) buffer.new result }
+    ensures { R.Leaves (ask_reduction table.now policy.now log.now (length scratch.old) (length buffer.old)) (length buffer.old) buffer.new result }
 {
     let accepted = check_policy(table, policy);
     let Answer::Accepted(_) = accepted else {

@@ -14,17 +14,15 @@ use Rattle.model.specs.Lists.{gather}
 use Rattle.model.specs.Bytes.{Text, bytes, comma}
 use Rattle.model.specs.Answer.{refused}
 use Rattle.model.specs.Tree.{Term, constant, variable, encode_term}
-use Rattle.model.specs.TptpReading.{Reader, give, look, natural, integer, term, terms, token, up_to, ◌>>=◌}
+use Rattle.model.specs.TptpReading.{give, look, natural, integer, term, terms, token, up_to}
 use Rattle.model.specs.declared.Refusal.{Refusal}
 use Rattle.model.specs.declared.Refusal.TheVariants.{Tptp}
 use Rattle.text.specs.Reading.{signed}
-use Rattle.tptp_tokens.specs.Steps.{from, got, Skips, Reads, Value, Valued}
-use Rattle.tptp_tokens.specs.Numbers.{Naturals, Integers, with_sign}
-use Rattle.tptp_leaves.specs.Terms.{TermStands, TermsStand, SizedNumber, behind_number, with_term}
+use Rattle.tptp_tokens.specs.Steps.{from, got, Skips, Value, Valued}
+use Rattle.tptp_tokens.specs.Numbers.{Naturals, Integers}
+use Rattle.tptp_leaves.specs.Terms.{TermStands, TermsStand, read_variable, read_constant}
 use Rattle.tptp_tokens.specs.declared.tokens.Step.{Step}
-use Rattle.tptp_tokens.specs.declared.numbers.Digits.{Digits}
 use Rattle.tptp_tokens.specs.declared.numbers.Digits.TheVariants as D
-use Rattle.tptp_tokens.specs.declared.numbers.Signed.{Signed}
 use Rattle.tptp_tokens.specs.declared.numbers.Signed.TheVariants as I
 use Rattle.tptp_tokens.proofs.TokenLaws.{onward, halt, look-here, look-over, token-here}
 use Rattle.tptp_tokens.proofs.BehindLaws.{valued_from}
@@ -41,71 +39,47 @@ two-words own k x y h =
     ∙ ap (λ (ws : Words). ws ++ y ∷ []) (ap (λ (n : ℕ). take n (set own k x)) (add-one k) ∙ take-suc-set own k x (omega arith))
     ∙ append_assoc (take k own) (x ∷ []) (y ∷ [])
 
--- a reader, and the term of what it comes to
-abbrev pub term_of : {A : Type 0} (reader : Reader A) (named : A → Term) → Reader Term
-term_of reader named = reader >>= λ a. give (named a)
-
--- a number that was read has 32 bits, with its sign
-pub natural-sized : (text : Text) (at : ℕ) (d : Digits) → Naturals text at d → SizedNumber (with_sign d false)
-natural-sized text at (D.Read next x) n = n.2
-natural-sized text at (D.Refused q p) n = tt
-
-pub integer-sized : (text : Text) (at : ℕ) (found : Signed) → Integers text at found → SizedNumber found
-integer-sized text at (I.Read next negative m) n = n.1
-integer-sized text at (I.Refused q p) n = tt
-
-module _ (text : Text) (at k : ℕ) (own : Words) (room : k + 2 ≤ length own) where
-  -- what was read, with its kind and number put
-  put-read :
-      {A : Type 0} (reader : Reader A) (named : A → Term) (kind next m : ℕ) (negative : Bool) (a : A) →
-      encode_term (named a) ≡ pos kind ∷ signed negative m ∷ [] → Reads reader text at a next →
-      Value (term_of reader named) (TermStands k own (with_term k kind (I.Read next negative m) own)) text at next
-  unfolding give
-  put-read reader named kind next m negative a e n = record {
-    what = named a;
-    reads = record { low = n.low; high = n.high; reads = onward reader _ text at a next n.reads };
-    holds = two-words own k (pos kind) (signed negative m) room ∙ ap (λ (ws : Words). take k own ++ ws) (sym e);
+module _ (text : Text) (at k : ℕ) (own : Words) where
+  -- a variable, behind its letter; a constant
+  pub variable-at : (next x : ℕ) → k + 2 ≤ length own → Naturals text at (D.Read next x) → Value read_variable (TermStands k own (set (set own k (pos 1)) (k + 1) (pos x))) text at next
+  unfolding give encode_term
+  variable-at next x h n = record {
+    what = variable x;
+    reads = record { low = n.0.low; high = n.0.high; reads = onward natural _ text at x next n.0.reads };
+    holds = two-words own k (pos 1) (pos x) h;
   }
 
-  -- a variable, behind its letter; a constant
-  variable-at :
-      (d : Digits) → Naturals text at d →
-      Valued (term_of natural variable) (TermStands k own (with_term k 1 (with_sign d false) own)) text at (behind_number (with_sign d false))
-  unfolding encode_term
-  variable-at (D.Read next x) n = put-read natural variable 1 next x false x refl n.0
-  variable-at (D.Refused q p) n = halt natural _ text at q p n
+  pub constant-at :
+      (next : ℕ) (negative : Bool) (m : ℕ) → k + 2 ≤ length own → Integers text at (I.Read next negative m) →
+      Value read_constant (TermStands k own (set (set own k (pos 0)) (k + 1) (signed negative m))) text at next
+  unfolding give encode_term
+  constant-at next negative m h n = record {
+    what = constant (signed negative m);
+    reads = record { low = n.0.low; high = n.0.high; reads = onward integer _ text at (signed negative m) next n.0.reads };
+    holds = two-words own k (pos 0) (signed negative m) h;
+  }
 
-  constant-at :
-      (found : Signed) → Integers text at found →
-      Valued (term_of integer constant) (TermStands k own (with_term k 0 found own)) text at (behind_number found)
-  unfolding encode_term
-  constant-at (I.Read next negative m) n = put-read integer constant 0 next m negative (signed negative m) refl n.0
-  constant-at (I.Refused q p) n = halt integer _ text at q p n
-
-module _ (text : Text) (at k : ℕ) (own : Words) (i : ℕ) (s : Skips text at i) where
-  pub term-over : length text ≤ i → from term text at ≡ refused Tptp i
-  unfolding term
-  term-over h = halt look _ text at Tptp i (look-over text at i s h)
-
-  module _ (h : i < length text) (room : k + 2 ≤ length own) (found : Signed) {own' : Words} {r : Step} (put : r ≡ behind_number found) where
-    pub term-variable :
-        own' ≡ with_term k 1 found own → get_or text i 0 ≡ 88 → (d : Digits) → Naturals text (i + 1) d → found ≡ with_sign d false →
-        Valued term (TermStands k own own') text at r
-    unfolding term bytes
-    term-variable words e d n is =
-        valued_from term (term_of natural variable) (TermStands k own own') text at (i + 1)
-        (onward look _ text at (get_or text i 0) i (look-here text at i s h)
-        ∙ rw (eq-eqb (get_or text i 0) 88 e)
-        (onward (token (88 ∷ [])) _ text i tt (i + 1) (token-here text i i (skips_self text at i s h) 88 h e).reads))
-        (omega (arith, s.low)) r (rw (put, words, is) (variable-at text (i + 1) k own room d n))
-
-    pub term-constant :
-        own' ≡ with_term k 0 found own → (get_or text i 0 ≡ 88 → ⊥) → Integers text i found → Valued term (TermStands k own own') text at r
+  module _ (i : ℕ) (s : Skips text at i) where
+    pub term-over : length text ≤ i → from term text at ≡ refused Tptp i
     unfolding term
-    term-constant words e n =
-        valued_from term (term_of integer constant) (TermStands k own own') text at i
-        (onward look _ text at (get_or text i 0) i (look-here text at i s h) ∙ rw (ne_eqb (get_or text i 0) 88 e))
-        s.low r (rw (put, words) (constant-at text i k own room found n))
+    term-over h = halt look _ text at Tptp i (look-over text at i s h)
+
+    module _ (h : i < length text) (own' : Words) where
+      pub term-variable : get_or text i 0 ≡ 88 → (r : Step) → Valued read_variable (TermStands k own own') text (i + 1) r → Valued term (TermStands k own own') text at r
+      unfolding term bytes
+      term-variable e =
+          valued_from term read_variable (TermStands k own own') text at (i + 1)
+          (onward look _ text at (get_or text i 0) i (look-here text at i s h)
+          ∙ rw (eq-eqb (get_or text i 0) 88 e)
+          (onward (token (88 ∷ [])) _ text i tt (i + 1) (token-here text i i (skips_self text at i s h) 88 h e).reads))
+          (omega (arith, s.low))
+
+      pub term-constant : (get_or text i 0 ≡ 88 → ⊥) → (r : Step) → Valued read_constant (TermStands k own own') text i r → Valued term (TermStands k own own') text at r
+      unfolding term
+      term-constant e =
+          valued_from term read_constant (TermStands k own own') text at i
+          (onward look _ text at (get_or text i 0) i (look-here text at i s h) ∙ rw (ne_eqb (get_or text i 0) 88 e))
+          s.low
 
 -- the terms of a list one behind another, and one more
 pub gather-last : (ts : List Term) (t : Term) → gather encode_term (ts ++ t ∷ []) ≡ gather encode_term ts ++ encode_term t

@@ -1,5 +1,6 @@
 // Terms, as they stand in a text. Their words go to a small room of their own, which holds the words of one atom.
-ghost use Rattle.std.specs.Prelude.{◌≡◌, ◌+◌, ◌≤◌, length};
+ghost use Rattle.std.specs.Prelude.{◌≡◌, ◌+◌, ◌≤◌, pos, length, set};
+ghost use Rattle.text.specs.Reading.{signed, Sized};
 ghost use Rattle.model.specs.TptpReading as R;
 ghost use Rattle.tptp_tokens.specs.Steps.{Valued, Within, Behind};
 ghost use Rattle.tptp_leaves.specs.Terms as T;
@@ -7,19 +8,43 @@ ghost use Rattle.tptp_leaves.specs.Terms as T;
 use model::Refusal;
 use text::bytes;
 use text::word::put;
-use tptp_tokens::numbers::{Signed, integer, natural, with_sign};
+use tptp_tokens::numbers::{Digits, Signed, integer, natural};
 use tptp_tokens::tokens::{Step, skip};
 
-// A term goes to an index, if its number was read: its kind, and the number.
-fn put_term(own: &mut [i32], k: usize, kind: usize, found: Signed) -> Step
-    requires { (k + 2 ≤ length own.old) × (kind ≤ 1) × T.SizedNumber found }
-    ensures { (result ≡ T.behind_number found) × (own.new ≡ T.with_term k kind found own.old) }
+// The words of a term go to an index: its kind, and its number.
+fn put_term(own: &mut [i32], k: usize, kind: usize, magnitude: usize, negative: bool)
+    requires { (k + 2 ≤ length own.old) × (kind ≤ 1) × Sized negative magnitude }
+    ensures { own.new ≡ set (set own.old k (pos kind)) (k + 1) (signed negative magnitude) }
 {
+    put(own, k, kind, false);
+    put(own, k + 1, magnitude, negative);
+}
+
+// A variable, whose letter stands before an index.
+fn variable(text: &[u8], at: usize, own: &mut [i32], k: usize) -> Step
+    requires { (at ≤ length text.now) × (k + 2 ≤ length own.old) }
+    ensures { Valued T.read_variable (T.TermStands k own.old own.new) text.now at result }
+{
+    let found = natural(text, at);
+    match found {
+        Digits::Refused(q, p) => Step::Refused(q, p),
+        Digits::Read(next, x) => {
+            put_term(own, k, 1, x, false);
+            Step::At(next)
+        }
+    }
+}
+
+// A constant.
+fn constant(text: &[u8], at: usize, own: &mut [i32], k: usize) -> Step
+    requires { (at ≤ length text.now) × (k + 2 ≤ length own.old) }
+    ensures { Valued T.read_constant (T.TermStands k own.old own.new) text.now at result }
+{
+    let found = integer(text, at);
     match found {
         Signed::Refused(q, p) => Step::Refused(q, p),
         Signed::Read(next, negative, n) => {
-            put(own, k, kind, false);
-            put(own, k + 1, n, negative);
+            put_term(own, k, 0, n, negative);
             Step::At(next)
         }
     }
@@ -35,9 +60,9 @@ pub fn term(text: &[u8], at: usize, own: &mut [i32], k: usize) -> Step
         return Step::Refused(Refusal::Tptp, i);
     }
     if text[i] == 88 {
-        return put_term(own, k, 1, with_sign(natural(text, i + 1), false));
+        return variable(text, i + 1, own, k);
     }
-    put_term(own, k, 0, integer(text, i))
+    constant(text, i, own, k)
 }
 
 // One to six terms with commas between them. Their number and their words go behind the first two words.

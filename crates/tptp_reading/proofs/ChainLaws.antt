@@ -8,7 +8,7 @@ use mathlib.Core.Bool.{Bool, true, false, cond, not, ◌||◌}
 use mathlib.Core.List.{List, [], ◌∷◌}
 use lib.ListN.{length, drop, get_or}
 use lib.Dec.{leb, ltb, eqb}
-use borrow.Author.Tests.{eqb-true, eq-eqb, ne_eqb, leb-true, leb-false, ltb-true, not-true, not-false}
+use borrow.Author.Tests.{eqb-true, eq-eqb, ne_eqb, leb-true, leb-false, ltb-true, not-false}
 use Rattle.model.specs.Words.{Words}
 use Rattle.model.specs.Bytes.{Text, bytes, blank, ampersand, bar}
 use Rattle.model.specs.Answer as A
@@ -24,13 +24,13 @@ use Rattle.model.specs.declared.Refusal.{Refusal}
 use Rattle.model.specs.declared.Refusal.TheVariants.{Level, Variable, Tptp}
 use Rattle.laws.specs.Answer.{ask-passed, then_passed}
 use Rattle.laws.specs.Reading.Nodes.{under-kind}
-use Rattle.laws.specs.Words.Tests.{decide, clash, or_cases, or_left, or_right}
+use Rattle.laws.specs.Words.Tests.{decide, clash, or_left, or_right, or_false_left, or_false_right}
 use Rattle.laws.specs.Tptp.Spelling.TokensAhead.{stand_ahead, ahead_first}
 use Rattle.laws.specs.Tptp.Sound.Policies.{operand_sound}
 use Rattle.tptp_tokens.specs.Steps.{from, got, Skips, Steps, Value, Valued, Within, Behind}
-use Rattle.tptp_tokens.specs.Laying.{LaidTwo}
+use Rattle.tptp_tokens.specs.Laying.{Laid}
 use Rattle.tptp_state.specs.Told.{Told, Entered}
-use Rattle.tptp_binders.specs.Ahead.{stopping, StopsAt, Foretells, begins}
+use Rattle.tptp_binders.specs.Ahead.{StopsAt, begins}
 use Rattle.tptp_reading.specs.Formula.{Many, Begins, NodeRead, OperandRead, Further, ChildrenRead, chained, closed}
 use Rattle.tptp_tokens.specs.declared.tokens.Step.{Step}
 use Rattle.tptp_tokens.specs.declared.tokens.Step.TheVariants.{At, Refused}
@@ -41,12 +41,11 @@ use Rattle.tptp_tokens.proofs.TokenLaws.{onward, halt, given_then, here, over, l
 use Rattle.tptp_tokens.proofs.BehindLaws.{valued_from}
 use Rattle.tptp_tokens.proofs.Going.{going_start, going_token, going_value, going_end}
 use Rattle.tptp_tokens.proofs.UpTo.{skips_self}
-use Rattle.tptp_binders.proofs.AheadLaws.{blanks-rest, behind_skip}
+use Rattle.tptp_binders.proofs.AheadLaws.{blanks-rest}
 use Rattle.tptp_reading.proofs.StopLaws.{skips, stops-there}
 use Rattle.tptp_reading.proofs.AheadTrees.{stopping-here, operand-stopping}
 use Rattle.tptp_state.proofs.StateLaws.{asked-passed}
 use Rattle.tptp_reading.proofs.JoinLaws.{told-one, told-join}
-use Rattle.tptp_reading.proofs.RoleLaws.{operand-other, told_under}
 
 -- what stands behind a first operand: nothing, a connective, or another byte
 module _ (alone : Reader Tree) (first : Tree) (one : Reader Tree) (text : Text) (at i : ℕ) (s : Skips text at i) where
@@ -245,6 +244,9 @@ module _ (room : ℕ) (formula : Bool) (scope : ℕ) (text : Text) (at : ℕ) wh
           (λ h. joining-none taken (leb-false (length text) i h) R.stop)
           (decide (leb (length text) i))
 
+      chained-stop : (not (eqb i stop) || not (every || any)) ≡ true → from (chained one) text at ≡ refused Tptp i
+      chained-stop taken = onward one _ text at t behind e ∙ halt (joining R.stop t one) _ text behind Tptp i (joining-stop taken)
+
       -- none is ahead at all: an operand that is an all-of or any-of is refused, another one is read alone
       module _ (none : (every || any) ≡ false) where
         nowhere : (not (eqb i stop) || not (every || any)) ≡ true
@@ -278,52 +280,28 @@ module _ (room : ℕ) (formula : Bool) (scope : ℕ) (text : Text) (at : ℕ) wh
                 onward one (λ first. joining (cond (is_join first) R.stop (give first)) first one) text at t behind e
                 ∙ ap (λ (b : Bool). from (joining (cond b R.stop (give t)) t one) text behind) k
 
-  -- what stands behind it: no connective, or one
-  module _
-      (t : Tree) (behind i : ℕ) (every any : Bool)
-      (e : from one text at ≡ got text t behind) (s : Skips text behind i) (is : Connects text i every any)
-    where
-      chained-none : (every || any) ≡ false → from (chained one) text at ≡ refused Tptp i
-      unfolding R.stop
-      chained-none none =
-          onward one _ text at t behind e
-          ∙ halt (joining R.stop t one) _ text behind Tptp i
-          (⊎_elim
-          (λ h. joining-over R.stop t one text behind i s (leb-true (length text) i h))
-          (λ h.
-          let there = leb-false (length text) i h in
-          joining-alone R.stop t one text behind i s there
-          (λ k. clash (connected text i every any is there (inl k)) none)
-          (λ k. clash (connected text i every any is there (inr k)) none))
-          (decide (leb (length text) i)))
+      -- one does
+      chained-here :
+          (not (eqb i stop) || not (every || any)) ≡ false → (i < length text) × (get_or text i 0 ≡ cond every ampersand bar)
+      chained-here left =
+          let same = eqb-true i stop (not-false (eqb i stop) (or_false_left _ _ left)) in
+          let both = not-false (every || any) (or_false_right (not (eqb i stop)) _ left) in
+          subst (λ (k : ℕ). (k < length text) × (get_or text k 0 ≡ cond every ampersand bar)) (sym same) (connects text stop every any is both)
 
       chained_on :
-          (every || any) ≡ true →
+          i < length text →
+          get_or text i 0 ≡ cond every ampersand bar →
           from (chained one) text at
           ≡ from
           (more (cond every ampersand bar) one >>= λ ts. token (bytes ")") >>= λ _. give (join every (cons t (trees ts))))
           text i
       unfolding ◌>>=◌ give onwards
-      chained_on both =
-          let (h, b) = connects text i every any is both in
+      chained_on h b =
           onward one _ text at t behind e
           ∙ ap (λ (o : Outcome (Got Tree)). onwards o (λ tree. token (bytes ")") >>= λ _. give tree))
           (joining-more R.stop t one text behind i s h every b)
           ∙ given_then (more (cond every ampersand bar) one) (λ ts. join every (cons t (trees ts)))
           (λ tree. token (bytes ")") >>= λ _. give tree) (drop i text) i
-
-      -- the scan from the operand stops at the connective
-      chained_ahead : (every || any) ≡ true → stopping (drop at text) 0 ≡ drop i text
-      chained_ahead both =
-          operand-stopping room formula scope (drop at text) at _ e
-          ∙ ⊎_elim (λ k. there 38 (inl refl) (sym is.0 ∙ k)) (λ k. there 124 (inr (inl refl)) (sym is.1 ∙ k)) (or_cases every any both)
-        where
-          there :
-              (c : ℕ) → (c ≡ 38) ⊎ (c ≡ 124) ⊎ (c ≡ 41) → begins_with c (drop i text) ≡ true →
-              stopping (drop behind text) 0 ≡ drop i text
-          there c which k =
-              let same = behind_skip text behind i s in
-              stopping-here c (drop behind text) which (ap (begins_with c) same ∙ k) ∙ same
 
 -- what the first operand of a node that was entered begins with
 pub chain-begins :
@@ -358,19 +336,19 @@ chain-begins table text at room above scope before handed begins levels e = reco
 
 -- the first operand of an all-of or any-of, which stands below it, was read or refused
 module _
-    (room : ℕ) (table : Words) (role low : Role) (above scope : ℕ) (before handed : State) (text : Text) (at : ℕ) (ahead : Bool)
+    (room : ℕ) (table : Words) (role low : Role) (above scope : ℕ) (before handed : State) (text : Text) (at stop : ℕ) (every any : Bool)
     (old out : Words) (first : Came)
-    (fore : Foretells text at ahead) (below : low ≡ under role ahead)
+    (stops : StopsAt text at stop) (is : Connects text stop every any) (below : low ≡ under role every)
     (read : OperandRead room table low (above + 1) scope handed old out text at first)
   where
     abbrev each : Reader Tree
     each = (readers room).operand (is_formula role) scope
 
     kind : is_formula low ≡ is_formula role
-    kind = ap is_formula below ∙ under-kind role ahead
+    kind = ap is_formula below ∙ under-kind role every
 
     abbrev known : Tree → Type 0
-    known t = Told table t (under role ahead) (above + 1) scope handed first.state old out
+    known t = Told table t (under role every) (above + 1) scope handed first.state old out
 
     first_read : Valued each known text at first.end
     first_read =
@@ -391,109 +369,87 @@ module _
         (sym e)
         (chained_refused room (is_formula role) scope text at (subst (Valued each known text at) e first_read), tt)
 
-    -- read up to an index, behind which a connective stands or does not
-    module _
-        (behind i : ℕ) (ends : first.end ≡ At behind) (s : Skips text behind i)
-        (every any : Bool) (is : Connects text i every any)
-      where
-        abbrev value : Value each known text at behind
-        value = subst (Valued each known text at) ends first_read
+    -- read up to an index
+    module _ (behind i : ℕ) (ends : first.end ≡ At behind) (s : Skips text behind i) where
+      abbrev value : Value each known text at behind
+      value = subst (Valued each known text at) ends first_read
 
-        -- none does
-        pub chain-stop :
-            not (every || any) ≡ true →
-            NodeRead (chained each) table role above scope before old out text at (record { end = Refused Tptp i; state = first.state })
-        chain-stop none = (
-          chained-none room (is_formula role) scope text at value.what behind i every any value.reads.reads s is
-              (not-true (every || any) none),
-          tt,
+      -- no connective stands behind it
+      pub chain-stop :
+          (not (eqb i stop) || not (every || any)) ≡ true →
+          NodeRead (chained each) table role above scope before old out text at (record { end = Refused Tptp i; state = first.state })
+      chain-stop taken = (
+        chained-stop room (is_formula role) scope text at value.what behind i stop every any value.reads.reads s stops is taken,
+        tt,
+      )
+
+      -- one does
+      module _ (left : (not (eqb i stop) || not (every || any)) ≡ false) where
+        there : (i < length text) × (get_or text i 0 ≡ cond every ampersand bar)
+        there = chained-here room (is_formula role) scope text at value.what behind i stop every any value.reads.reads s stops is left
+
+        -- the further operands begin there
+        pub chain-rest :
+            Begins table text at room (above + 1) scope handed →
+            Begins table text i room (above + 1) scope first.state × (i < length text)
+        chain-rest begins = (
+          record {
+            high = s.high;
+            levels = begins.levels;
+            variables = begins.variables;
+            ready = record {
+              few = begins.ready.few;
+              counted = omega (arith, value.holds.counted);
+              marks = value.holds.marks;
+              level = λ p. begins.ready.level (value.holds.passes p);
+              range = λ p. begins.ready.range (value.holds.passes p);
+            };
+          },
+          there.0,
         )
 
-        -- one does
-        module _ (some : not (every || any) ≡ false) where
-          both : (every || any) ≡ true
-          both = not-false (every || any) some
-
-          there : (i < length text) × (get_or text i 0 ≡ cond every ampersand bar)
-          there = connects text i every any is both
-
-          -- the operand is known by it: what was foretold of a quantifier is so, and to another node it does not matter
-          operand_known : Told table value.what (under role every) (above + 1) scope handed first.state old out
-          operand_known =
-              ⊎_elim
-              (λ begun.
-              let same = fore.tells begun
-              ∙ ap (begins_with 38)
-              (chained_ahead room (is_formula role) scope text at value.what behind i every any value.reads.reads s is both)
-              ∙ sym is.0 in
-              subst (λ (b : Bool). Told table value.what (under role b) (above + 1) scope handed first.state old out) same value.holds)
-              (λ none.
-              told_under table role ahead every (above + 1) scope value.what handed first.state old out
-              (operand-other room (is_formula role) scope text at value.what behind value.reads.reads none)
-              value.holds)
-              (decide (begins 33 (drop at text) || begins 63 (drop at text)))
-
-          -- the further operands begin there
-          pub chain-rest :
-              Begins table text at room (above + 1) scope handed →
-              Begins table text i room (above + 1) scope first.state × (i < length text)
-          chain-rest begins = (
-            record {
-              high = s.high;
-              levels = begins.levels;
-              variables = begins.variables;
-              ready = record {
-                few = begins.ready.few;
-                counted = omega (arith, value.holds.counted);
-                marks = value.holds.marks;
-                level = λ p. begins.ready.level (value.holds.passes p);
-                range = λ p. begins.ready.range (value.holds.passes p);
-              };
-            },
-            there.0,
-          )
-
-          -- they, and the closing parenthesis, were read or refused
-          pub chain-read :
-              (lower : Role) (rest : Many) (out₁ out₃ : Words) (tag : ℕ) (close : Step) →
-              lower ≡ under role every →
-              Entered 2 (ltb above 64) true before.set before handed →
-              ChildrenRead room every table lower (above + 1) scope before.set first.state out out₁ text i rest →
-              tag ≡ cond every 6 7 →
-              LaidTwo before.words tag rest.count out₁ out₃ →
-              Behind (Steps (token (41 ∷ [])) text) rest.came.end close →
-              Within text close →
-              NodeRead (chained each) table role above scope before old out₃ text at (record { end = close; state = rest.came.state })
-          unfolding bytes
-          chain-read lower rest out₁ out₃ tag close under-it entered children six laid closes within =
-              let t = value.what in
-              let c = cond every ampersand bar in
-              let further : Role → List Tree → Type 0 = λ r.
-              Further table every r (above + 1) scope before.set first.state rest.came.state out out₁ rest.count in
-              let operands =
-              subst
-              (λ (formula : Bool). Valued (more c ((readers room).operand formula scope)) (further (under role every)) text i rest.came.end)
-              (ap is_formula under-it ∙ under-kind role every)
-              (subst
-              (λ (r : Role). Valued (more c ((readers room).operand (is_formula lower) scope)) (further r) text i rest.came.end)
-              under-it children.0) in
-              let whole = more c each >>= λ ts. token (bytes ")") >>= λ _. give (join every (cons t (trees ts))) in
-              let start = going_start whole text i s.high in
-              let listed =
-              going_value whole text i (λ _. Unit {0}) (more c each) (further (under role every)) _ (At i) rest.came.end start operands in
-              let ended = going_token whole text i _ (token (bytes ")")) _ rest.came.end close listed closes in (
-                valued_from (chained each) whole (λ tree. Told table tree role above scope before rest.came.state old out₃) text at i
-                    (chained_on room (is_formula role) scope text at t behind i every any value.reads.reads s is both)
-                    (omega (arith, value.reads.low, s.low)) close
-                    (going_end whole text i _ _ _
-                    (λ y holds.
-                    told-join table every t y.1 role above scope before handed rest.came.state old out₁ laid.between out₃ tag rest.count entered
-                    (holds.1.follows t handed old entered.set
-                    (told-one table every t (under role every) (above + 1) scope handed first.state old out operand_known))
-                    six holds.1.number laid.first laid.second)
-                    close ended),
-                within,
-              )
+        -- they, and the closing parenthesis, were read or refused
+        pub chain-read :
+            (rest : Many) (out₁ out₂ out₃ : Words) (tag : ℕ) (close : Step) →
+            Entered 2 (ltb above 64) true before.set before handed →
+            ChildrenRead room every table low (above + 1) scope before.set first.state out out₁ text i rest →
+            tag ≡ cond every 6 7 →
+            Laid before.words tag out₁ out₂ →
+            Laid (before.words + 1) rest.count out₂ out₃ →
+            Behind (Steps (token (41 ∷ [])) text) rest.came.end close →
+            Within text close →
+            NodeRead (chained each) table role above scope before old out₃ text at (record { end = close; state = rest.came.state })
+        unfolding bytes
+        chain-read rest out₁ out₂ out₃ tag close entered children six first-laid second-laid closes within =
+            let t = value.what in
+            let c = cond every ampersand bar in
+            let further : Role → List Tree → Type 0 = λ r.
+            Further table every r (above + 1) scope before.set first.state rest.came.state out out₁ rest.count in
+            let operands =
+            subst
+            (λ (formula : Bool). Valued (more c ((readers room).operand formula scope)) (further (under role every)) text i rest.came.end)
+            kind
+            (subst
+            (λ (r : Role). Valued (more c ((readers room).operand (is_formula low) scope)) (further r) text i rest.came.end)
+            below children.0) in
+            let whole = more c each >>= λ ts. token (bytes ")") >>= λ _. give (join every (cons t (trees ts))) in
+            let start = going_start whole text i s.high in
+            let listed =
+            going_value whole text i (λ _. Unit {0}) (more c each) (further (under role every)) _ (At i) rest.came.end start operands in
+            let ended = going_token whole text i _ (token (bytes ")")) _ rest.came.end close listed closes in (
+              valued_from (chained each) whole (λ tree. Told table tree role above scope before rest.came.state old out₃) text at i
+                  (chained_on room (is_formula role) scope text at t behind i stop every any value.reads.reads s stops is
+                  there.0 there.1)
+                  (omega (arith, value.reads.low, s.low)) close
+                  (going_end whole text i _ _ _
+                  (λ y holds.
+                  told-join table every t y.1 role above scope before handed rest.came.state old out₁ out₂ out₃ tag rest.count entered
+                  (holds.1.follows t handed old entered.set
+                  (told-one table every t (under role every) (above + 1) scope handed first.state old out value.holds))
+                  six holds.1.number first-laid second-laid)
+                  close ended),
+              within,
+            )
 
 -- an all-of or any-of with no parentheses around it, or an operand that is none
 module _

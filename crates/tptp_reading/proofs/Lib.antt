@@ -5,7 +5,6 @@ pub mod PolicyLaws
 pub mod JoinLaws
 pub mod ChildrenLaws
 pub mod StopLaws
-pub mod RoleLaws
 pub mod ChainLaws
 pub mod SomeLaws
 pub mod MoreLaws

@@ -31,7 +31,7 @@ use Rattle.tables.specs.declared.Checked.TheVariants.{Passed, Refused}
 use Rattle.modes.specs.Mode.{set_of, told}
 use Rattle.tptp_tokens.specs.Steps.{from, Reads, Steps, Valued, Within, Behind}
 use Rattle.tptp_binders.specs.Binder.{IsCount, BinderRead}
-use Rattle.tptp_tokens.specs.Laying.{most_words, Laid, LaidThree}
+use Rattle.tptp_tokens.specs.Laying.{most_words, Laid}
 use Rattle.tptp_state.specs.Told.{Told, Settled, Entered, Introduced, Outer}
 use Rattle.tptp_reading.specs.Formula.{Many, Begins, beneath, NodeRead, OperandRead, RestrictedTold, RestrictionRead}
 use Rattle.tptp_tokens.specs.declared.tokens.Step.{Step}
@@ -370,7 +370,7 @@ module _
 
           -- the body, and the closing parenthesis
           pub quantifier-read :
-              (tag : ℕ) (between : State) (last : Words) (deep free : Bool) (marks : List Bool)
+              (tag second third : ℕ) (between : State) (last out₁ out₂ : Words) (deep free : Bool) (marks : List Bool)
               (start lower' : ℕ) (body : Came) (close : Step) →
               lower' ≡ room - 1 →
               is_formula role ≡ true →
@@ -383,13 +383,17 @@ module _
               Introduced scope bound.count s.words inner.came.state between →
               OperandRead lower' table formula level (scope + bound.count) between mid last text start body →
               tag ≡ cond b 8 9 →
-              LaidThree s.words tag bound.count inner.count last out' →
+              Laid s.words tag last out₁ →
+              Laid second bound.count out₁ out₂ →
+              second ≡ s.words + 1 →
+              Laid third inner.count out₂ out' →
+              third ≡ s.words + 2 →
               Behind (Steps (token (41 ∷ [])) text) body.end close × Within text close →
               NodeRead reader table role above scope s out out' text at (record { end = close; state = body.state })
           unfolding is_formula cost bytes
           quantifier-read
-              tag between last deep free marks start lower' body close less' kind costs is-deep is_free entered outer e'
-              introduced reads tagged laid closes =
+              tag second third between last out₁ out₂ deep free marks start lower' body close less' kind costs is-deep is_free entered outer e'
+              introduced reads tagged laid₁ laid₂ at₂ laid₃ at₃ closes =
               let (some, few) = quantifier-variables in
               let one = (readers lower).operand true (scope + bound.count) in
               let Body : Tree → Type 0 = λ f. Told table f formula level (scope + bound.count) between body.state mid last in
@@ -401,9 +405,10 @@ module _
                 going_end reader text at _ (λ y. quantifier b bound.count y.0.1.excluded y.0.1.restriction y.1)
                     (λ t. Told table t role above scope s body.state out out')
                     (λ y f. told-quantifier table b bound.count y.0.1 y.1 role above scope level inner.count tag
-                    s handed inner.came.state between body.state out mid last laid.two.between laid.between out' deep free marks
-                    kind costs some few is-deep is_free entered outer f.0.1 introduced f.1 tagged
-                    laid.two.first laid.two.second laid.third)
+                    s handed inner.came.state between body.state out mid last out₁ out₂ out' deep free marks
+                    kind costs some few is-deep is_free entered outer f.0.1 introduced f.1 tagged laid₁
+                    (subst (λ (k : ℕ). Laid k bound.count out₁ out₂) at₂ laid₂)
+                    (subst (λ (k : ℕ). Laid k inner.count out₂ out') at₃ laid₃))
                     close g₂,
                 closes.1,
               )

@@ -1,5 +1,5 @@
 // Formulas and restrictions, as they stand in a text: they are read, asked questions 4 to 7 and laid in a buffer in one walk. Each way
-// deeper opens a parenthesis; operands and tuples are loops. What a quantifier that is a first operand costs hangs on the
+// deeper opens a parenthesis; operands and tuples are loops. What a node is to the node above it hangs, for a first operand, on the
 // connective behind it, which is looked up ahead. A parenthesis takes at most some 900 bytes of stack: what is known is handed on as two
 // arrays that are lent, and a node with none below it is read by two calls, so that the frame of an operand has no room for its words.
 ghost use Rattle.std.specs.Prelude.{◌≡◌, true, false, cond, ◌+◌, ◌*◌, ◌≤◌, ◌<◌, length, get_or, drop};
@@ -9,7 +9,7 @@ ghost use Rattle.model.specs.Reading.{is_formula};
 ghost use Rattle.model.specs.TptpReading as R;
 ghost use Rattle.policies.specs.Node.{as_role};
 ghost use Rattle.tptp_tokens.specs.Steps.{Steps, Within, Behind};
-ghost use Rattle.tptp_binders.specs.Ahead.{StopsAt, Foretells};
+ghost use Rattle.tptp_binders.specs.Ahead.{StopsAt};
 ghost use Rattle.tptp_state.specs.Told.{Ready};
 ghost use Rattle.tptp_state.specs.Known.{state_of};
 ghost use Rattle.tptp_reading.specs.Formula as F;
@@ -17,14 +17,14 @@ ghost use Rattle.tptp_reading.specs.Formula as F;
 use model::Refusal;
 use policies::node;
 use policies::node::{Role, Tag};
-use tptp_binders::ahead::{begins, begins_excluding, stands, stop_index, under_all};
+use tptp_binders::ahead::{begins, begins_excluding, stands, stop_index};
 use tptp_binders::binder::{Counted, binder};
 use tptp_binders::tuples::{behind_tuples, tuples};
 use tptp_leaves::leaves::{either, leaf, less};
 use tptp_state::known::{count_words, drop_variable, enter, hand, introduce, join, settle_leaf};
 use tptp_state::state::outer_variables;
 use tptp_tokens::behind::{then_expect, then_opening, then_token};
-use tptp_tokens::laying::{lay, lay_three, lay_two};
+use tptp_tokens::laying::lay;
 use tptp_tokens::tokens::{Step, opening, skip};
 
 // A node with none below it, whose first byte stands here; its words stand apart for a moment.
@@ -46,8 +46,7 @@ fn leaf_apart(
         × (blank (get_or text.now at 0) ≡ false)
         × F.LeafByte (is_formula (as_role role)) (get_or text.now at 0)
         × (length own.old ≡ 16) }
-    ensures { F.OperandRead room table.now (as_role role) above scope (state_of known.old set.old)
-        out.old out.new text.now at (F.came result known.new set.new) }
+    ensures { F.OperandRead room table.now (as_role role) above scope (state_of known.old set.old) out.old out.new text.now at (F.came result known.new set.new) }
 {
     let end = leaf(text, at, room, own);
     let Step::At(_) = end else {
@@ -74,8 +73,7 @@ fn read_leaf(
         × (at < length text.now)
         × (blank (get_or text.now at 0) ≡ false)
         × F.LeafByte (is_formula (as_role role)) (get_or text.now at 0) }
-    ensures { F.OperandRead room table.now (as_role role) above scope (state_of known.old set.old)
-        out.old out.new text.now at (F.came result known.new set.new) }
+    ensures { F.OperandRead room table.now (as_role role) above scope (state_of known.old set.old) out.old out.new text.now at (F.came result known.new set.new) }
 {
     let mut own = [0; 16];
     leaf_apart(
@@ -118,8 +116,7 @@ fn children(
     out: &mut [i32],
 ) -> Counted
     requires { F.Begins table.now text.now at room above scope (state_of known.old set.old) × (at < length text.now) }
-    ensures { F.ChildrenRead room every table.now (as_role role) above scope start (state_of known.old set.old)
-        out.old out.new text.now at (F.many result known.new set.new) }
+    ensures { F.ChildrenRead room every table.now (as_role role) above scope start (state_of known.old set.old) out.old out.new text.now at (F.many result known.new set.new) }
 {
     let connective = connective(every);
     let mut next = at;
@@ -161,13 +158,13 @@ fn children(
     }
 }
 
-// An all-of or any-of, and the closing parenthesis behind it. What its first operand is to it is told ahead, as far as it matters.
+// An all-of or any-of, whose first operand reaches to `stop`, and the closing parenthesis behind it.
 #[cycle(chain_children_excluding_operand_quantifier_restricted_some_whole)]
 fn chain(
     table: &[i32],
     text: &[u8],
     at: usize,
-    ahead: bool,
+    stop: usize,
     room: usize,
     role: Role,
     above: usize,
@@ -178,20 +175,21 @@ fn chain(
 ) -> Step
     requires { F.Begins table.now text.now at room above scope (state_of known.old set.old)
         × (above + 1 + 2 * room ≤ 600)
-        × Foretells text.now at ahead }
-    ensures { F.NodeRead (F.chained ((R.readers room).operand (is_formula (as_role role)) scope)) table.now (as_role role) above scope (state_of known.old set.old)
-        out.old out.new text.now at (F.came result known.new set.new) }
+        × StopsAt text.now at stop }
+    ensures { F.NodeRead (F.chained ((R.readers room).operand (is_formula (as_role role)) scope)) table.now (as_role role) above scope (state_of known.old set.old) out.old out.new text.now at (F.came result known.new set.new) }
 {
     let w = known[0];
     let start = *set;
-    let first = node::under(role, ahead);
+    let every = stands(text, stop, 38);
+    let some = stands(text, stop, 124);
+    let below = node::under(role, every);
     enter(known, set, 2, above < node::LEVEL_LIMIT, true, start);
     let end = operand(
         table,
         text,
         at,
         room,
-        first,
+        below,
         above + 1,
         scope,
         known,
@@ -202,12 +200,9 @@ fn chain(
         return end;
     };
     let i = skip(text, behind);
-    let every = stands(text, i, 38);
-    let some = stands(text, i, 124);
-    if !(every | some) {
+    if (i != stop) | !(every | some) {
         return Step::Refused(Refusal::Tptp, i);
     }
-    let below = node::under(role, every);
     let rest = children(
         table,
         text,
@@ -222,7 +217,8 @@ fn chain(
         set,
         out,
     );
-    lay_two(out, w, either(every, 6, 7), rest.count);
+    lay(out, w, either(every, 6, 7));
+    lay(out, w + 1, rest.count);
     let last = rest.end;
     then_expect(text, last, 41)
 }
@@ -242,15 +238,14 @@ pub fn whole(
     out: &mut [i32],
 ) -> Step
     requires { F.Begins table.now text.now at room above scope (state_of known.old set.old) × (above + 1 + 2 * room ≤ 600) }
-    ensures { F.NodeRead (F.closed ((R.readers room).operand (is_formula (as_role role)) scope)) table.now (as_role role) above scope (state_of known.old set.old)
-        out.old out.new text.now at (F.came result known.new set.new) }
+    ensures { F.NodeRead (F.closed ((R.readers room).operand (is_formula (as_role role)) scope)) table.now (as_role role) above scope (state_of known.old set.old) out.old out.new text.now at (F.came result known.new set.new) }
 {
     let stop = stop_index(text, at);
     let every = stands(text, stop, 38);
     let some = stands(text, stop, 124);
     if every | some {
         return chain(
-            table, text, at, every, room, role, above, scope, known, set, out,
+            table, text, at, stop, room, role, above, scope, known, set, out,
         );
     }
     let parenthesis = begins(text, at, 40);
@@ -280,8 +275,7 @@ fn some(
     requires { F.Begins table.now text.now at room above scope (state_of known.old set.old)
         × (at < length text.now)
         × (get_or text.now at 0 ≡ interrogation) }
-    ensures { F.NodeRead (R.read_some room (F.beneath room) scope) table.now restriction above scope (state_of known.old set.old)
-        out.old out.new text.now at (F.came result known.new set.new) }
+    ensures { F.NodeRead (R.read_some room (F.beneath room) scope) table.now restriction above scope (state_of known.old set.old) out.old out.new text.now at (F.came result known.new set.new) }
 {
     let bound = binder(text, at + 1, scope, 0);
     let named = bound.end;
@@ -336,8 +330,7 @@ fn excluding(
         × (1 ≤ v) × (v ≤ 4)
         × StopsAt text.now at stop
         × (R.begins_excluding v (drop stop text.now) ≡ true) }
-    ensures { F.RestrictionRead (F.exclusion room v x) table.now level x v (state_of known.old set.old)
-        out.old out.new text.now at (F.many result known.new set.new) }
+    ensures { F.RestrictionRead (F.exclusion room v x) table.now level x v (state_of known.old set.old) out.old out.new text.now at (F.many result known.new set.new) }
 {
     let w = known[0];
     let listed = tuples(text, stop, room, v, x, out, w);
@@ -385,8 +378,7 @@ fn restricted(
     out: &mut [i32],
 ) -> Counted
     requires { F.Begins table.now text.now at room level (x + v) (state_of known.old set.old) × (1 ≤ v) × (v ≤ 4) }
-    ensures { F.RestrictionRead ((R.readers room).restriction v x) table.now level x v (state_of known.old set.old)
-        out.old out.new text.now at (F.many result known.new set.new) }
+    ensures { F.RestrictionRead ((R.readers room).restriction v x) table.now level x v (state_of known.old set.old) out.old out.new text.now at (F.many result known.new set.new) }
 {
     if !begins(text, at, 40) {
         let end = operand(
@@ -426,12 +418,11 @@ fn restricted(
             out,
         );
     }
-    let ahead = stands(text, stop, 38);
     let end = chain(
         table,
         text,
         inside,
-        ahead,
+        stop,
         less(room),
         Role::Restriction,
         level,
@@ -462,8 +453,7 @@ fn quantifier(
         × (at < length text.now)
         × (get_or text.now at 0 ≡ cond every exclamation interrogation)
         × (is_formula (as_role role) ≡ true) }
-    ensures { F.NodeRead (R.read_quantifier room (F.beneath room) every scope) table.now (as_role role) above scope (state_of known.old set.old)
-        out.old out.new text.now at (F.came result known.new set.new) }
+    ensures { F.NodeRead (R.read_quantifier room (F.beneath room) every scope) table.now (as_role role) above scope (state_of known.old set.old) out.old out.new text.now at (F.came result known.new set.new) }
 {
     let bound = binder(text, at + 1, scope, 3);
     let v = bound.count;
@@ -513,7 +503,9 @@ fn quantifier(
         set,
         out,
     );
-    lay_three(out, w, either(every, 8, 9), v, count);
+    lay(out, w, either(every, 8, 9));
+    lay(out, w + 1, v);
+    lay(out, w + 2, count);
     then_expect(text, last, 41)
 }
 
@@ -532,8 +524,7 @@ fn operand(
     out: &mut [i32],
 ) -> Step
     requires { F.Begins table.now text.now at room above scope (state_of known.old set.old) }
-    ensures { F.OperandRead room table.now (as_role role) above scope (state_of known.old set.old)
-        out.old out.new text.now at (F.came result known.new set.new) }
+    ensures { F.OperandRead room table.now (as_role role) above scope (state_of known.old set.old) out.old out.new text.now at (F.came result known.new set.new) }
 {
     let i = skip(text, at);
     if text.len() <= i {
@@ -545,12 +536,12 @@ fn operand(
         let Step::At(inside) = open else {
             return open;
         };
-        let ahead = under_all(text, inside);
+        let stop = stop_index(text, inside);
         return chain(
             table,
             text,
             inside,
-            ahead,
+            stop,
             less(room),
             role,
             above,

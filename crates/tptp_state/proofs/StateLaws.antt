@@ -14,6 +14,7 @@ use Rattle.model.specs.Lists.{span, all}
 use Rattle.model.specs.Answer.{Outcome, passed, refused, ask, ◌>>=◌}
 use Rattle.model.specs.Level.{restriction}
 use Rattle.model.specs.Mode.{Variables, bindings}
+use Rattle.model.specs.Tree.{Tree}
 use Rattle.model.specs.declared.Refusal.{Refusal}
 use Rattle.model.specs.declared.Refusal.TheVariants.{Mode}
 use Rattle.tables.specs.Checked.{outcome}
@@ -21,8 +22,9 @@ use Rattle.tables.specs.declared.Checked.{Checked}
 use Rattle.tables.specs.declared.Checked.TheVariants.{Passed, Refused}
 use Rattle.laws.specs.Answer.{refused-passed}
 use Rattle.laws.specs.Words.Tests.{clash}
+use Rattle.laws.specs.Reading.Nodes.{Node}
 use Rattle.policies.specs.Standing.{Here}
-use Rattle.modes.specs.Mode.{set_of, told, BindsHere}
+use Rattle.modes.specs.Mode.{set_of, told, Binds}
 use Rattle.modes.specs.declared.mode.Bound.{Bound}
 use Rattle.modes.proofs.ModeTerms.{set_dropped}
 use Rattle.tptp_state.specs.Told.{moved, Ready, LeafBound, Dropped, Introduced, Handed, Joined}
@@ -94,7 +96,7 @@ module _ (table own : Words) (above scope : ℕ) (s : State) (ready : Ready tabl
 
   pub bound-leaf :
       s.asked ≡ Passed → s.moded ≡ Passed → (b : Bound) (m : Checked) →
-      BindsHere table own above scope 0 (set_of s.set) b →
+      ((c : Tree) (next : ℕ) → Node table own restriction above scope 0 c next → Binds c table (set_of s.set) scope 0 next b) →
       Here table own restriction above scope 0 →
       outcome m ≡ moved s.words (outcome b.asked) →
       LeafBound table own above scope s (record { words = s.words; asked = Passed; moded = m; set = b.set })

@@ -1,31 +1,27 @@
--- The text of an accepted log is read, and gives the log: a good row is spelled by its predicate, its truth and as many arguments
--- as the arity, since its other arguments are 0.
-use Rattle.std.specs.Prelude.{ℕ, zero, suc, ◌+◌, ◌*◌, ◌-◌, ◌%◌, ◌≤◌, ◌<◌, ◌≡◌, true, length, take, drop, ℤ, pos}
-use Rattle.std.proofs.Common.{arith, ◌∙◌, length-drop, drop-drop, take-add, take_all, length-take-le, eq-eqb}
-use Rattle.std.proofs.Math.Path.{refl, sym, ap, ap₂}
+-- The lines that are written of an accepted log: a good row is spelled by its predicate, its truth and as many arguments as the arity,
+-- since its other arguments are 0. That they are read back stands in proofs/.
+use Rattle.std.specs.Prelude.{ℕ, zero, suc, ◌+◌, ◌*◌, ◌-◌, ◌%◌, ◌≤◌, ◌<◌, ◌≡◌, true, length, take, drop, pos}
+use Rattle.std.proofs.Common.{arith, ◌∙◌, length-drop, drop-drop, take-add, take_all, length-take-le}
+use Rattle.std.proofs.Math.Path.{refl, sym, ap}
 use mathlib.Core.List.{List, [], ◌∷◌, ◌++◌, map, Memᴰ}
-use Rattle.std.proofs.Math.ListN.{replicate, take-append-drop}
-use Rattle.std.proofs.lemmas.List.{length-map, length-replicate}
+use Rattle.std.proofs.Math.ListN.{replicate}
+use Rattle.std.proofs.lemmas.List.{length-replicate}
 use Rattle.model.specs.Words.{Words, word, value, word_sized}
 use Rattle.model.specs.Lists.{all, span, gather}
-use Rattle.model.specs.Answer.{passed, ◌>>=◌}
+use Rattle.model.specs.Answer.{passed}
 use Rattle.model.specs.Table.{predicates, arity, ask_table}
-use Rattle.model.specs.Log.{row_count, row_at, rows, arguments, good_row, ask_log}
+use Rattle.model.specs.Log.{row_count, row_at, rows, arguments, good_row}
 use Rattle.model.specs.Bytes.{Text}
-use Rattle.model.specs.Csv.{bare, content, good_field, good_lines, contents}
-use Rattle.model.specs.CsvReading.{read_csv}
-use Rattle.model.specs.Decimal.{good_number, number_of, decimal}
-use Rattle.model.specs.LogText.{row_of, spells_row, ask_records, log_lines, log_text}
-use Rattle.model.specs.declared.Refusal.TheVariants.{Record}
-use Rattle.laws.specs.Words.Tests.{and_left, and_right, and-true}
+use Rattle.model.specs.Csv.{bare, content, good_field, good_lines}
+use Rattle.model.specs.Decimal.{decimal}
+use Rattle.model.specs.LogText.{log_lines}
+use Rattle.laws.specs.Words.Tests.{and_left, and-true}
 use Rattle.laws.specs.Words.Standing.{below-value}
 use Rattle.laws.specs.Lists.Membership.{all_take, all_drop}
-use Rattle.laws.specs.Answer.{ask-true, pass_then}
 use Rattle.laws.specs.Table as table-laws
 use Rattle.laws.specs.Log as log-laws
 use Rattle.laws.specs.Log.{zeros-same, zeros-all, unused-zero, row_at-length, rows_mem}
-use Rattle.laws.specs.Csv.Complete.{csv-complete}
-use Rattle.laws.specs.Decimal.{decimal-good, decimal-text}
+use Rattle.laws.specs.Decimal.{decimal-text}
 
 -- so many rows of a log, one behind another
 rows-from : (log : Words) (i n : ℕ) → gather (λ row. row) (map (row_at log) (span i n)) ≡ take (8 * n) (drop (8 * i) log)
@@ -46,7 +42,7 @@ unfolding row_count
 rows_whole log e = omega arith
 
 -- all rows of a log, one behind another, are the log
-rows-joined : (log : Words) → length log ≡ 8 * row_count log → gather (λ row. row) (rows log) ≡ log
+pub rows-joined : (log : Words) → length log ≡ 8 * row_count log → gather (λ row. row) (rows log) ≡ log
 unfolding rows
 rows-joined log e = rows-from log 0 (row_count log) ∙ take_all (8 * row_count log) log (omega arith)
 
@@ -57,11 +53,11 @@ pub record Spellable (table row : Words) : Type 0 where
   pub sized : all word_sized row ≡ true
 
 -- the words that are written of a row
-abbrev used : Words → Words → Words
+abbrev pub used : Words → Words → Words
 used table row = take (2 + arity table (value row 0)) row
 
 -- the fields of a row's line: those words in decimal
-line-fields :
+pub line-fields :
     (table row : Words) →
     1 ≤ length row →
     map content (bare (decimal (word row 0)) ∷ map (λ n. bare (decimal n)) (drop 1 (used table row))) ≡ map decimal (used table row)
@@ -81,18 +77,6 @@ line-fields table row l = go row (2 + arity table (value row 0)) l (omega arith)
     go (x ∷ ws) zero l m = absurd (omega arith)
     go (x ∷ ws) (suc n) l m = ap (λ (ts : List Text). decimal x ∷ ts) (bare-fields (take n ws))
 
--- words in decimal are numbers, and those words
-numbers-good :
-    (ws : Words) →
-    all word_sized ws ≡ true →
-    (all good_number (map decimal ws) ≡ true) × (map number_of (map decimal ws) ≡ ws)
-unfolding all
-numbers-good [] e = (refl, refl)
-numbers-good (n ∷ ws) e =
-    let (g, is) = decimal-good n (and_left _ _ e) in
-    let (gs, are) = numbers-good ws (and_right (word_sized n) _ e) in
-    (and-true g gs, ap₂ (λ (z : ℤ) (zs : Words). z ∷ zs) is are)
-
 module _ (table : Words) (ok : ask_table table ≡ passed tt) where
   -- a good row's predicate, and its arity
   pub good-arity : (row : Words) → good_row table row ≡ true → (value row 0 < predicates table) × (arity table (value row 0) ≤ 6)
@@ -106,11 +90,11 @@ module _ (table : Words) (ok : ask_table table ≡ passed tt) where
   used-short row g = omega (arith, (good-arity row g).1)
 
   module _ (row : Words) (h : Spellable table row) where
-    used-length : length (used table row) ≡ 2 + arity table (value row 0)
+    pub used-length : length (used table row) ≡ 2 + arity table (value row 0)
     used-length = length-take-le _ row (let s = used-short row h.good in omega (arith, h.eight))
 
     -- what is not written of it is 0
-    unused : drop (2 + arity table (value row 0)) row ≡ replicate (8 - (2 + arity table (value row 0))) (pos 0)
+    pub unused : drop (2 + arity table (value row 0)) row ≡ replicate (8 - (2 + arity table (value row 0))) (pos 0)
     unfolding arguments
     unused =
         let n = arity table (value row 0) in
@@ -118,42 +102,8 @@ module _ (table : Words) (ok : ask_table table ≡ passed tt) where
         ∙ zeros-same _ _ (unused-zero table row (value row 0) n refl h.good refl) (zeros-all (8 - (2 + n)))
         (simp (length-drop, length-replicate) (omega (arith, h.eight)))
 
-    -- the fields written of it spell it
-    row_back : row_of (map decimal (used table row)) ≡ row
-    unfolding row_of
-    row_back =
-        let n = 2 + arity table (value row 0) in
-        ap₂ (λ (ws : Words) (k : ℕ). ws ++ replicate (8 - k) (pos 0))
-        (numbers-good (used table row) (all_take word_sized n row h.sized)).1
-        (length-map (used table row) decimal ∙ used-length)
-        ∙ ap (λ (ws : Words). used table row ++ ws) (sym unused)
-        ∙ take-append-drop n row
-
-    -- and pass question 14
-    row-spelled : spells_row table (map decimal (used table row)) ≡ true
-    unfolding spells_row
-    row-spelled =
-        let n = 2 + arity table (value row 0) in
-        rw row_back
-        (and-true (and-true (numbers-good (used table row) (all_take word_sized n row h.sized)).0
-        (eq-eqb _ _ (length-map (used table row) decimal ∙ used-length))) h.good)
-
-  -- the records of the rows' lines give the rows
-  records_back :
-      (rs : List Words) →
-      ((row : Words) → Memᴰ row rs → Spellable table row) →
-      (r : ℕ) →
-      ask_records table r (contents (log_lines table rs)) ≡ passed (gather (λ row. row) rs)
-  unfolding log_lines contents ask_records gather
-  records_back [] h r = refl
-  records_back (row ∷ rs) h r =
-      let here = h row (Memᴰ.head refl) in
-      rw (line-fields table row (omega (arith, here.eight)))
-      (pass_then _ (ask-true Record r (row-spelled row here))
-      (pass_then _ (records_back rs (λ row' m. h row' (Memᴰ.tail m)) (suc r)) (rw (row_back row here))))
-
 -- the lines of rows keep the rules
-lines_good : (table : Words) (rs : List Words) → good_lines (log_lines table rs) ≡ true
+pub lines_good : (table : Words) (rs : List Words) → good_lines (log_lines table rs) ≡ true
 unfolding log_lines good_lines all good_field
 lines_good table [] = refl
 lines_good table (row ∷ rs) =
@@ -168,7 +118,7 @@ unfolding row_at
 row_sized log i e = all_take word_sized 8 (drop (8 * i) log) (all_drop word_sized (8 * i) log e)
 
 -- each row of an accepted log can be spelled
-spellable :
+pub spellable :
     (table log : Words) →
     all word_sized log ≡ true →
     log-laws.Accepted table log →
@@ -182,16 +132,3 @@ spellable table log sized a row m =
       good = ap (good_row table) q ∙ a.good i b;
       sized = ap (all word_sized) q ∙ row_sized log i sized;
     }
-
--- an accepted log of numbers of 32 bits is read back from its text
-pub text_back :
-    (table log : Words) →
-    all word_sized log ≡ true →
-    ask_table table ≡ passed tt →
-    ask_log table log ≡ passed tt →
-    (read_csv (log_text table log) >>= ask_records table 0) ≡ passed log
-unfolding log_text
-text_back table log sized ok e =
-    let a = log-laws.accepted table log e in
-    pass_then (ask_records table 0) (csv-complete (log_lines table (rows log)) (lines_good table (rows log)))
-    (records_back table ok (rows log) (spellable table log sized a) 0 ∙ ap passed (rows-joined log (rows_whole log a.whole)))

@@ -1,6 +1,6 @@
 -- The instances of a quantifier: the tuples, not excluded, under which its restriction is true, each once.
 -- By the listing from the outer environment, whose environments bind all the quantifier's variables.
-use Rattle.std.specs.Prelude.{ℕ, ◌+◌, ◌<◌, ◌≡◌, ◌↔◌, ◌⊎◌, true, false, get_or, ltb, ℤ, pos}
+use Rattle.std.specs.Prelude.{ℕ, ◌+◌, ◌<◌, ◌≡◌, ◌⊎◌, true, false, get_or, ltb, ℤ, pos}
 use Rattle.std.proofs.Common.{arith, sym, ◌∙◌, subst, inl, inr, ⊎_elim, get_or-append-add, ext_get_or}
 use Rattle.std.proofs.Math.Path.{ap}
 use mathlib.Core.List.Memᴰ
@@ -8,9 +8,8 @@ use mathlib.Core.List.{List, [], ◌∷◌, ◌++◌, map, Memᴰ}
 use Rattle.std.proofs.Math.ListN.{length}
 use Rattle.model.specs.Words.{Words, equal_all, member}
 use Rattle.model.specs.Lists.{span, all}
-use Rattle.model.specs.Answer.{passed}
 use Rattle.model.specs.Tree.{Tree}
-use Rattle.model.specs.Mode.{Variables, bindings}
+use Rattle.model.specs.Mode.{Variables}
 use Rattle.model.specs.Log.{value_in}
 use Rattle.model.specs.Truth.{Is}
 use Rattle.model.specs.Listing.{bound, Environment, outer, number_in, list}
@@ -20,7 +19,7 @@ use Rattle.laws.specs.Lists.Membership.{all_mem, mem_map, map_mem}
 use Rattle.laws.specs.Reading.Formed.{Formed}
 use Rattle.laws.specs.Lists.Span.{mem_span, or_false_left, or_false_right}
 use Rattle.laws.specs.Log.{Sound}
-use Rattle.laws.specs.Mode.{after, Passes, bindings-passes}
+use Rattle.laws.specs.Mode.{after, Passes}
 use Rattle.laws.specs.Listing.Fitting.{Agrees}
 use Rattle.laws.specs.Listing.Exact.{list-fits}
 use Rattle.laws.specs.Listing.Outer.{below-outer, outer-fits, tuple-length, tuple-number, found-true, true-found}
@@ -128,7 +127,7 @@ module _ (table : Words) (rows : List Words) where
         (passes : Passes table c (λ x. ltb x (length ρ)) (length ρ + v))
         (binds : all (after c (λ x. ltb x (length ρ)) (length ρ + v)) (span (length ρ) v) ≡ true) where
       -- the tuples that a restriction lists are those under which it is true
-      tuples-true :
+      pub tuples-true :
           {τ : List ℤ} →
           Memᴰ τ (map (tuple (length ρ) v) (list table rows c (length ρ + v) (outer ρ ∷ []))) →
           Is c (value_in table rows) true (ρ ++ τ)
@@ -138,7 +137,7 @@ module _ (table : Words) (rows : List Words) where
           (found-true table rows sound c (λ x. ltb x (length ρ)) ρ v formed passes (below-outer (length ρ)) i)
 
       -- and each of those is listed
-      true-tuples :
+      pub true-tuples :
           (τ : List ℤ) →
           length τ ≡ v →
           Is c (value_in table rows) true (ρ ++ τ) →
@@ -154,28 +153,3 @@ module _ (table : Words) (rows : List Words) where
           (λ x k. inner (length ρ + x) (all_mem _ binds (mem_span (length ρ) v (omega arith) (omega arith))))
           in
           Memᴰ.cast (sym q ∙ ap (λ (k : ℕ). tuple (length ρ) k e) l) (mem_map (tuple (length ρ) v) m)
-
-      -- the instances, if the mode rule passes
-      pub instances-passes :
-          (τ : List ℤ) →
-          length τ ≡ v →
-          Memᴰ τ (instances table rows v excluded c ρ) ↔ ((member τ excluded ≡ false) × Is c (value_in table rows) true (ρ ++ τ))
-      unfolding instances
-      instances-passes τ l = (
-        λ m. let (n, k) = fresh_mem excluded _ m in (n, tuples-true k),
-        λ w. mem_fresh excluded _ w.0 (true-tuples τ l w.1),
-      )
-
-    -- the instances are the tuples, not excluded, under which the restriction is true
-    pub instances_exact :
-        (at : ℕ) {b' : Variables} →
-        Sound table rows →
-        Formed c table false (length ρ + v) →
-        bindings c table (λ x. ltb x (length ρ)) (length ρ + v) at ≡ passed b' →
-        all b' (span (length ρ) v) ≡ true →
-        (τ : List ℤ) →
-        length τ ≡ v →
-        Memᴰ τ (instances table rows v excluded c ρ) ↔ ((member τ excluded ≡ false) × Is c (value_in table rows) true (ρ ++ τ))
-    instances_exact at sound formed e binds =
-        let (h, s) = bindings-passes table c (λ x. ltb x (length ρ)) (length ρ + v) at e in
-        instances-passes sound formed h (rw s binds)

@@ -1,9 +1,2 @@
--- What is spelled is read: a reader takes the tokens of every value that it can give.
+-- What it is that a reader takes the tokens of every value that it can give, and how readers one behind another do.
 pub mod Readers
-pub mod Numbers
-pub mod Lists
-pub mod Atoms
-pub mod Joins
-pub mod Restrictions
-pub mod Trees
-pub mod Policies

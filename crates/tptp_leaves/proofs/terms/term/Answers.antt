@@ -1,8 +1,6 @@
 -- `tptp_leaves::terms::term` meets its contract.
 use native.Mathlib.Omega.{arith}
-use mathlib.Core.Path.{sym, subst}
-use Rattle.tptp_leaves.specs.Terms.{SizedNumber}
-use Rattle.tptp_leaves.proofs.TermLaws.{natural-sized, integer-sized, term-over, term-variable, term-constant}
+use Rattle.tptp_leaves.proofs.TermLaws.{term-over, term-variable, term-constant}
 use borrow.Author.Rules.{rules}
 use Rattle.tptp_leaves.proofs.terms.term.Goals as goal
 
@@ -16,11 +14,10 @@ pub returns-then-text-i-eq88 : goal.returns-then-text-i-eq88
 returns-then-text-i-eq88 c =
     let a = c.args in
     term-variable a.text.now a.at a.k a.own.now _ c.skip-i.ensures (omega (arith, c.if-text-i.false))
-    c.requires.1 c.with_sign.result c.put_term.ensures.0 c.put_term.ensures.1 c.if-text-i-eq88.true
-    c.natural.result c.natural.ensures c.with_sign.ensures
+    _ c.if-text-i-eq88.true c.variable.result c.variable.ensures
 
 pub returns : goal.returns
 returns c =
     let a = c.args in
     term-constant a.text.now a.at a.k a.own.now _ c.skip-i.ensures (omega (arith, c.if-text-i.false))
-    c.requires.1 c.integer.result c.put_term-2.ensures.0 c.put_term-2.ensures.1 c.if-text-i-eq88.false c.integer.ensures
+    _ c.if-text-i-eq88.false c.constant.result c.constant.ensures

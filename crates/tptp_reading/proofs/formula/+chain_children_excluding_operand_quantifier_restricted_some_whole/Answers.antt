@@ -3,7 +3,6 @@
 -- there, two for `children`, `excluding` and `restricted`, which call `operand`, three for `chain`, which calls `children`, and four for
 -- `whole`, which calls `chain`. All other calls are behind a parenthesis.
 -- The loop of `children`: the operands passed are read and told behind the first, and there is fuel for those left.
-use Rattle.std.specs.Prelude.{not}
 use Prim.Native.Nat.{ℕ, ◌+◌, ◌*◌, ◌<◌, ◌-◌}
 use lib.ListN.{length, get_or}
 use Rattle.policies.specs.Node.{as_role}
@@ -24,7 +23,6 @@ use Rattle.tptp_binders.specs.Tuples.{StoredTuples}
 use Rattle.tptp_tokens.specs.Steps.{Steps, Valued, Within}
 use Rattle.tptp_tokens.proofs.BehindLaws.{valued_within, steps_within}
 use Rattle.tptp_reading.proofs.RoomLaws.{opening-room}
-use Rattle.tptp_binders.proofs.AheadLaws.{foretold}
 use Rattle.tptp_reading.proofs.OperandLaws.{operand-over, operand-refused, operand-chain, operand-some, operand-quantifier, operand_skip}
 use Rattle.tptp_reading.proofs.OperandLaws.{leaf-byte, restricts}
 use Rattle.tptp_reading.proofs.ChainLaws.{chain-begins, chain-refused, chain-stop, chain-rest, chain-read, whole-chain, whole-refused}
@@ -50,21 +48,21 @@ chain-operand-end-requires t c =
 pub chain-returns-in_default : goal.chain-returns-in_default
 chain-returns-in_default t c =
     let a = c.args in
-    chain-refused a.room a.table.now (as_role a.role) (as_role c.under-first.result) a.above a.scope
+    chain-refused a.room a.table.now (as_role a.role) (as_role c.under-below.result) a.above a.scope
     (state_of a.known.now a.set.now) (state_of c.enter.new.known c.enter.new.set) a.text.now a.at
-    a.ahead a.out.now c.operand-end.new.out
+    a.stop c.stands-every.result c.stands-some.result a.out.now c.operand-end.new.out
     (came c.operand-end.result c.operand-end.new.known c.operand-end.new.set)
-    c.requires.2 c.under-first.ensures c.operand-end.ensures c.in_default.is
+    c.requires.2 (c.stands-every.ensures, c.stands-some.ensures) c.under-below.ensures c.operand-end.ensures c.in_default.is
 
-pub chain-returns-then-not-every-some : goal.chain-returns-then-not-every-some
-chain-returns-then-not-every-some t c =
+pub chain-returns-then-i-stop : goal.chain-returns-then-i-stop
+chain-returns-then-i-stop t c =
     let a = c.args in
-    chain-stop a.room a.table.now (as_role a.role) (as_role c.under-first.result) a.above a.scope
+    chain-stop a.room a.table.now (as_role a.role) (as_role c.under-below.result) a.above a.scope
     (state_of a.known.now a.set.now) (state_of c.enter.new.known c.enter.new.set) a.text.now a.at
-    a.ahead a.out.now c.operand-end.new.out
+    a.stop c.stands-every.result c.stands-some.result a.out.now c.operand-end.new.out
     (came c.operand-end.result c.operand-end.new.known c.operand-end.new.set)
-    c.requires.2 c.under-first.ensures c.operand-end.ensures _ _ c.in-At.is
-    c.skip-i.ensures c.stands-every.result c.stands-some.result (c.stands-every.ensures, c.stands-some.ensures) (ap not c.if-not-every-some.true)
+    c.requires.2 (c.stands-every.ensures, c.stands-some.ensures) c.under-below.ensures c.operand-end.ensures _ _ c.in-At.is
+    c.skip-i.ensures c.if-i-stop.true
 
 pub chain-children-rest-requires : goal.chain-children-rest-requires
 chain-children-rest-requires t c =
@@ -74,30 +72,28 @@ chain-children-rest-requires t c =
     (state_of a.known.now a.set.now) (state_of c.enter.new.known c.enter.new.set) c.requires.0
     c.requires.1 c.enter.ensures in (
       omega (arith, c.decreases),
-      chain-rest a.room a.table.now (as_role a.role) (as_role c.under-first.result)
+      chain-rest a.room a.table.now (as_role a.role) (as_role c.under-below.result)
           a.above a.scope (state_of a.known.now a.set.now) (state_of c.enter.new.known c.enter.new.set)
-          a.text.now a.at a.ahead a.out.now
+          a.text.now a.at a.stop c.stands-every.result c.stands-some.result a.out.now
           c.operand-end.new.out
           (came c.operand-end.result c.operand-end.new.known
-          c.operand-end.new.set) c.requires.2
-          c.under-first.ensures c.operand-end.ensures _ _ c.in-At.is c.skip-i.ensures
-          c.stands-every.result c.stands-some.result (c.stands-every.ensures, c.stands-some.ensures) (ap not c.if-not-every-some.false) begins,
+          c.operand-end.new.set) c.requires.2 (c.stands-every.ensures, c.stands-some.ensures)
+          c.under-below.ensures c.operand-end.ensures _ _ c.in-At.is c.skip-i.ensures c.if-i-stop.false begins,
     )
 
 pub chain-returns : goal.chain-returns
 chain-returns t c =
     let a = c.args in
-    chain-read a.room a.table.now (as_role a.role) (as_role c.under-first.result) a.above a.scope
+    chain-read a.room a.table.now (as_role a.role) (as_role c.under-below.result) a.above a.scope
     (state_of a.known.now a.set.now) (state_of c.enter.new.known c.enter.new.set) a.text.now a.at
-    a.ahead a.out.now c.operand-end.new.out
+    a.stop c.stands-every.result c.stands-some.result a.out.now c.operand-end.new.out
     (came c.operand-end.result c.operand-end.new.known c.operand-end.new.set)
-    c.requires.2 c.under-first.ensures c.operand-end.ensures _ _ c.in-At.is
-    c.skip-i.ensures c.stands-every.result c.stands-some.result (c.stands-every.ensures, c.stands-some.ensures) (ap not c.if-not-every-some.false)
-    (as_role c.under-below.result)
+    c.requires.2 (c.stands-every.ensures, c.stands-some.ensures) c.under-below.ensures c.operand-end.ensures _ _ c.in-At.is
+    c.skip-i.ensures c.if-i-stop.false
     (many c.children-rest.result c.children-rest.new.known c.children-rest.new.set)
-    c.children-rest.new.out c.lay_two.new.out c.either.result
-    c.then_expect.result c.under-below.ensures c.enter.ensures c.children-rest.ensures c.either.ensures
-    c.lay_two.ensures c.then_expect.ensures.0 c.then_expect.ensures.1
+    c.children-rest.new.out c.lay.new.out c.lay-2.new.out c.either.result
+    c.then_expect.result c.enter.ensures c.children-rest.ensures c.either.ensures c.lay.ensures.0 c.lay-2.ensures.0
+    c.then_expect.ensures.0 c.then_expect.ensures.1
 
 pub children-loop-role-init : goal.children-loop-role-init
 children-loop-role-init t c =
@@ -235,7 +231,7 @@ operand-chain-requires t c =
         },
         omega
             (arith, c.requires.levels, room, less),
-        c.under_all-ahead.ensures,
+        c.stop_index-stop.ensures,
       ),
     )
 
@@ -385,18 +381,19 @@ quantifier-returns t c =
     c.less.ensures
     a.table.now (as_role a.role) a.above (a.above + c.cost.result) (state_of a.known.now a.set.now)
     (state_of c.enter.new.known c.enter.new.set) a.out.now c.restricted-inner.new.out
-    c.lay_three.new.out
+    c.lay-3.new.out
     (many c.restricted-inner.result c.restricted-inner.new.known c.restricted-inner.new.set)
     c.implies-sign.result
     c.restricted-inner.ensures c.implies-sign.ensures.0
-    c.either.result (state_of c.introduce.new.known c.introduce.new.set) c.operand-last.new.out
-    _ _ c.outer_variables.result
+    c.either.result _ _ (state_of c.introduce.new.known c.introduce.new.set) c.operand-last.new.out
+    c.lay.new.out c.lay-2.new.out _ _ c.outer_variables.result
     c.in-At-sign.start c.less-2.result
     (came c.operand-last.result c.operand-last.new.known c.operand-last.new.set)
     c.then_expect.result
     c.less-2.ensures c.requires.3 (ap (λ (n : ℕ). a.above + n) c.cost.ensures) refl refl c.enter.ensures
     c.outer_variables.ensures c.in-At-sign.is
-    c.introduce.ensures c.operand-last.ensures c.either.ensures c.lay_three.ensures
+    c.introduce.ensures c.operand-last.ensures c.either.ensures c.lay.ensures.0 c.lay-2.ensures.0 (omega arith)
+    c.lay-3.ensures.0 (omega arith)
     c.then_expect.ensures
 
 pub restricted-returns-then-not-begins : goal.restricted-returns-then-not-begins
@@ -443,7 +440,7 @@ restricted-chain-end-requires t c =
     restricted-begins a.table.now a.text.now a.at a.room a.level (a.x + a.v) c.less-2.result
     c.in-At.inside (state_of a.known.now a.set.now) c.opening-open.result
     c.requires.0 c.opening-open.ensures c.in-At.is c.less-2.ensures in
-    (omega (arith, falls, c.decreases), (begins, levels, foretold a.text.now _ _ _ _ c.stop_index-stop.ensures c.stands-ahead.ensures (omega arith)))
+    (omega (arith, falls, c.decreases), (begins, levels, c.stop_index-stop.ensures))
 
 pub restricted-returns : goal.restricted-returns
 restricted-returns t c =

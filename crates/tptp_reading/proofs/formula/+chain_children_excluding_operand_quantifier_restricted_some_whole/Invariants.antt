@@ -23,7 +23,6 @@ use Rattle.tptp_binders.specs.Tuples.{StoredTuples}
 use Rattle.tptp_tokens.specs.Steps.{Steps, Valued, Within}
 use Rattle.tptp_tokens.proofs.BehindLaws.{valued_within, steps_within}
 use Rattle.tptp_reading.proofs.RoomLaws.{opening-room}
-use Rattle.tptp_binders.proofs.AheadLaws.{foretold}
 use Rattle.tptp_reading.proofs.OperandLaws.{operand-over, operand-refused, operand-chain, operand-some, operand-quantifier, operand_skip}
 use Rattle.tptp_reading.proofs.OperandLaws.{leaf-byte, restricts}
 use Rattle.tptp_reading.proofs.ChainLaws.{chain-begins, chain-refused, chain-stop, chain-rest, chain-read, whole-chain, whole-refused}
