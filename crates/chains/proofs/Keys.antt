@@ -1,23 +1,21 @@
 -- The keys of rows: a row that holds an atom has the atom's key; keys of each kind; and links that can be filled.
 use Prim.Native.Nat.{ℕ, ◌+◌, ◌*◌, ◌-◌, ◌/◌, ◌%◌, ◌^◌, ◌≤◌, ◌<◌}
 use native.Mathlib.Omega.{arith}
-use mathlib.Core.Path.{◌≡◌, refl, sym, ap, ◌∙◌, subst}
+use mathlib.Core.Path.{◌≡◌, refl, sym, ap, ◌∙◌}
 use mathlib.Core.Logic.{⊎_elim}
 use mathlib.Core.Bool.{Bool, true, false, cond, ◌&&◌}
-use mathlib.Core.List.{List, [], ◌∷◌}
+use mathlib.Core.List.{List}
 use lib.ListN.{length, get_or, take, drop, replicate, length-replicate, get_or-replicate}
 use lib.Seq.{take_all}
-use lib.Dec.{eqb, ltb}
+use lib.Dec.{eqb}
 use lib.IntN.{ℤ, pos, nat_abs}
-use borrow.Author.Tests.{eqb-true, eqb-false, ne_eqb, ltb-true, ltb-false}
+use borrow.Author.Tests.{ne_eqb}
 use Rattle.model.specs.Words.{Words, word, value, equal, at_least, below}
-use Rattle.model.specs.Lists.{span}
 use Rattle.model.specs.Log.{row_count, row_at, arguments, says_true, holds}
 use Rattle.words.specs.Offset.{from_least}
 use Rattle.laws.specs.Words.Tests.{decide, clash, equal-true}
 use Rattle.laws.specs.Words.Standing.{below-value, below-pos}
 use Rattle.laws.specs.Log.{holds-value, holds-arguments}
-use Rattle.laws.specs.Lists.Span.{span_mem, keep_same}
 use Rattle.chains.specs.Chain.{Empty}
 use Rattle.chains.specs.declared.key.Kind.{Kind}
 use Rattle.chains.specs.declared.key.Kind.TheVariants.{Atom, Predicate, First}

@@ -13,7 +13,7 @@ use lib.IntN.{ℤ, pos}
 use borrow.Author.Tests.{leb-true, leb-false, ltb-true, le-leb, le-ltb, lt-ltb, ne_eqb}
 use Rattle.model.specs.declared.Refusal.TheVariants.{Csv}
 use Rattle.model.specs.Answer.{Outcome, passed, refused, ◌>>=◌}
-use Rattle.model.specs.Words.{Words, word, value}
+use Rattle.model.specs.Words.{Words, value}
 use Rattle.model.specs.Bytes.{Text}
 use Rattle.model.specs.Lists.{all}
 use Rattle.model.specs.CsvReading.{Records, start, field, move, add_byte, add_field, add_record}

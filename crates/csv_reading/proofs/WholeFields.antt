@@ -24,7 +24,7 @@ use Rattle.csv_reading.specs.declared.field.Field.{Field}
 use Rattle.csv_reading.specs.declared.field.End.{End}
 use Rattle.csv_reading.specs.declared.field.End.TheVariants.{Bad, Comma, Line}
 use Rattle.text.specs.Reading.{NumberAt, signed}
-use Rattle.csv_reading.specs.Field.{is_quote, attach, behind, reading, goes_on, Onward, BareTo, Rest, EndsAt, FieldFrom}
+use Rattle.csv_reading.specs.Field.{is_quote, attach, reading, goes_on, Onward, BareTo, Rest, EndsAt, FieldFrom}
 use Rattle.text.proofs.Slices.{slice-drop}
 use Rattle.csv_reading.proofs.FieldLaws.{attach-append, attach-refused, quoting-text, field-text, stop-at, closing-rest, read_at}
 use Rattle.csv_reading.proofs.FieldLaws.{quote-there}

@@ -3,10 +3,9 @@ use Prim.Native.Nat.{ℕ, suc, ◌+◌, ◌≤◌}
 use native.Mathlib.Omega.{arith}
 use mathlib.Core.Path.{◌≡◌, refl, sym, ap, ◌∙◌, subst}
 use mathlib.Core.Bool.{Bool, true, false, false≢true}
-use mathlib.Core.List.{List, [], ◌∷◌}
+use mathlib.Core.List.{List}
 use lib.ListN.{length, length-append}
 use lib.IntN.{ℤ}
-use denote.Enum.Declared as Declared
 use Rattle.model.specs.Words.{Words, word}
 use Rattle.model.specs.Lists.{gather}
 use Rattle.model.specs.Tag as T
@@ -16,7 +15,6 @@ use Rattle.laws.specs.Reading.Parts.{root}
 use Rattle.policies.specs.Node.{as_tag, There, Sized}
 use Rattle.policies.specs.declared.node.Tag.{Tag}
 use Rattle.policies.specs.declared.node.Tag.TheVariants.{Plain, Atom, Compare, Join, Quantifier, Some, Unused}
-use Rattle.policies.specs.contracts.node.Tag.{the_type}
 use Rattle.trees.specs.Grown.{Grown, Tree-at}
 use Rattle.trees.proofs.Rows.{Row, row_first, row_one, row-children, glue, children, tree_tag, tree-own}
 use Rattle.trees.specs.Own.{mine}

@@ -1,14 +1,11 @@
 -- The walk over a restriction: it is closed exactly if the trees that are left are, as long as each predicate met is complete.
-use Prim.Native.Nat.{ℕ, ◌+◌, ◌*◌, ◌-◌, ◌≤◌, ◌<◌}
+use Prim.Native.Nat.{ℕ, ◌+◌, ◌-◌, ◌≤◌, ◌<◌}
 use native.Mathlib.Omega.{arith}
 use mathlib.Core.Path.{◌≡◌, refl, sym, ap, ◌∙◌, subst}
 use mathlib.Core.Bool.{Bool, true, false, ◌&&◌, false≢true}
-use mathlib.Core.List.{[], ◌∷◌}
 use lib.ListN.{length}
-use lib.IntN.{pos}
-use denote.Enum.Declared as D
-use Rattle.model.specs.Words.{Words, word, value, equal}
-use Rattle.model.specs.Table.{predicates, complete}
+use Rattle.model.specs.Words.{Words, word, value}
+use Rattle.model.specs.Table.{complete}
 use Rattle.model.specs.Tag.{Tag, tag_of}
 use Rattle.model.specs.Tree.{Tree, Trees, plain, atom, compare, join, quantifier, some, nil, cons, count, encode}
 use Rattle.model.specs.Level.{restriction}
@@ -21,7 +18,6 @@ use Rattle.laws.specs.Words.Standing.{three_stand}
 use Rattle.policies.specs.declared.node.Tag.{Tag as Read}
 use Rattle.policies.specs.declared.node.Tag.TheVariants.{Plain, Atom, Compare, Join, Quantifier, Some, Unused}
 use Rattle.policies.specs.Node.{as_tag, Sized}
-use Rattle.policies.specs.contracts.node.Tag.{the_type}
 use Rattle.trees.specs.Grown.{Grown, below}
 use Rattle.trees.proofs.Rows.{Row, row_one, row-none, glue, children}
 use Rattle.trees.proofs.Ahead.{Ahead, ahead, ahead_is, ahead_tree, ahead_tag, ahead_word, ahead_row, ahead_count, ahead_fits, own-some}

@@ -2,10 +2,8 @@
 use Prim.Native.Nat.{ℕ, ◌+◌, ◌-◌, ◌^◌, ◌≤◌, ◌<◌}
 use mathlib.Core.Path.{◌≡◌, sym, ap, ◌∙◌, subst, refl}
 use mathlib.Core.Bool.{Bool, true, false}
-use mathlib.Core.List.{[], ◌∷◌}
 use lib.ListN.{length}
 use lib.IntN.{ℤ}
-use denote.Enum.Declared as D
 use Rattle.model.specs.Words.{Words, word, same, predicate_limit}
 use Rattle.model.specs.Lists.{all}
 use Rattle.model.specs.Table.{predicates}
@@ -24,7 +22,6 @@ use Rattle.policies.specs.declared.node.Tag.{Tag}
 use Rattle.policies.specs.declared.node.Tag.TheVariants.{Plain, Atom, Compare, Join, Quantifier, Some, Unused}
 use Rattle.policies.specs.Node.{as_tag}
 use Rattle.policies.specs.Standing.{HereAtom}
-use Rattle.policies.specs.contracts.node.Tag.{the_type}
 use Rattle.policies.proofs.Standing.{has, here-atom, here-compare}
 use Rattle.environments.specs.declared.environment.Environment.{Environment as Held}
 use Rattle.environments.specs.Environment.{Holds}

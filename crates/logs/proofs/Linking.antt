@@ -3,7 +3,7 @@ use Prim.Native.Nat.{ℕ, zero, suc, ◌+◌, ◌-◌, ◌≤◌}
 use native.Mathlib.Nat.{zero-add, suc-add}
 use native.Mathlib.Omega.{arith}
 use mathlib.Core.Path.{◌≡◌, refl, sym, ap, ◌∙◌, subst}
-use mathlib.Core.List.{List, [], ◌∷◌, ◌++◌, append-nil}
+use mathlib.Core.List.{List, ◌∷◌, ◌++◌, append-nil}
 use lib.ListN.{length, take, drop, replicate, length-replicate, length-append, length-drop, drop_of_length-le, get_or-append}
 use lib.Seq.{take_at, drop_at, drop-drop, take_all, length-take-le}
 use Rattle.chains.specs.Chain.{Chained}

@@ -14,7 +14,6 @@ use Rattle.model.specs.Listing.{Environment, fit, matches}
 use Rattle.chains.specs.Chain.{chain, link, Chained}
 use Rattle.chains.proofs.Chains.{First, walk_end, walk_step, link-small}
 use Rattle.chains.proofs.Rows.{row_first}
-use Rattle.matching.specs.declared.rows.Added.TheVariants as A
 use Rattle.environments.specs.Environment.{stored}
 use Rattle.environments.specs.Listed.{Listed}
 use Rattle.environments.proofs.ListedLaws.{listed-none, listed-stored, laid-front}

@@ -1,6 +1,6 @@
 -- A log with a row in front of another's extends it, over table T: what is known of send (7, 9, 100) stays, though the row in front
 -- begins like it.
-use Rattle.std.specs.Prelude.{ℕ, zero, suc, ◌≡◌, refl, Bool, true, false, cond, ◌&&◌, List, [], ◌∷◌, eqb, ℤ, pos, negsuc}
+use Rattle.std.specs.Prelude.{ℕ, zero, suc, ◌≡◌, refl, Bool, true, false, cond, ◌&&◌, [], ◌∷◌, ℤ, pos, negsuc}
 use Rattle.std.proofs.Common.{arith, true≢false, eqb-true, ne_eqb}
 use Rattle.model.specs.Words.{Words, equal}
 use Rattle.model.specs.Log.{known, unknown}

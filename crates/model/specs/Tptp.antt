@@ -1,5 +1,5 @@
 -- Policies in the TPTP typed form: the tokens of a tree, and the texts that spell it.
-use Rattle.std.specs.Prelude.{ℕ, suc, ◌+◌, ◌≡◌, Bool, true, false, not, cond, ◌&&◌, ◌||◌, List, [], ◌∷◌, ◌++◌, map, length, leb, eqb, ℤ}
+use Rattle.std.specs.Prelude.{ℕ, suc, ◌+◌, ◌≡◌, Bool, true, false, not, cond, ◌&&◌, List, [], ◌∷◌, ◌++◌, map, length, leb, eqb, ℤ}
 use Rattle.model.specs.Words.{word_sized}
 use Rattle.model.specs.Lists.{span, all, gather}
 use Rattle.model.specs.Bytes.{Text, bytes, blank, small, word_byte}

@@ -1,19 +1,17 @@
 -- The mode rule at an atom and at a comparison, by the tests that the code makes.
 use Prim.Native.Nat.{ℕ, ◌+◌, ◌*◌}
-use mathlib.Core.Path.{◌≡◌, sym, ap, ap₂, ◌∙◌}
+use mathlib.Core.Path.{◌≡◌, sym, ap, ◌∙◌}
 use mathlib.Core.Bool.{Bool, true, false, ◌&&◌}
-use mathlib.Core.List.{List, [], ◌∷◌, map}
+use mathlib.Core.List.{List, [], ◌∷◌}
 use lib.ListN.{length}
-use lib.IntN.{ℤ, nat_abs}
+use lib.IntN.{ℤ}
 use Rattle.model.specs.declared.Refusal.TheVariants.{Mode}
-use Rattle.model.specs.Words.{Words, word, value}
+use Rattle.model.specs.Words.{Words, value}
 use Rattle.model.specs.Lists.{all}
 use Rattle.model.specs.Answer.{passed, refused, ask, ◌>>=◌}
 use Rattle.model.specs.Tree.{Term, atom, compare}
-use Rattle.model.specs.Reading.{places, term_at}
 use Rattle.model.specs.Mode.{Variables, is_bound, inputs_bound, bindings}
 use Rattle.laws.specs.Reading.Parts.{AtomParts, CompareParts}
-use Rattle.laws.specs.Reading.Items.{two-places}
 use Rattle.policies.specs.Standing.{terms_at}
 use Rattle.modes.specs.Mode.{set_of, with_terms, Binds}
 use Rattle.tables.specs.declared.Checked.{Checked}

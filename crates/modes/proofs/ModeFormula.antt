@@ -3,26 +3,24 @@
 use Prim.Native.Nat.{ℕ, ◌+◌, ◌*◌, ◌≤◌}
 use native.Mathlib.Omega.{arith}
 use native.Mathlib.Nat.{add_assoc}
-use mathlib.Core.Path.{◌≡◌, refl, sym, ap, ◌∙◌, subst}
+use mathlib.Core.Path.{◌≡◌, sym, ap, ◌∙◌, subst}
 use mathlib.Core.Bool.{Bool, true, true≢false}
 use mathlib.Core.List.{List}
 use lib.ListN.{length}
 use lib.IntN.{ℤ, nat_abs}
-use Rattle.model.specs.Words.{Words, word, value, level_limit, scope_limit}
+use Rattle.model.specs.Words.{Words, value, scope_limit}
 use Rattle.model.specs.Answer.{Outcome}
-use Rattle.model.specs.Tag.{Tag, tag_of}
+use Rattle.model.specs.Tag.{Tag}
 use Rattle.model.specs.Tree.{Tree, Trees, plain, atom, compare, join, quantifier, some, count}
-use Rattle.model.specs.Level.{Role, restriction, formula, under, quantifier_cost, cost, greatest}
+use Rattle.model.specs.Level.{Role, under, quantifier_cost, cost}
 use Rattle.model.specs.Reading.{is_formula, own}
 use Rattle.model.specs.Mode.{size, ask_modes, ask_modes_all}
 use Rattle.laws.specs.Reading.Formed.{Formed}
-use Rattle.laws.specs.Level.{greatest-least}
 use Rattle.laws.specs.Reading.Nodes.{Node, Nodes, under-kind}
-use Rattle.laws.specs.Reading.Parts.{root, root_tag, plain-parts, atom-parts, compare-parts, join-parts, quantifier-parts, some-parts}
-use Rattle.laws.specs.Reading.Back.{cost-one}
+use Rattle.laws.specs.Reading.Parts.{root, root_tag, plain-parts, atom-parts, compare-parts, join-parts, quantifier-parts}
 use Rattle.modes.specs.declared.mode.Moded.{Moded}
 use Rattle.modes.specs.declared.mode.Moded.TheVariants as M
-use Rattle.policies.specs.Standing.{Here, HereAll}
+use Rattle.policies.specs.Standing.{HereAll}
 use Rattle.modes.specs.Mode.{HereBoth, Both, told_modes, Asks, AsksAll, AsksBoth, ask_both}
 use Rattle.policies.proofs.Standing.{has}
 use Rattle.policies.proofs.Stood.{Stood}

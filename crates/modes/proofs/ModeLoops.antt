@@ -9,7 +9,7 @@ use lib.ListN.{length}
 use Rattle.model.specs.declared.Refusal.{Refusal}
 use Rattle.model.specs.Words.{Words}
 use Rattle.model.specs.Answer.{Outcome, passed, refused, ◌>>=◌}
-use Rattle.model.specs.Tree.{Tree, Trees, nil, cons, count, encode_all}
+use Rattle.model.specs.Tree.{Tree, Trees, nil, count}
 use Rattle.model.specs.Level.{restriction}
 use Rattle.model.specs.Mode.{Variables, size, bindings, bindings_all, bindings_any}
 use Rattle.laws.specs.Reading.Nodes.{Node, Nodes}

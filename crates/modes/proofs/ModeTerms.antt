@@ -1,7 +1,6 @@
 -- Terms under a set of variables: each is bound, inputs are bound, and the set with their variables, one term at a time.
-use Prim.Native.Nat.{ℕ, suc, ◌+◌, ◌*◌, ◌-◌, ◌≤◌, ◌<◌}
+use Prim.Native.Nat.{ℕ, ◌+◌, ◌-◌, ◌≤◌, ◌<◌}
 use native.Mathlib.Omega.{arith}
-use native.Mathlib.Nat.{sub-zero, zero-add}
 use native.Mathlib.Numerals.{add-one}
 use mathlib.Core.Path.{◌≡◌, refl, sym, ap, ◌∙◌, fun_ext}
 use mathlib.Core.Logic.{⊎_elim, ◌≢◌}
@@ -13,15 +12,12 @@ use lib.Dec.{eqb, ltb}
 use lib.IntN.{ℤ, pos}
 use borrow.Author.Tests.{eqb-true, eqb-false, ltb-true, ltb-false}
 use Rattle.model.specs.Words.{Words, word, value, equal}
-use Rattle.model.specs.Lists.{span, all, any}
+use Rattle.model.specs.Lists.{all, any}
 use Rattle.model.specs.Table.{input}
 use Rattle.model.specs.Tree.{Term, constant, variable}
-use Rattle.model.specs.Reading.{places, term_at, in_scope}
+use Rattle.model.specs.Reading.{places, term_at}
 use Rattle.model.specs.Mode.{Variables, is_bound, is_variable, inputs_bound}
-use Rattle.laws.specs.Words.Tests.{decide, or_cases, clash}
-use Rattle.laws.specs.Words.Standing.{below-value}
-use Rattle.laws.specs.Lists.Membership.{all_mem, mem_map}
-use Rattle.laws.specs.Lists.Span.{mem_span}
+use Rattle.laws.specs.Words.Tests.{decide}
 use Rattle.policies.specs.Standing.{terms_at}
 use Rattle.modes.specs.Mode.{set_of, with_terms}
 

@@ -1,34 +1,23 @@
 -- The mode rule over a restriction that stands at a place: what the node's tag says of its tree, what the walk of the nodes
 -- below asks and comes to.
-use Prim.Native.Nat.{ℕ, ◌+◌, ◌*◌, ◌^◌, ◌≤◌, ◌<◌}
-use native.Mathlib.Omega.{arith}
-use mathlib.Core.Path.{◌≡◌, refl, sym, ap, ◌∙◌, subst}
-use mathlib.Core.Logic.{⊎_elim}
+use Prim.Native.Nat.{ℕ, ◌+◌}
+use mathlib.Core.Path.{◌≡◌, refl, sym, ap, subst}
 use mathlib.Core.Bool.{Bool, true, false, false≢true}
 use mathlib.Core.List.{List}
 use lib.ListN.{length}
-use lib.IntN.{ℤ, pos, nat_abs}
-use Rattle.model.specs.Words.{Words, word, value, below, equal}
-use Rattle.model.specs.Lists.{all}
-use Rattle.model.specs.Table.{predicates}
+use lib.IntN.{ℤ, nat_abs}
+use Rattle.model.specs.Words.{Words, word, value}
 use Rattle.model.specs.Tag.{Tag, tag_of}
 use Rattle.model.specs.Tree.{Term, Tree, Trees, plain, atom, compare, join, quantifier, some, count}
-use Rattle.model.specs.Level.{Role, restriction, under}
-use Rattle.model.specs.Reading.{places, in_scope, is_formula}
+use Rattle.model.specs.Level.{restriction, under}
+use Rattle.model.specs.Reading.{is_formula}
 use Rattle.model.specs.Mode.{Variables, bindings}
-use Rattle.laws.specs.Words.Tests.{or_cases, or_left, or_right}
-use Rattle.laws.specs.Lists.Membership.{all_mem, all_intro}
 use Rattle.laws.specs.Reading.Formed.{Formed}
-use Rattle.laws.specs.Level.{greatest-least}
-use Rattle.laws.specs.Reading.Back.{encode_nonempty}
-use Rattle.laws.specs.Reading.Items.{two-places}
-use Rattle.laws.specs.Words.Standing.{below-value, below-pos}
 use Rattle.laws.specs.Reading.Nodes.{Node, Nodes}
-use Rattle.laws.specs.Reading.Parts.{root, root_tag, AtomParts, CompareParts, atom-parts, compare-parts, join-parts, some-parts}
+use Rattle.laws.specs.Reading.Parts.{AtomParts, CompareParts, atom-parts, compare-parts, join-parts, some-parts}
 use Rattle.laws.specs.Reading.Parts.{plain-parts}
 use Rattle.tables.specs.declared.Checked.TheVariants.{Passed}
 use Rattle.modes.specs.declared.mode.Bound.{Bound}
-use Rattle.policies.specs.Standing.{Here, HereAll, HereAtom}
 use Rattle.policies.proofs.Standing.{has}
 use Rattle.modes.specs.Mode.{set_of, Binds, BindsAll, BindsAny}
 

@@ -1,12 +1,11 @@
 -- What the code's sets of variables and its walks say, as those of model.
-use Rattle.std.specs.Prelude.{ℕ, ◌+◌, ◌*◌, ◌^◌, ◌≤◌, ◌<◌, ◌≡◌, Bool, true, false, ◌||◌, List, map, length, get_or, ltb}
-use Rattle.model.specs.Words.{Words, value}
+use Rattle.std.specs.Prelude.{ℕ, ◌+◌, ◌≡◌, Bool, false, ◌||◌, List, length, get_or, ltb}
+use Rattle.model.specs.Words.{Words}
 use Rattle.model.specs.declared.Refusal.TheVariants.{Mode}
 use Rattle.model.specs.Answer.{Outcome, passed, refused, ask, ◌>>=◌}
 use Rattle.model.specs.Level.{Role, restriction, formula}
 use Rattle.model.specs.Lists.{span, all, any}
 use Rattle.model.specs.Tree.{Term, Tree, Trees, count}
-use Rattle.model.specs.Reading.{places, term_at, in_scope}
 use Rattle.model.specs.Mode.{Variables, is_variable, size, bindings, bindings_all, bindings_any, ask_modes, ask_modes_all}
 use Rattle.laws.specs.Reading.Nodes.{Node, Nodes}
 use Rattle.tables.specs.declared.Checked.{Checked}

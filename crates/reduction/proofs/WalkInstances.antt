@@ -11,8 +11,6 @@ use lib.ListN.{length, get_or, take, drop}
 use lib.Seq.{take-suc, take_all, take-take}
 use lib.IntN.{ℤ}
 use borrow.Author.Tests.{ltb-false, lt-ltb, le-ltb}
-use denote.Enum.Declared.{tag_of}
-use types.Run.{OneOf, miss}
 use Rattle.model.specs.Words.{Words}
 use Rattle.model.specs.Log.{rows}
 use Rattle.model.specs.Tree.{Tree, Trees, nil, cons}
@@ -34,7 +32,6 @@ use Rattle.joining.specs.Join.{Joining, Adding, added}
 use Rattle.nodes.specs.Ground.{Outer}
 use Rattle.nodes.specs.Last.{Found}
 use Rattle.reduction.specs.Walk.{ReducesNode, bodies, needs, Works}
-use Rattle.joining.specs.contracts.answer.Reduced.{the_type}
 use Rattle.joining.proofs.Telling.{told_means}
 use Rattle.joining.proofs.Lending.{rest, rest-long, lent, lent_long, lent_front, adding}
 use Rattle.reduction.proofs.Children.{each_more, most-more, reduce-wide}

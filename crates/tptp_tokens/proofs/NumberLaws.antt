@@ -16,8 +16,6 @@ use Rattle.tptp_tokens.specs.Steps.{from, got, Skips}
 use Rattle.tptp_tokens.specs.Numbers.{More, Naturals, behind_minus, Magnitudes, Integers, with_sign}
 use Rattle.tptp_tokens.specs.declared.numbers.Digits.{Digits}
 use Rattle.tptp_tokens.specs.declared.numbers.Digits.TheVariants as D
-use Rattle.tptp_tokens.specs.declared.numbers.Signed.{Signed}
-use Rattle.tptp_tokens.specs.declared.numbers.Signed.TheVariants as S
 use Rattle.tptp_tokens.proofs.TokenLaws.{here, over, onward, halt, look-here, look-over, literal-more, literal_end}
 
 -- one digit more; none behind a 0; too great a number; no digit; the text's end

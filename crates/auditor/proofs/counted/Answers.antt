@@ -3,7 +3,6 @@ use Rattle.model.specs.Answer.{count}
 use borrow.Author.Rules.{rules}
 use Rattle.auditor.proofs.counted.Goals as goal
 
-
 pub returns-in-Accepted : goal.returns-in-Accepted
 unfolding count
 returns-in-Accepted c = search rules

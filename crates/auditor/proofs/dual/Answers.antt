@@ -1,9 +1,7 @@
 -- `auditor::dual` meets its contract, from what the policy's check, the clearing and the writing ensure.
 use mathlib.Core.Path.{sym, ◌∙◌}
-use borrow.Author.Rules.{rules}
 use Rattle.auditor.proofs.DualCall.{tree-written, dual-refused, dual-no-room, dual-written}
 use Rattle.auditor.proofs.dual.Goals as goal
-
 
 pub write_dual-requires : goal.write_dual-requires
 write_dual-requires c =

@@ -1,8 +1,6 @@
 -- `auditor::read_log` meets its contract: what the reading left, and zeros.
 use Rattle.log_texts.proofs.LogReading.{read-cleared}
-use borrow.Author.Rules.{rules}
 use Rattle.auditor.proofs.read_log.Goals as goal
-
 
 pub returns : goal.returns
 returns c =

@@ -1,8 +1,6 @@
 -- `auditor::read_policy` meets its contract: what the reading left, and zeros.
 use Rattle.policy_texts.proofs.PolicyReading.{policy-cleared}
-use borrow.Author.Rules.{rules}
 use Rattle.auditor.proofs.read_policy.Goals as goal
-
 
 pub returns : goal.returns
 returns c =

@@ -1,9 +1,6 @@
 -- `auditor::reduce` meets its contract: what the residual left, and zeros.
-use native.Mathlib.Omega.{arith}
 use Rattle.auditor.proofs.ReduceCleared.{all-cleared}
-use borrow.Author.Rules.{rules}
 use Rattle.auditor.proofs.reduce.Goals as goal
-
 
 pub returns : goal.returns
 returns c =

@@ -1,9 +1,7 @@
 -- `auditor::write_policy` meets its contract: what the writing left, and zeros.
 use Rattle.model.specs.Calls.{write_policy_call}
 use Rattle.text.proofs.WrittenLaws.{text-cleared}
-use borrow.Author.Rules.{rules}
 use Rattle.auditor.proofs.write_policy.Goals as goal
-
 
 pub returns : goal.returns
 unfolding write_policy_call

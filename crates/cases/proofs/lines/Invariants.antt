@@ -1,7 +1,6 @@
 -- `cases::lines` is safe and ends. The lines behind the index are left.
 use Prim.Native.Nat.{◌-◌}
 use lib.ListN.{length}
-use borrow.Author.Rules.{rules}
 use Rattle.cases.proofs.lines.Given as goal
 
 abbrev pub invariant-loop-at : goal.invariant-loop-at

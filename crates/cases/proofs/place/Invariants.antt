@@ -1,7 +1,6 @@
 -- `cases::place` is safe and ends. The words behind the index are left; each passed takes a byte at least.
 use Prim.Native.Nat.{◌≤◌, ◌-◌}
 use lib.ListN.{length}
-use borrow.Author.Rules.{rules}
 use Rattle.cases.proofs.place.Given as goal
 
 abbrev pub invariant-loop-at : goal.invariant-loop-at

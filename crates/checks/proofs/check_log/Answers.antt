@@ -4,9 +4,7 @@ use Rattle.model.specs.Log.{row_count}
 use Rattle.laws.specs.Answer.{answers}
 use Rattle.tables.specs.Checked.{outcome}
 use Rattle.checks.proofs.Calls.{log-table-refused, log-refused, log-accepted}
-use borrow.Author.Rules.{rules}
 use Rattle.checks.proofs.check_log.Goals as goal
-
 
 pub returns-in-Refused : goal.returns-in-Refused
 returns-in-Refused c =

@@ -5,9 +5,7 @@ use Rattle.laws.specs.Table.{accepted}
 use Rattle.laws.specs.Reading.Encoded.{read-node}
 use Rattle.tables.specs.Checked.{outcome}
 use Rattle.checks.proofs.Calls.{policy-table-refused, policy-refused, tree-read, modes-refused, policy-accepted}
-use borrow.Author.Rules.{rules}
 use Rattle.checks.proofs.check_policy.Goals as goal
-
 
 pub check_modes-third-requires : goal.check_modes-third-requires
 check_modes-third-requires c =

@@ -2,15 +2,12 @@
 -- the text. The measure is the number of rows left.
 use Prim.Native.Nat.{◌-◌, ◌/◌}
 use native.Mathlib.Omega.{arith}
-use mathlib.Core.Path.{◌∙◌}
 use lib.ListN.{length}
 use Rattle.model.specs.LogText.{log_text}
 use Rattle.text.specs.declared.writing.Put.TheVariants.{Full, At}
-use Rattle.text.proofs.PutLaws.{Part, part-more, part-full, part_end, writes-whole}
-use Rattle.csv_writing.proofs.RowLaws.{row-good, lines_from, lines_start, lines_more, lines_none}
-use borrow.Author.Rules.{rules}
+use Rattle.text.proofs.PutLaws.{part-more, part-full, part_end, writes-whole}
+use Rattle.csv_writing.proofs.RowLaws.{row-good, lines_start, lines_more, lines_none}
 use Rattle.csv_writing.proofs.write_rows.Goals as goal
-
 
 pub loop-row-init : goal.loop-row-init
 loop-row-init c = let a = c.args in lines_start a.table.now a.log.now a.out.now

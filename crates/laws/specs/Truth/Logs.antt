@@ -1,7 +1,7 @@
 -- One log extends another, in the words of the specification, for two logs given as rows: any number of them, in any order, with any
 -- whole numbers. An atom is as its row says; with no row it is false if its predicate is complete.
 use Rattle.std.specs.Prelude.{ℕ, ◌≡◌, refl, ◌⊎◌, Bool, true, false, not, ◌&&◌, ◌||◌, length, ℤ}
-use Rattle.std.proofs.Common.{sym, ap, ◌∙◌, inl, inr, ⊎_elim}
+use Rattle.std.proofs.Common.{sym, ap, ◌∙◌, ⊎_elim}
 use mathlib.Core.List.Memᴰ
 use mathlib.Core.List.{List, [], ◌∷◌, Memᴰ}
 use Rattle.std.proofs.lemmas.Bool.{not-true}

@@ -1,11 +1,8 @@
 -- `log_texts::no_room` meets its contract, from the questions asked of the rows.
-use native.Mathlib.Omega.{arith}
 use mathlib.Core.Path.{sym, ap, ◌∙◌}
 use Rattle.tables.specs.Checked.{outcome}
 use Rattle.log_texts.proofs.LogReading.{settled-refused, settled-short}
-use borrow.Author.Rules.{rules}
 use Rattle.log_texts.proofs.no_room.Goals as goal
-
 
 pub returns-in-Refused : goal.returns-in-Refused
 returns-in-Refused c =

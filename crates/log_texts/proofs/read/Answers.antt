@@ -9,9 +9,7 @@ use Rattle.tables.specs.Checked.{outcome}
 use Rattle.csv_reading.specs.Rows.{Stand, RowsRead}
 use Rattle.log_texts.specs.LogText.{settled_log}
 use Rattle.log_texts.proofs.LogReading.{table-refused, text-refused, rows_settled}
-use borrow.Author.Rules.{rules}
 use Rattle.log_texts.proofs.read.Goals as goal
-
 
 pub returns-in-Refused : goal.returns-in-Refused
 returns-in-Refused c =

@@ -1,18 +1,13 @@
 -- `log_texts::settle_rows` meets its contract: too many rows, no room, or the questions asked of them where they stand.
-use Prim.Native.Nat.{◌*◌}
 use native.Mathlib.Omega.{arith}
 use mathlib.Core.Path.{◌≡◌, sym, ap, ◌∙◌}
-use lib.ListN.{length}
-use lib.Seq.{length-take-le}
 use Rattle.model.specs.Words.{Words}
 use Rattle.model.specs.Answer.{passed}
 use Rattle.model.specs.Log.{ask_log}
 use Rattle.tables.specs.Checked.{outcome}
 use Rattle.csv_reading.specs.Rows.{ask_text}
 use Rattle.log_texts.proofs.LogReading.{log-long, log-stands, settled-many, settled-refused, settled-passed}
-use borrow.Author.Rules.{rules}
 use Rattle.log_texts.proofs.settle_rows.Goals as goal
-
 
 pub returns-then-rows-gt4096 : goal.returns-then-rows-gt4096
 returns-then-rows-gt4096 c =

@@ -1,8 +1,6 @@
 -- `log_texts::write` meets its contract, from the log's check and the writing of its rows.
 use Rattle.log_texts.proofs.LogWriting.{log-refused, log-passed, log-written}
-use borrow.Author.Rules.{rules}
 use Rattle.log_texts.proofs.write.Goals as goal
-
 
 pub returns-in_default : goal.returns-in_default
 returns-in_default c = log-refused _ _ c.check_log-checked.ensures.same c.in_default.is

@@ -7,13 +7,7 @@ use Rattle.laws.specs.Table.{accepted}
 use Rattle.tables.specs.Checked.{outcome}
 use Rattle.policy_texts.specs.PolicyText.{settled_policy}
 use Rattle.policy_texts.proofs.PolicyReading.{table-refused, came_refused, came-read}
-use borrow.Author.Rules.{rules}
-use Rattle.policy_texts.proofs.read.Reads as reads
-use Rattle.policy_texts.proofs.settle.Reads as settle-reads
-use Rattle.tptp_reading.proofs.policy.policy.Reads as policy-reads
-use Rattle.tables.proofs.table.check_table.Reads as check-table-reads
 use Rattle.policy_texts.proofs.read.Goals as goal
-
 
 pub returns-in-Refused : goal.returns-in-Refused
 returns-in-Refused c =

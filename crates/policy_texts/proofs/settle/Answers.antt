@@ -1,9 +1,6 @@
 -- `policy_texts::settle` meets its contract.
 use Rattle.policy_texts.proofs.PolicyReading.{settle-long, settle-asked, settle-moded, settle-short, settle-passed}
-use borrow.Author.Rules.{rules}
-use Rattle.policy_texts.proofs.settle.Reads as reads
 use Rattle.policy_texts.proofs.settle.Goals as goal
-
 
 pub returns-then-words-gt-POLICY_LIMIT : goal.returns-then-words-gt-POLICY_LIMIT
 returns-then-words-gt-POLICY_LIMIT c =

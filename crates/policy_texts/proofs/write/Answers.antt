@@ -1,8 +1,6 @@
 -- `policy_texts::write` meets its contract, from the policy's check and the writing of its tree.
 use Rattle.policy_texts.proofs.PolicyWriting.{policy-refused, policy-read, policy-written}
-use borrow.Author.Rules.{rules}
 use Rattle.policy_texts.proofs.write.Goals as goal
-
 
 pub returns-in_default : goal.returns-in_default
 returns-in_default c = policy-refused _ _ c.check_policy-checked.ensures.same c.in_default.is

@@ -1,12 +1,9 @@
 -- `tptp_writing::write_tree` meets its contract: what stands before the policy's node, this, and what stands behind it.
-use mathlib.Core.Path.{◌∙◌}
 use Rattle.model.specs.Bytes.{bytes}
 use Rattle.text.specs.declared.writing.Put.TheVariants as P
 use Rattle.tptp_putting.proofs.AddLaws.{Behind, behind-fits}
 use Rattle.tptp_writing.proofs.PolicyLaws.{policy-here, policy-full, root-fits, policy-writes}
-use borrow.Author.Rules.{rules}
 use Rattle.tptp_writing.proofs.write_tree.Goals as goal
-
 
 pub node-root-requires : goal.node-root-requires
 unfolding bytes

@@ -3,9 +3,7 @@ use native.Mathlib.Omega.{arith}
 use mathlib.Core.Path.{ap}
 use Rattle.model.specs.Answer.{number}
 use Rattle.vitrinehawk.specs.Detail.{detailed}
-use borrow.Author.Rules.{rules}
 use Rattle.vitrinehawk.proofs.tell.Goals as goal
-
 
 pub returns-in-Accepted : goal.returns-in-Accepted
 unfolding number detailed

@@ -1,12 +1,10 @@
 -- `words::at_least` meets its contract, by the sign and the magnitude of the word.
 use mathlib.Core.Path.{◌∙◌, ap, sym}
 use Prim.Native.Nat.{ℕ}
-use borrow.Author.Rules.{rules}
 use lib.Dec.{leb}
 use Rattle.model.specs.Words.{value}
 use Rattle.words.proofs.Signed.{at_least-negative, at_least_magnitude}
 use Rattle.words.proofs.at_least.Goals as goal
-
 
 pub returns-then-negative : goal.returns-then-negative
 returns-then-negative c = at_least-negative _ c.args.low (sym c.negative.ensures ∙ c.if-negative.true)

@@ -1,14 +1,11 @@
 -- `words::equal_words` meets its contract. The loop's invariant: the words are equal if those from number i on are.
-use Prim.Native.Nat.{◌-◌, ◌≤◌}
+use Prim.Native.Nat.{◌-◌}
 use native.Mathlib.Omega.{arith}
-use mathlib.Core.Path.{◌≡◌, sym, ◌∙◌}
+use mathlib.Core.Path.{sym, ◌∙◌}
 use borrow.Author.Rules.{rules}
-use lib.ListN.{take, drop}
-use Rattle.model.specs.Words.{equal_all}
 use Rattle.words.proofs.Signed.{bits-equal, bits-unequal}
-use Rattle.words.proofs.PartLaws.{equal_from, equal-first, equal_on, equal_off, equal-last}
+use Rattle.words.proofs.PartLaws.{equal_on, equal_off, equal-last}
 use Rattle.words.proofs.equal_words.Goals as goal
-
 
 pub returns-then-a-at : goal.returns-then-a-at
 returns-then-a-at c =

@@ -1,12 +1,9 @@
 -- `words::equal_words` meets its contract. The loop's invariant: the words are equal if those from number i on are.
 use Prim.Native.Nat.{◌-◌, ◌≤◌}
-use native.Mathlib.Omega.{arith}
-use mathlib.Core.Path.{◌≡◌, sym, ◌∙◌}
-use borrow.Author.Rules.{rules}
+use mathlib.Core.Path.{◌≡◌}
 use lib.ListN.{take, drop}
 use Rattle.model.specs.Words.{equal_all}
-use Rattle.words.proofs.Signed.{bits-equal, bits-unequal}
-use Rattle.words.proofs.PartLaws.{equal_from, equal-first, equal_on, equal_off, equal-last}
+use Rattle.words.proofs.PartLaws.{equal_from}
 use Rattle.words.proofs.equal_words.Given as goal
 
 abbrev pub invariant-loop-i : goal.invariant-loop-i

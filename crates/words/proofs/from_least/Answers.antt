@@ -1,5 +1,5 @@
 -- `words::from_least` meets its contract: the sum is taken in 64 bits, where it fits and is not negative.
-use Prim.Native.Nat.{ℕ, ◌^◌}
+use Prim.Native.Nat.{◌^◌}
 use native.Mathlib.Omega.{arith}
 use mathlib.Core.Path.{◌≡◌, ◌∙◌, ap, sym, subst}
 use lib.Dec.{T}
@@ -28,7 +28,6 @@ module _ (x : ℤ) (h : SFits w32 x) where
   sum_number =
       let (y, e, b) = raised x h in
       subst (λ (z : ℤ). T (non_neg z) × Fits w64 (nat_abs z)) (sym e) (tt, record { fits = omega arith })
-
 
 pub returns : goal.returns
 unfolding from_least

@@ -9,7 +9,6 @@ use mir.Val.{to_z, of_z}
 use Rattle.model.specs.Words.{word}
 use Rattle.words.proofs.negative.Goals as goal
 
-
 pub returns-then-i-s : goal.returns-then-i-s
 unfolding word
 returns-then-i-s c =

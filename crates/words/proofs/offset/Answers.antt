@@ -7,10 +7,7 @@ use mir.Val.{to_z, of_z}
 use Rattle.model.specs.Words.{word}
 use Rattle.words.specs.Offset.{from_least}
 use borrow.Author.Rules.{rules}
-use Rattle.words.proofs.offset.Reads as reads
-use Rattle.words.proofs.from_least.Reads as from-least-reads
 use Rattle.words.proofs.offset.Goals as goal
-
 
 pub returns : goal.returns
 unfolding word

@@ -6,7 +6,6 @@ use Rattle.model.specs.Words.{word}
 use Rattle.words.proofs.Signed.{same_bits}
 use Rattle.words.proofs.same.Goals as goal
 
-
 pub returns : goal.returns
 unfolding word
 returns c =

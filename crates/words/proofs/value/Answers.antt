@@ -8,7 +8,6 @@ use mir.Val.{to_z, of_z}
 use Rattle.model.specs.Words.{word, value}
 use Rattle.words.proofs.value.Goals as goal
 
-
 pub returns-then-i-s : goal.returns-then-i-s
 unfolding word value
 returns-then-i-s c =

@@ -1,13 +1,10 @@
 -- `words::within` meets its contract: what is at least `low` is not negative, so its magnitude is compared.
 use mathlib.Core.Path.{◌∙◌, ap, sym}
 use Prim.Native.Nat.{ℕ}
-use borrow.Author.Rules.{rules}
-use borrow.Author.Tests.{not-true, not-false}
 use lib.Dec.{leb}
 use Rattle.model.specs.Words.{value}
 use Rattle.words.proofs.Signed.{within_low, within_magnitude}
 use Rattle.words.proofs.within.Goals as goal
-
 
 pub returns-then-not-at_least : goal.returns-then-not-at_least
 returns-then-not-at_least c =

@@ -4,9 +4,7 @@ use lib.IntN.{pos}
 use Rattle.model.specs.Words.{word}
 use Rattle.words.proofs.Signed.{same_bits}
 use borrow.Author.Rules.{rules}
-use Rattle.words.proofs.zero.Reads as reads
 use Rattle.words.proofs.zero.Goals as goal
-
 
 pub returns : goal.returns
 unfolding word

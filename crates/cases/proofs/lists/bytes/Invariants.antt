@@ -1,14 +1,7 @@
 -- `cases::lists::bytes` meets its contract. The bytes of the input behind the index are left.
-use Prim.Native.Nat.{ℕ, ◌≤◌, ◌-◌}
-use native.Mathlib.Omega.{arith}
-use mathlib.Core.Path.{◌≡◌, ◌∙◌}
-use mathlib.Core.Bool.{Bool, true, false, not}
-use mathlib.Core.List.{List}
-use lib.Dec.{eqb}
-use lib.ListN.{length, get_or, length-set}
-use mir.Val.{bool_byte}
-use borrow.Author.Rules.{rules}
-use Rattle.cases.proofs.Fronts.{front}
+use Prim.Native.Nat.{◌≤◌, ◌-◌}
+use mathlib.Core.Path.{◌≡◌}
+use lib.ListN.{length}
 use Rattle.cases.proofs.lists.bytes.Given as goal
 
 abbrev pub invariant-loop-at : goal.invariant-loop-at

@@ -1,7 +1,6 @@
 -- `cases::lists::until` meets its contract. The bytes behind the index are left.
 use Prim.Native.Nat.{◌≤◌, ◌-◌}
 use lib.ListN.{length}
-use borrow.Author.Rules.{rules}
 use Rattle.cases.proofs.lists.until.Given as goal
 
 abbrev pub invariant-loop-next : goal.invariant-loop-next

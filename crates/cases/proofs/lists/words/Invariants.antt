@@ -1,11 +1,8 @@
 -- `cases::lists::words` meets its contract. The words behind those read are left.
 use Prim.Native.Nat.{◌≤◌, ◌-◌}
-use native.Mathlib.Omega.{arith}
 use mathlib.Core.Path.{◌≡◌}
 use lib.ListN.{length}
-use borrow.Author.Rules.{rules}
 use Rattle.tptp_tokens.specs.Steps.{Within}
-use Rattle.cases.proofs.Fronts.{front}
 use Rattle.cases.proofs.lists.words.Given as goal
 
 abbrev pub invariant-loop-n : goal.invariant-loop-n

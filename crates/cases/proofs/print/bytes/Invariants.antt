@@ -1,8 +1,6 @@
 -- `cases::print::bytes` is safe and ends. The bytes behind the index are left.
 use Prim.Native.Nat.{◌-◌}
-use native.Mathlib.Omega.{arith}
 use lib.ListN.{length}
-use borrow.Author.Rules.{rules}
 use Rattle.cases.proofs.print.bytes.Given as goal
 
 abbrev pub invariant-loop-i : goal.invariant-loop-i

@@ -1,7 +1,6 @@
 -- `cases::print::words` is safe and ends. The words behind the index are left.
 use Prim.Native.Nat.{◌-◌}
 use lib.ListN.{length}
-use borrow.Author.Rules.{rules}
 use Rattle.cases.proofs.print.words.Given as goal
 
 abbrev pub invariant-loop-i : goal.invariant-loop-i

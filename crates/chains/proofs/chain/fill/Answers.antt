@@ -1,6 +1,6 @@
 -- `chains::chain::fill` meets its contract. The invariant: the rows from rows + 1 - link on are linked, and their keys kept. The
 -- measure is the number of rows that are still to be linked.
-use Prim.Native.Nat.{ℕ, ◌+◌, ◌*◌, ◌-◌, ◌/◌, ◌≤◌, ◌<◌}
+use Prim.Native.Nat.{ℕ, ◌+◌, ◌-◌, ◌/◌, ◌≤◌, ◌<◌}
 use native.Mathlib.Omega.{arith}
 use mathlib.Core.Path.{◌≡◌, refl, sym, subst}
 use lib.ListN.{length, length-set}
@@ -9,9 +9,7 @@ use Rattle.chains.specs.Chain.{Empty, Chained}
 use Rattle.chains.specs.Key as K
 use Rattle.chains.proofs.Keys.{key_in, heads-few}
 use Rattle.chains.proofs.Chains as C
-use borrow.Author.Rules.{rules}
 use Rattle.chains.proofs.chain.fill.Goals as goal
-
 
 pub loop-link-init : goal.loop-link-init
 unfolding row_count

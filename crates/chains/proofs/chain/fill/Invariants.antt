@@ -1,15 +1,8 @@
 -- `chains::chain::fill` meets its contract. The invariant: the rows from rows + 1 - link on are linked, and their keys kept. The
 -- measure is the number of rows that are still to be linked.
-use Prim.Native.Nat.{ℕ, ◌+◌, ◌*◌, ◌-◌, ◌/◌, ◌≤◌, ◌<◌}
-use native.Mathlib.Omega.{arith}
-use mathlib.Core.Path.{◌≡◌, refl, sym, subst}
-use lib.ListN.{length, length-set}
-use Rattle.model.specs.Log.{row_count}
-use Rattle.chains.specs.Chain.{Empty, Chained}
+use Prim.Native.Nat.{◌+◌, ◌-◌, ◌≤◌}
 use Rattle.chains.specs.Key as K
-use Rattle.chains.proofs.Keys.{key_in, heads-few}
 use Rattle.chains.proofs.Chains as C
-use borrow.Author.Rules.{rules}
 use Rattle.chains.proofs.chain.fill.Given as goal
 
 abbrev pub invariant-loop-link : goal.invariant-loop-link

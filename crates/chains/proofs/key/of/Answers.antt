@@ -5,7 +5,6 @@ use Rattle.model.specs.Words.{Words}
 use Rattle.chains.specs.Key.{row_key, atom_key, key_by}
 use Rattle.chains.specs.declared.key.Kind.{Kind}
 use Rattle.chains.specs.declared.key.Kind.TheVariants.{Atom}
-use borrow.Author.Rules.{rules}
 use Rattle.chains.proofs.key.of.Goals as goal
 
 -- the key of a row by a kind that is known

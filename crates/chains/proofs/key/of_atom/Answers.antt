@@ -6,11 +6,7 @@ use Rattle.model.specs.Words.{word}
 use Rattle.words.specs.Offset.{from_least}
 use Rattle.chains.specs.Key.{atom_key}
 use Rattle.chains.proofs.Keys.{spread_of}
-use borrow.Author.Rules.{rules}
-use Rattle.chains.proofs.key.of_atom.Reads as reads
-use Rattle.words.proofs.offset.Reads as offset-reads
 use Rattle.chains.proofs.key.of_atom.Goals as goal
-
 
 pub returns : goal.returns
 unfolding atom_key

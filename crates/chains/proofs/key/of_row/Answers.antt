@@ -1,13 +1,10 @@
 -- `chains::key::of_row` meets its contract: one test.
 use mathlib.Core.Path.{sym, ap, ◌∙◌}
 use Prim.Native.Nat.{ℕ, ◌+◌, ◌*◌}
-use borrow.Author.Tests.{not-true, not-false}
 use Rattle.model.specs.Words.{word}
 use Rattle.chains.specs.Key.{first_spread}
 use Rattle.chains.proofs.Keys.{first-not, first-here}
-use borrow.Author.Rules.{rules}
 use Rattle.chains.proofs.key.of_row.Goals as goal
-
 
 pub returns-then-not-is : goal.returns-then-not-is
 returns-then-not-is c =

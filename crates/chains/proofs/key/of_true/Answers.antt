@@ -1,14 +1,7 @@
 -- `chains::key::of_true` meets its contract: two tests, one after another.
 use mathlib.Core.Path.{sym, ◌∙◌}
-use borrow.Author.Tests.{not-true, not-false}
 use Rattle.chains.proofs.Keys.{true-not, true-none, true-here}
-use borrow.Author.Rules.{rules}
-use Rattle.chains.proofs.key.of_true.Reads as reads
-use Rattle.words.proofs.below.Reads as below-reads
-use Rattle.words.proofs.is.Reads as is-reads
-use Rattle.words.proofs.value.Reads as value-reads
 use Rattle.chains.proofs.key.of_true.Goals as goal
-
 
 pub returns-then-not-is : goal.returns-then-not-is
 returns-then-not-is c =

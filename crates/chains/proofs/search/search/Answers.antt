@@ -3,21 +3,16 @@
 -- i on are the atom's. The measures are the link, which falls along a chain, and the arguments left.
 use Prim.Native.Nat.{ℕ, ◌+◌, ◌*◌, ◌-◌, ◌/◌, ◌≤◌, ◌<◌}
 use native.Mathlib.Omega.{arith}
-use mathlib.Core.Path.{◌≡◌, refl, sym, ap, ◌∙◌}
-use borrow.Author.Tests.{not-true, not-false}
+use mathlib.Core.Path.{refl, sym, ap, ◌∙◌}
 use lib.ListN.{length}
-use Rattle.model.specs.Log.{row_count, row_at, holds}
+use Rattle.model.specs.Log.{row_count}
 use Rattle.chains.specs.Search.{first_row}
 use Rattle.chains.specs.Chain.{chain}
 use Rattle.chains.specs.Key.{row_key}
-use Rattle.chains.proofs.Rows.{Rest, rest-start, rest-step, rest-stop, rest_end, holds-here, holds_not}
+use Rattle.chains.proofs.Rows.{rest-start, rest-step, rest-stop, rest_end, holds-here, holds_not}
 use Rattle.chains.proofs.Keys.{key-small}
-use Rattle.chains.proofs.Searches.{Searching, first-chain, search_none, search_row, search_found, search_next, search_less}
-use Rattle.chains.proofs.search.search.Reads as reads
-use Rattle.words.proofs.is.Reads as is-reads
-use Rattle.words.proofs.same.Reads as same_Reads
+use Rattle.chains.proofs.Searches.{first-chain, search_none, search_row, search_found, search_next, search_less}
 use Rattle.chains.proofs.search.search.Goals as goal
-
 
 pub offset_bounds-links-start : goal.offset_bounds-links-start
 offset_bounds-links-start c = omega (arith, key-small c.args.predicate c.args.arguments.now 0, c.requires.2)

@@ -1,21 +1,11 @@
 -- `chains::search::search` meets its contract. The outer invariant: the rows passed don't hold the atom, so the search comes to
 -- that through what is left of the chain. The inner one: the row has the predicate, and holds the atom if its arguments from
 -- i on are the atom's. The measures are the link, which falls along a chain, and the arguments left.
-use Prim.Native.Nat.{ℕ, ◌+◌, ◌*◌, ◌-◌, ◌/◌, ◌≤◌, ◌<◌}
-use native.Mathlib.Omega.{arith}
-use mathlib.Core.Path.{◌≡◌, refl, sym, ap, ◌∙◌}
-use borrow.Author.Tests.{not-true, not-false}
-use lib.ListN.{length}
-use Rattle.model.specs.Log.{row_count, row_at, holds}
-use Rattle.chains.specs.Search.{first_row}
-use Rattle.chains.specs.Chain.{chain}
-use Rattle.chains.specs.Key.{row_key}
-use Rattle.chains.proofs.Rows.{Rest, rest-start, rest-step, rest-stop, rest_end, holds-here, holds_not}
-use Rattle.chains.proofs.Keys.{key-small}
-use Rattle.chains.proofs.Searches.{Searching, first-chain, search_none, search_row, search_found, search_next, search_less}
-use Rattle.chains.proofs.search.search.Reads as reads
-use Rattle.words.proofs.is.Reads as is-reads
-use Rattle.words.proofs.same.Reads as same_Reads
+use Prim.Native.Nat.{ℕ, ◌+◌, ◌*◌, ◌-◌, ◌≤◌}
+use mathlib.Core.Path.{◌≡◌}
+use Rattle.model.specs.Log.{row_at, holds}
+use Rattle.chains.proofs.Rows.{Rest}
+use Rattle.chains.proofs.Searches.{Searching}
 use Rattle.chains.proofs.search.search.Given as goal
 
 abbrev pub invariant-loop-i : goal.invariant-loop-i

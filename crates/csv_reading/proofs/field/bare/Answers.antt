@@ -1,17 +1,11 @@
 -- `csv_reading::field::bare` meets its contract. The loop's invariant: all bytes passed can stand in a bare field.
-use Prim.Native.Nat.{◌-◌, ◌≤◌}
+use Prim.Native.Nat.{◌-◌}
 use native.Mathlib.Omega.{arith}
-use mathlib.Core.Path.{◌≡◌, sym, ◌∙◌}
+use mathlib.Core.Path.{sym, ◌∙◌}
 use mathlib.Core.Bool.{true}
-use lib.ListN.{length}
-use lib.Seq.{slice}
-use borrow.Author.Tests.{not-true, not-false}
-use Rattle.model.specs.Lists.{all}
 use Rattle.model.specs.Csv.{text_data}
 use Rattle.csv_reading.proofs.FieldLaws.{bare-none, bare-more}
-use borrow.Author.Rules.{rules}
 use Rattle.csv_reading.proofs.field.bare.Goals as goal
-
 
 pub loop-i-init : goal.loop-i-init
 loop-i-init c = (omega arith, omega arith, bare-none c.args.text.now c.args.from)

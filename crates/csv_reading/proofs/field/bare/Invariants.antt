@@ -1,15 +1,11 @@
 -- `csv_reading::field::bare` meets its contract. The loop's invariant: all bytes passed can stand in a bare field.
 use Prim.Native.Nat.{◌-◌, ◌≤◌}
-use native.Mathlib.Omega.{arith}
-use mathlib.Core.Path.{◌≡◌, sym, ◌∙◌}
+use mathlib.Core.Path.{◌≡◌}
 use mathlib.Core.Bool.{true}
 use lib.ListN.{length}
 use lib.Seq.{slice}
-use borrow.Author.Tests.{not-true, not-false}
 use Rattle.model.specs.Lists.{all}
 use Rattle.model.specs.Csv.{text_data}
-use Rattle.csv_reading.proofs.FieldLaws.{bare-none, bare-more}
-use borrow.Author.Rules.{rules}
 use Rattle.csv_reading.proofs.field.bare.Given as goal
 
 abbrev pub invariant-loop-i : goal.invariant-loop-i

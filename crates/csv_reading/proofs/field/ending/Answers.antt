@@ -1,8 +1,6 @@
 -- `csv_reading::field::ending` meets its contract, byte by byte.
 use Rattle.csv_reading.proofs.FieldLaws.{ends-text, ends-comma, ends_bad, ends-early, ends-other, ends-line}
-use borrow.Author.Rules.{rules}
 use Rattle.csv_reading.proofs.field.ending.Goals as goal
-
 
 pub returns-then-text-at : goal.returns-then-text-at
 returns-then-text-at c = ends-text c.args.text.now c.args.at c.requires c.if-text-at.true

@@ -1,11 +1,7 @@
 -- `csv_reading::field::field_at` meets its contract: a quote at the index or none.
-use native.Mathlib.Omega.{arith}
 use mathlib.Core.Path.{sym, ◌∙◌}
-use Rattle.csv_reading.proofs.FieldLaws.{quote-there}
 use Rattle.csv_reading.proofs.WholeFields.{quote-field}
-use borrow.Author.Rules.{rules}
 use Rattle.csv_reading.proofs.field.field_at.Goals as goal
-
 
 pub returns-then-is_quote : goal.returns-then-is_quote
 returns-then-is_quote c =

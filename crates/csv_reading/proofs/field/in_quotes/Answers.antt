@@ -1,11 +1,8 @@
 -- `csv_reading::field::in_quotes` meets its contract, from the number, the rest in quotes and what stands behind it.
-use native.Mathlib.Omega.{arith}
 use mathlib.Core.Path.{subst}
 use Rattle.csv_reading.specs.Field.{QuotedTo, Rest}
 use Rattle.csv_reading.proofs.WholeFields.{quoted-field, quoted_bad}
-use borrow.Author.Rules.{rules}
 use Rattle.csv_reading.proofs.field.in_quotes.Goals as goal
-
 
 pub returns-in-Bad : goal.returns-in-Bad
 returns-in-Bad c =

@@ -1,8 +1,6 @@
 -- `csv_reading::field::in_text` meets its contract, from the number, the bytes behind it and what stands behind these.
 use Rattle.csv_reading.proofs.WholeFields.{bare-field}
-use borrow.Author.Rules.{rules}
 use Rattle.csv_reading.proofs.field.in_text.Goals as goal
-
 
 pub returns : goal.returns
 returns c =

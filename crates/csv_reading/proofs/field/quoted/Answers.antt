@@ -1,16 +1,13 @@
 -- `csv_reading::field::quoted` meets its contract. The loop's invariant: the bytes passed stand in quotes, so that the reading goes on there.
 use Prim.Native.Nat.{◌+◌, ◌-◌, ◌<◌}
-use native.Mathlib.Omega.{arith}
 use mathlib.Core.Path.{◌≡◌, sym, ◌∙◌}
 use mathlib.Core.Bool.{true}
 use lib.ListN.{length}
-use borrow.Author.Tests.{not-true, not-false, eq-eqb, ne_eqb}
+use borrow.Author.Tests.{eq-eqb, ne_eqb}
 use Rattle.csv_reading.specs.Field.{is_quote}
-use Rattle.csv_reading.proofs.FieldLaws.{InQuotes, quote-there, quotes_none, quotes_more, quotes_double, quotes_close, quotes_bad}
+use Rattle.csv_reading.proofs.FieldLaws.{quote-there, quotes_none, quotes_more, quotes_double, quotes_close, quotes_bad}
 use Rattle.csv_reading.proofs.FieldLaws.{quotes_open}
-use borrow.Author.Rules.{rules}
 use Rattle.csv_reading.proofs.field.quoted.Goals as goal
-
 
 pub loop-i-init : goal.loop-i-init
 loop-i-init c = quotes_none c.args.text.now c.args.from c.requires

@@ -1,16 +1,13 @@
 -- `csv_reading::record::record` meets its contract. The loop's invariant: the fields read so far belong to the record, and their numbers
 -- stand at the front of the row. The measure is what is left of the text, and one for a field at its end.
 use Prim.Native.Nat.{◌+◌, ◌-◌}
-use native.Mathlib.Omega.{arith}
 use mathlib.Core.Path.{◌≡◌, subst, ◌∙◌}
 use mathlib.Core.Bool.{◌&&◌}
 use lib.ListN.{length}
-use borrow.Author.Tests.{not-true, not-false}
 use Rattle.csv_reading.specs.declared.field.End.{End}
-use Rattle.csv_reading.proofs.RecordLaws.{Held, Ended, held_none, held_more, ended-comma, ended_bad, line_bad, line-few, line-good}
+use Rattle.csv_reading.proofs.RecordLaws.{Ended, held_none, held_more, ended-comma, ended_bad, line_bad, line-good}
 use borrow.Author.Rules.{rules}
 use Rattle.csv_reading.proofs.record.record.Goals as goal
-
 
 pub loop-place-init : goal.loop-place-init
 loop-place-init c =

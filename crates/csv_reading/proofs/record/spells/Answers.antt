@@ -2,14 +2,11 @@
 use Prim.Native.Nat.{◌<◌, ◌≤◌}
 use native.Mathlib.Omega.{arith}
 use mathlib.Core.Path.{◌≡◌, sym, ap, ◌∙◌}
-use borrow.Author.Tests.{not-true, not-false}
 use Rattle.model.specs.Words.{value}
 use Rattle.model.specs.Table.{predicates, arity}
 use Rattle.laws.specs.LogText.Back.{good-arity}
 use Rattle.csv_reading.proofs.RecordLaws.{spells_bad, spells-good}
-use borrow.Author.Rules.{rules}
 use Rattle.csv_reading.proofs.record.spells.Goals as goal
-
 
 pub returns-then-not-good_row : goal.returns-then-not-good_row
 returns-then-not-good_row c =

@@ -1,7 +1,6 @@
 -- `csv_reading::rows::read_rows` meets its contract. The loop's invariant: the records before the index are read, and their rows stand at
 -- the front if they fit. The measure is what is left of the text.
 use Prim.Native.Nat.{◌+◌, ◌-◌}
-use native.Mathlib.Omega.{arith}
 use mathlib.Core.Path.{◌≡◌, subst, ◌∙◌}
 use lib.ListN.{length}
 use Rattle.csv_reading.specs.declared.record.Line.{Line}
@@ -9,7 +8,6 @@ use Rattle.csv_reading.specs.Rows.{Placed}
 use Rattle.csv_reading.proofs.RowsLaws.{Gone, gone_none, gone_bad, gone_more, read_bad, read-good}
 use borrow.Author.Rules.{rules}
 use Rattle.csv_reading.proofs.rows.read_rows.Goals as goal
-
 
 pub loop-at-init : goal.loop-at-init
 loop-at-init c = let a = c.args in (gone_none a.table.now a.text.now a.rows.now, search rules)

@@ -1,13 +1,9 @@
 -- `csv_reading::rows::read_rows` meets its contract. The loop's invariant: the records before the index are read, and their rows stand at
 -- the front if they fit. The measure is what is left of the text.
-use Prim.Native.Nat.{◌+◌, ◌-◌}
-use native.Mathlib.Omega.{arith}
-use mathlib.Core.Path.{◌≡◌, subst, ◌∙◌}
+use Prim.Native.Nat.{◌-◌}
+use mathlib.Core.Path.{◌≡◌}
 use lib.ListN.{length}
-use Rattle.csv_reading.specs.declared.record.Line.{Line}
-use Rattle.csv_reading.specs.Rows.{Placed}
-use Rattle.csv_reading.proofs.RowsLaws.{Gone, gone_none, gone_bad, gone_more, read_bad, read-good}
-use borrow.Author.Rules.{rules}
+use Rattle.csv_reading.proofs.RowsLaws.{Gone}
 use Rattle.csv_reading.proofs.rows.read_rows.Given as goal
 
 abbrev pub invariant-loop-at : goal.invariant-loop-at

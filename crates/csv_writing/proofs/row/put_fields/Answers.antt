@@ -1,7 +1,6 @@
 -- `csv_writing::row::put_fields` meets its contract: the first field, and those behind it. The loop's invariant: the fields behind the
 -- first stand up to the word reached. The measure is the number of words left.
 use Prim.Native.Nat.{◌-◌}
-use native.Mathlib.Omega.{arith}
 use mathlib.Core.Path.{◌∙◌}
 use mathlib.Core.List.{◌∷◌}
 use Rattle.model.specs.Words.{word}
@@ -11,9 +10,7 @@ use Rattle.csv_writing.specs.Row.{fields_of}
 use Rattle.text.specs.declared.writing.Put.TheVariants.{Full, At}
 use Rattle.text.proofs.PutLaws.{Part, part_none, part-more, part-full, part-last, part_end}
 use Rattle.csv_writing.proofs.RowLaws.{behind, fields-first, behind_more, behind-none}
-use borrow.Author.Rules.{rules}
 use Rattle.csv_writing.proofs.row.put_fields.Goals as goal
-
 
 pub returns-in_default : goal.returns-in_default
 returns-in_default c =

@@ -5,9 +5,7 @@ use Rattle.model.specs.Bytes.{cr, lf}
 use Rattle.csv_writing.specs.Row.{line_of}
 use Rattle.text.proofs.PutLaws.{Part, part_none, part-more, part-full, part-last}
 use Rattle.csv_writing.proofs.RowLaws.{arity-few, line-parts}
-use borrow.Author.Rules.{rules}
 use Rattle.csv_writing.proofs.row.put_row.Goals as goal
-
 
 pub overflow_add-n : goal.overflow_add-n
 overflow_add-n c =

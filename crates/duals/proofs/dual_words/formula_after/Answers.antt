@@ -6,9 +6,7 @@ use Rattle.policies.specs.Node.{as_tag}
 use Rattle.policies.specs.declared.node.Tag.{Tag}
 use Rattle.duals.proofs.DualAfter.{is_quantifier, is_some, node-there, node-fits, restriction-there, after-restriction, after-own}
 use Rattle.duals.proofs.DualAfter.{after-whole}
-use borrow.Author.Rules.{rules}
 use Rattle.duals.proofs.dual_words.formula_after.Goals as goal
-
 
 pub size-own-requires : goal.size-own-requires
 size-own-requires c =

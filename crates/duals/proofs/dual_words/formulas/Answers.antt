@@ -2,16 +2,11 @@
 use Rattle.std.specs.Prelude.{Bool}
 use Prim.Native.Nat.{ℕ}
 use mathlib.Core.Path.{◌≡◌, refl}
-use mathlib.Core.List.{[], ◌∷◌}
-use types.Run.{OneOf, miss}
-use denote.Enum.Declared.{tag_of}
 use Rattle.model.specs.Words.{Words}
 use Rattle.policies.specs.Node.{as_tag}
 use Rattle.policies.specs.declared.node.Tag.{Tag}
 use Rattle.policies.specs.declared.node.Tag.TheVariants.{Plain, Atom, Compare, Join, Quantifier, Some, Unused}
-use Rattle.policies.specs.contracts.node.Tag.{the_type}
 use Rattle.duals.specs.Dual.{formulas}
-use borrow.Author.Rules.{rules}
 use Rattle.duals.proofs.dual_words.formulas.Goals as goal
 
 -- the other tags

@@ -1,9 +1,7 @@
 -- `duals::dual_words::pair` meets its contract, tag by tag.
 use Rattle.laws.specs.Words.Standing.{code}
 use Rattle.duals.specs.Dual.{paired}
-use borrow.Author.Rules.{rules}
 use Rattle.duals.proofs.dual_words.pair.Goals as goal
-
 
 pub returns-then-b : goal.returns-then-b
 unfolding code paired

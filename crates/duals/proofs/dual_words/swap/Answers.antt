@@ -3,13 +3,12 @@
 use Prim.Native.Nat.{◌+◌, ◌-◌, ◌≤◌, ◌<◌}
 use native.Mathlib.Omega.{arith}
 use mathlib.Core.Path.{◌≡◌, refl, ◌∙◌}
-use lib.ListN.{length, drop, length-set}
+use lib.ListN.{length, length-set}
 use borrow.Author.Rules.{rules}
 use mir.Syntax.{w32}
 use mir.Val.{to_z, of_z}
-use Rattle.duals.proofs.DualSwap.{Swapping, front_long, swap_start, swap_word, swap_tree, swap_fits, swap_more, swap_end}
+use Rattle.duals.proofs.DualSwap.{front_long, swap_start, swap_word, swap_tree, swap_fits, swap_more, swap_end}
 use Rattle.duals.proofs.dual_words.swap.Goals as goal
-
 
 pub loop-left-init : goal.loop-left-init
 loop-left-init c = (refl, swap_start c.args.words.now _ c.args.buffer.now c.requires.0)

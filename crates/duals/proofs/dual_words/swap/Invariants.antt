@@ -1,13 +1,9 @@
 -- `duals::dual_words::swap` meets its contract. The loop's invariant: words of the dual, then the old words, where the formulas that are
 -- left stand.
-use Prim.Native.Nat.{◌+◌, ◌-◌, ◌≤◌, ◌<◌}
-use native.Mathlib.Omega.{arith}
-use mathlib.Core.Path.{◌≡◌, refl, ◌∙◌}
-use lib.ListN.{length, drop, length-set}
-use borrow.Author.Rules.{rules}
-use mir.Syntax.{w32}
-use mir.Val.{to_z, of_z}
-use Rattle.duals.proofs.DualSwap.{Swapping, front_long, swap_start, swap_word, swap_tree, swap_fits, swap_more, swap_end}
+use Prim.Native.Nat.{◌-◌}
+use mathlib.Core.Path.{◌≡◌}
+use lib.ListN.{length, drop}
+use Rattle.duals.proofs.DualSwap.{Swapping}
 use Rattle.duals.proofs.dual_words.swap.Given as goal
 
 abbrev pub invariant-loop-left : goal.invariant-loop-left

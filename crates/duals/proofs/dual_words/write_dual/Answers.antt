@@ -3,10 +3,8 @@ use mathlib.Core.Path.{◌≡◌}
 use mathlib.Core.List.{◌++◌}
 use lib.ListN.{length, drop}
 use Rattle.duals.proofs.DualBuffer.{copied_front}
-use Rattle.duals.proofs.DualSwap.{front_again, all-written}
-use borrow.Author.Rules.{rules}
+use Rattle.duals.proofs.DualSwap.{front_again}
 use Rattle.duals.proofs.dual_words.write_dual.Goals as goal
-
 
 pub swap-requires : goal.swap-requires
 swap-requires c =

@@ -1,15 +1,11 @@
 -- `environments::environment::marks_of` meets its contract. The loop's invariant: the first i marks, and those that the rest of
 -- the number has, are the marks asked for.
-use Prim.Native.Nat.{◌-◌, ◌≤◌}
+use Prim.Native.Nat.{◌-◌}
 use native.Mathlib.Omega.{arith}
-use mathlib.Core.Path.{◌≡◌, refl, sym, ◌∙◌}
-use mathlib.Core.List.{◌++◌}
-use lib.ListN.{length, take, length-set}
-use borrow.Author.Rules.{rules}
-use Rattle.environments.specs.Environment.{unbits}
+use mathlib.Core.Path.{sym, ◌∙◌}
+use lib.ListN.{length-set}
 use Rattle.environments.proofs.Filling.{unbits-next, unbits-last}
 use Rattle.environments.proofs.environment.marks_of.Goals as goal
-
 
 pub loop-i-preserved : goal.loop-i-preserved
 loop-i-preserved c =

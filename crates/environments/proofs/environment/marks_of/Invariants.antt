@@ -1,13 +1,10 @@
 -- `environments::environment::marks_of` meets its contract. The loop's invariant: the first i marks, and those that the rest of
 -- the number has, are the marks asked for.
 use Prim.Native.Nat.{◌-◌, ◌≤◌}
-use native.Mathlib.Omega.{arith}
-use mathlib.Core.Path.{◌≡◌, refl, sym, ◌∙◌}
+use mathlib.Core.Path.{◌≡◌}
 use mathlib.Core.List.{◌++◌}
-use lib.ListN.{length, take, length-set}
-use borrow.Author.Rules.{rules}
+use lib.ListN.{length, take}
 use Rattle.environments.specs.Environment.{unbits}
-use Rattle.environments.proofs.Filling.{unbits-next, unbits-last}
 use Rattle.environments.proofs.environment.marks_of.Given as goal
 
 abbrev pub invariant-loop-i : goal.invariant-loop-i

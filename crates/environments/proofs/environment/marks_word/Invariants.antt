@@ -1,13 +1,8 @@
 -- `environments::environment::marks_word` meets its contract. The loop's invariant: the number has the bits of the marks from i on.
-use Prim.Native.Nat.{ℕ, ◌-◌, ◌≤◌, ◌<◌}
-use native.Mathlib.Omega.{arith}
-use mathlib.Core.Path.{◌≡◌, sym, ap, ◌∙◌}
-use mathlib.Core.Bool.{false}
-use lib.ListN.{length, get_or, drop, length-drop, drop_of_length-le}
-use borrow.Author.Rules.{rules}
+use Prim.Native.Nat.{◌-◌, ◌≤◌}
+use mathlib.Core.Path.{◌≡◌}
+use lib.ListN.{length, drop}
 use Rattle.environments.specs.Environment.{bits}
-use Rattle.environments.proofs.Places.{bits_small}
-use Rattle.environments.proofs.Filling.{byte_small, bits-more}
 use Rattle.environments.proofs.environment.marks_word.Given as goal
 
 abbrev pub invariant-loop-i : goal.invariant-loop-i

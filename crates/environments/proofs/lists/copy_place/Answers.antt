@@ -1,17 +1,15 @@
 -- `environments::lists::copy_place` meets its contract. The loop's invariant: the first i words are copied.
-use Prim.Native.Nat.{◌+◌, ◌*◌, ◌-◌, ◌≤◌}
+use Prim.Native.Nat.{◌+◌, ◌*◌, ◌-◌}
 use native.Mathlib.Omega.{arith}
-use mathlib.Core.Path.{◌≡◌, refl, ap, ◌∙◌}
+use mathlib.Core.Path.{◌≡◌, ap, ◌∙◌}
 use borrow.Author.Rules.{rules}
-use lib.ListN.{length, get_or, set, drop, length-set}
+use lib.ListN.{get_or, set, length-set}
 use lib.IntN.{pos}
 use mir.Syntax.{w32}
 use mir.Val.{to_z, of_z}
-use lib.Seq.{paste, paste-zero}
 use Rattle.model.specs.Words.{Words}
-use Rattle.environments.proofs.CopyLaws.{copy_on, copy_last, copy_same}
+use Rattle.environments.proofs.CopyLaws.{copy_on, copy_same}
 use Rattle.environments.proofs.lists.copy_place.Goals as goal
-
 
 pub returns-then-source-target : goal.returns-then-source-target
 returns-then-source-target c = let a = c.args in copy_same a.scratch.now (17 * a.target) (17 * a.source) 17 (omega arith)

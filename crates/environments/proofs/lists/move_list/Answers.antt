@@ -1,12 +1,8 @@
 -- `environments::lists::move_list` meets its contract. The loop's invariant: the first i places are moved.
-use Prim.Native.Nat.{◌-◌, ◌≤◌}
+use Prim.Native.Nat.{◌-◌}
 use native.Mathlib.Omega.{arith}
-use mathlib.Core.Path.{subst}
-use borrow.Author.Rules.{rules}
-use Rattle.environments.specs.Lists.{Moved}
-use Rattle.environments.proofs.ListsLaws.{moved_none, moved_same, moved_on}
+use Rattle.environments.proofs.ListsLaws.{moved_on}
 use Rattle.environments.proofs.lists.move_list.Goals as goal
-
 
 pub loop-i-preserved : goal.loop-i-preserved
 loop-i-preserved c =

@@ -1,19 +1,13 @@
 -- `environments::lists::release_all` meets its contract. The loop's invariant: of every list that stands there, the variable is
 -- dropped in the first i environments.
-use Prim.Native.Nat.{◌-◌, ◌≤◌}
+use Prim.Native.Nat.{◌-◌}
 use native.Mathlib.Omega.{arith}
 use mathlib.Core.Path.{◌≡◌, ◌∙◌}
-use mathlib.Core.List.{List}
 use lib.ListN.{length, take}
 use lib.Seq.{length-take-le}
-use borrow.Author.Rules.{rules}
-use Rattle.model.specs.Listing.{Environment}
-use Rattle.environments.specs.Listed.{Listed}
 use Rattle.environments.proofs.ListedLaws.{environment_of}
-use Rattle.environments.specs.Lists.{Released}
-use Rattle.environments.proofs.ListsLaws.{listed-take, released_none, released_next, released_on}
+use Rattle.environments.proofs.ListsLaws.{listed-take, released_next, released_on}
 use Rattle.environments.proofs.lists.release_all.Goals as goal
-
 
 pub loop-i-preserved : goal.loop-i-preserved
 loop-i-preserved c =

@@ -1,22 +1,18 @@
 -- `environments::terms::arguments` meets its contract. The loop's invariant: the numbers so far, with those of the terms from
 -- number i on, are what is asked, and zeros stand behind.
-use Prim.Native.Nat.{ℕ, ◌+◌, ◌-◌, ◌≤◌}
+use Prim.Native.Nat.{ℕ, ◌+◌, ◌-◌}
 use native.Mathlib.Omega.{arith}
 use mathlib.Core.Path.{◌≡◌, sym, ap, ap₂, ◌∙◌}
 use mathlib.Core.List.{List, ◌++◌}
-use lib.ListN.{length, take, drop, replicate, length-set, take-append-drop}
+use lib.ListN.{length, replicate, length-set, take-append-drop}
 use lib.IntN.{ℤ, pos}
 use mir.Syntax.{w32}
 use mir.Val.{to_z, of_z}
 use borrow.Author.Rules.{rules}
 use Rattle.model.specs.Reading.{in_scope}
-use Rattle.model.specs.Listing.{Environment, numbers_in}
-use Rattle.policies.specs.Standing.{terms_at}
 use Rattle.policies.proofs.TermLaws.{place-holds}
-use Rattle.environments.specs.Environment.{numbers_of}
-use Rattle.environments.proofs.TermLaws.{numbers_from, numbers-first, numbers-next, numbers-last, zeros-next}
+use Rattle.environments.proofs.TermLaws.{numbers-first, numbers-next, numbers-last, zeros-next}
 use Rattle.environments.proofs.terms.arguments.Goals as goal
-
 
 pub loop-i-init : goal.loop-i-init
 loop-i-init c = (

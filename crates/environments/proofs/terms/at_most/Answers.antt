@@ -4,9 +4,8 @@ use lib.IntN.{ℤ, ◌+ℤ◌}
 use lib.Signed.{le_z}
 use mir.Facts.{to_z-of_z}
 use Rattle.model.specs.Truth.{sum_at_most}
-use Rattle.environments.proofs.Sums.{sum_fits, widened, widens}
+use Rattle.environments.proofs.Sums.{sum_fits, widened}
 use Rattle.environments.proofs.terms.at_most.Goals as goal
-
 
 pub overflow_add-result : goal.overflow_add-result
 overflow_add-result c =

@@ -1,13 +1,9 @@
 -- `environments::terms::compare` meets its contract, from those of the word, the two numbers and the sum.
 use native.Mathlib.Omega.{arith}
-use mathlib.Core.Path.{◌≡◌, ◌∙◌}
-use mir.Syntax.{w32}
-use mir.Val.{to_z, of_z}
 use Rattle.model.specs.Reading.{in_scope}
-use Rattle.environments.proofs.TermLaws.{first_holds, second_holds, sum_same}
+use Rattle.environments.proofs.TermLaws.{first_holds, second_holds}
 use borrow.Author.Rules.{rules}
 use Rattle.environments.proofs.terms.compare.Goals as goal
-
 
 pub number-x-requires : goal.number-x-requires
 number-x-requires c =

@@ -14,7 +14,6 @@ use Rattle.environments.proofs.TermLaws.{constant_number, variable-number}
 use borrow.Author.Rules.{rules}
 use Rattle.environments.proofs.terms.number.Goals as goal
 
-
 pub returns-then-is : goal.returns-then-is
 returns-then-is c = λ e h.
     let a = c.args in

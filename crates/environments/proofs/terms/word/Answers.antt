@@ -6,7 +6,6 @@ use Rattle.model.specs.Words.{word}
 use borrow.Author.Rules.{rules}
 use Rattle.environments.proofs.terms.word.Goals as goal
 
-
 pub returns-then-i-s : goal.returns-then-i-s
 unfolding word
 returns-then-i-s c = search rules

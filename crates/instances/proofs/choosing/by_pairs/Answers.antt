@@ -1,11 +1,9 @@
 -- `instances::choosing::by_pairs` meets its contract. The loop's invariant: of the first i places those with fresh tuples stand
 -- in front, and their tuples and the fresh ones of what is left are the fresh ones of the whole list.
-use Prim.Native.Nat.{◌-◌, ◌≤◌}
+use Prim.Native.Nat.{◌-◌}
 use native.Mathlib.Omega.{arith}
-use borrow.Author.Rules.{rules}
-use Rattle.instances.proofs.InstanceLaws.{Going, Turn, going_first, going_last, on_excluded, on_seen, on_found, tuple-room}
+use Rattle.instances.proofs.InstanceLaws.{Turn, going_first, going_last, on_excluded, on_seen, on_found}
 use Rattle.instances.proofs.choosing.by_pairs.Goals as goal
-
 
 pub loop-i-init : goal.loop-i-init
 loop-i-init c =

@@ -1,9 +1,7 @@
 -- `instances::choosing::by_pairs` meets its contract. The loop's invariant: of the first i places those with fresh tuples stand
 -- in front, and their tuples and the fresh ones of what is left are the fresh ones of the whole list.
 use Prim.Native.Nat.{◌-◌, ◌≤◌}
-use native.Mathlib.Omega.{arith}
-use borrow.Author.Rules.{rules}
-use Rattle.instances.proofs.InstanceLaws.{Going, Turn, going_first, going_last, on_excluded, on_seen, on_found, tuple-room}
+use Rattle.instances.proofs.InstanceLaws.{Going}
 use Rattle.instances.proofs.choosing.by_pairs.Given as goal
 
 abbrev pub invariant-loop-i : goal.invariant-loop-i

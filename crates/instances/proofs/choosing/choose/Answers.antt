@@ -1,15 +1,11 @@
 -- `instances::choosing::choose` meets its contract. The loop's invariant: that of `by_pairs`, and the excluded tuples and those found are
 -- entered in the table.
-use Prim.Native.Nat.{◌+◌, ◌*◌, ◌-◌, ◌≤◌}
+use Prim.Native.Nat.{◌+◌, ◌*◌, ◌-◌}
 use native.Mathlib.Omega.{arith}
-use mathlib.Core.Path.{refl, sym, ◌∙◌}
-use Rattle.instances.specs.Keyed.{Keyed, entry_at}
-use Rattle.instances.proofs.InstanceLaws.{Going, Turn, going_first, going_last, next}
-use Rattle.instances.proofs.KeyLaws.{key-small, keyed-none}
+use Rattle.instances.proofs.InstanceLaws.{Turn, going_first, going_last, next}
+use Rattle.instances.proofs.KeyLaws.{key-small}
 use Rattle.instances.proofs.SeenLaws.{keyed-excluded, on_known, on_new, keyed_on}
-use borrow.Author.Rules.{rules}
 use Rattle.instances.proofs.choosing.choose.Goals as goal
-
 
 pub loop-i-init : goal.loop-i-init
 loop-i-init c =

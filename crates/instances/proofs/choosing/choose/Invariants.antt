@@ -1,13 +1,8 @@
 -- `instances::choosing::choose` meets its contract. The loop's invariant: that of `by_pairs`, and the excluded tuples and those found are
 -- entered in the table.
 use Prim.Native.Nat.{◌+◌, ◌*◌, ◌-◌, ◌≤◌}
-use native.Mathlib.Omega.{arith}
-use mathlib.Core.Path.{refl, sym, ◌∙◌}
 use Rattle.instances.specs.Keyed.{Keyed, entry_at}
-use Rattle.instances.proofs.InstanceLaws.{Going, Turn, going_first, going_last, next}
-use Rattle.instances.proofs.KeyLaws.{key-small, keyed-none}
-use Rattle.instances.proofs.SeenLaws.{keyed-excluded, on_known, on_new, keyed_on}
-use borrow.Author.Rules.{rules}
+use Rattle.instances.proofs.InstanceLaws.{Going}
 use Rattle.instances.proofs.choosing.choose.Given as goal
 
 abbrev pub invariant-loop-i : goal.invariant-loop-i

@@ -1,9 +1,7 @@
 -- `instances::choosing::instances` meets its contract, by key or by pairs.
 use mathlib.Core.Path.{sym, ◌∙◌}
-use borrow.Author.Rules.{rules}
 use Rattle.instances.proofs.KeyLaws.{serves-few}
 use Rattle.instances.proofs.choosing.instances.Goals as goal
-
 
 pub by_key-requires : goal.by_key-requires
 by_key-requires c =

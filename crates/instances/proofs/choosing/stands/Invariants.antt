@@ -1,12 +1,10 @@
 -- `instances::choosing::stands` meets its contract. The loop's invariant: the tuple is among all if it is among those from number i on.
 use Prim.Native.Nat.{◌-◌, ◌≤◌}
-use native.Mathlib.Omega.{arith}
-use mathlib.Core.Path.{◌≡◌, sym, ◌∙◌}
-use borrow.Author.Rules.{rules}
+use mathlib.Core.Path.{◌≡◌}
 use lib.ListN.{take, drop}
 use Rattle.model.specs.Words.{member}
 use Rattle.environments.specs.Listed.{spaced}
-use Rattle.instances.proofs.InstanceLaws.{among_from, among_first_lem, among_found, among_on, among_last}
+use Rattle.instances.proofs.InstanceLaws.{among_from}
 use Rattle.instances.proofs.choosing.stands.Given as goal
 
 abbrev pub invariant-loop-i : goal.invariant-loop-i

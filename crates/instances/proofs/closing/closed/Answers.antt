@@ -4,12 +4,9 @@ use Prim.Native.Nat.{◌+◌, ◌-◌, ◌≤◌}
 use native.Mathlib.Omega.{arith}
 use lib.ListN.{length}
 use mathlib.Core.Path.{sym, ◌∙◌}
-use borrow.Author.Rules.{rules}
-use borrow.Author.Tests.{not-true, not-false}
 use Rattle.trees.proofs.Ahead.{ahead_word, ahead_there}
-use Rattle.instances.proofs.ClosedLaws.{Closing, close_start, close_end, close_ahead, close_asks, close_open, close_fits, close_more}
+use Rattle.instances.proofs.ClosedLaws.{close_start, close_end, close_ahead, close_asks, close_open, close_fits, close_more}
 use Rattle.instances.proofs.closing.closed.Goals as goal
-
 
 pub loop-left-init : goal.loop-left-init
 loop-left-init c = close_start c.args.table.now c.args.words.now c.args.at

@@ -1,8 +1,6 @@
 -- `instances::closing::complete` meets its contract, case by case.
-use borrow.Author.Rules.{rules}
 use Rattle.instances.proofs.ClosedLaws.{complete-atom, complete-other}
 use Rattle.instances.proofs.closing.complete.Goals as goal
-
 
 pub returns-in-Atom : goal.returns-in-Atom
 returns-in-Atom c =

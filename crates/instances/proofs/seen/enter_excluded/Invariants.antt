@@ -1,12 +1,7 @@
 -- `instances::seen::enter_excluded` meets its contract. The loop's invariant: the first e tuples are entered.
 use Prim.Native.Nat.{◌+◌, ◌*◌, ◌-◌, ◌≤◌}
-use native.Mathlib.Omega.{arith}
-use mathlib.Core.Path.{refl, sym, ◌∙◌}
-use lib.ListN.{take, drop, length}
+use lib.ListN.{take, drop}
 use Rattle.instances.specs.Keyed.{Keyed}
-use Rattle.instances.proofs.InstanceLaws.{tuple-room}
-use Rattle.instances.proofs.KeyLaws.{key-small, keyed-none, keyed_entered, keyed-count}
-use borrow.Author.Rules.{rules}
 use Rattle.instances.proofs.seen.enter_excluded.Given as goal
 
 abbrev pub invariant-loop-e : goal.invariant-loop-e

@@ -1,11 +1,9 @@
 -- `instances::seen::equal_entry` meets its contract: an excluded tuple, or an instance found.
-use native.Mathlib.Omega.{arith}
 use mathlib.Core.Path.{sym, ap, ◌∙◌}
 use lib.ListN.{take, drop}
 use Rattle.model.specs.Words.{equal_all}
 use Rattle.instances.proofs.SeenLaws.{entry_excluded, entry_found}
 use Rattle.instances.proofs.seen.equal_entry.Goals as goal
-
 
 pub returns-then-e-m : goal.returns-then-e-m
 returns-then-e-m c =

@@ -1,14 +1,9 @@
 -- `instances::seen::key` meets its contract. The loop's invariant: the key is that of the words from number i on, added to the sum.
-use Prim.Native.Nat.{◌-◌, ◌≤◌}
+use Prim.Native.Nat.{◌-◌}
 use native.Mathlib.Omega.{arith}
-use mathlib.Core.Path.{◌≡◌, sym, ◌∙◌}
-use lib.ListN.{take, drop}
-use Rattle.instances.specs.Keyed.{key_from, key_of}
-use Rattle.words.proofs.PartLaws.{part_from}
-use Rattle.instances.proofs.KeyLaws.{key-first, key_on, key-last}
-use borrow.Author.Rules.{rules}
+use mathlib.Core.Path.{sym, ◌∙◌}
+use Rattle.instances.proofs.KeyLaws.{key_on, key-last}
 use Rattle.instances.proofs.seen.key.Goals as goal
-
 
 pub loop-i-preserved : goal.loop-i-preserved
 loop-i-preserved c =

@@ -1,12 +1,9 @@
 -- `instances::seen::key` meets its contract. The loop's invariant: the key is that of the words from number i on, added to the sum.
 use Prim.Native.Nat.{◌-◌, ◌≤◌}
-use native.Mathlib.Omega.{arith}
-use mathlib.Core.Path.{◌≡◌, sym, ◌∙◌}
+use mathlib.Core.Path.{◌≡◌}
 use lib.ListN.{take, drop}
 use Rattle.instances.specs.Keyed.{key_from, key_of}
 use Rattle.words.proofs.PartLaws.{part_from}
-use Rattle.instances.proofs.KeyLaws.{key-first, key_on, key-last}
-use borrow.Author.Rules.{rules}
 use Rattle.instances.proofs.seen.key.Given as goal
 
 abbrev pub invariant-loop-i : goal.invariant-loop-i

@@ -2,13 +2,10 @@
 -- the last of which has its key. The measure is the link, which falls along a chain.
 use Prim.Native.Nat.{◌-◌}
 use native.Mathlib.Omega.{arith}
-use lib.ListN.{take, drop, length}
+use lib.ListN.{take, drop}
 use Rattle.instances.specs.Keyed.{entry_at}
-use Rattle.instances.proofs.InstanceLaws.{tuple-room}
-use Rattle.instances.proofs.KeyLaws.{Walking, key-small, walking_first, walking_found, walking_on, walking_last, link_less}
-use borrow.Author.Rules.{rules}
+use Rattle.instances.proofs.KeyLaws.{key-small, walking_first, walking_found, walking_on, walking_last}
 use Rattle.instances.proofs.seen.seen.Goals as goal
-
 
 pub offset_bounds-heads-key : goal.offset_bounds-heads-key
 offset_bounds-heads-key c =

@@ -1,12 +1,9 @@
 -- `instances::seen::seen` meets its contract. The loop's invariant: the tuple is one of the entries if it is one of those below the link,
 -- the last of which has its key. The measure is the link, which falls along a chain.
 use Prim.Native.Nat.{◌-◌}
-use native.Mathlib.Omega.{arith}
-use lib.ListN.{take, drop, length}
+use lib.ListN.{take, drop}
 use Rattle.instances.specs.Keyed.{entry_at}
-use Rattle.instances.proofs.InstanceLaws.{tuple-room}
-use Rattle.instances.proofs.KeyLaws.{Walking, key-small, walking_first, walking_found, walking_on, walking_last, link_less}
-use borrow.Author.Rules.{rules}
+use Rattle.instances.proofs.KeyLaws.{Walking}
 use Rattle.instances.proofs.seen.seen.Given as goal
 
 abbrev pub invariant-loop-link : goal.invariant-loop-link

@@ -3,7 +3,7 @@ use native.Mathlib.Omega.{arith}
 use mathlib.Core.Path.{◌≡◌, sym, ap, ap₂, ◌∙◌}
 use mathlib.Core.Bool.{Bool, cond}
 use mathlib.Core.List.{◌∷◌}
-use lib.ListN.{take, set, length-set}
+use lib.ListN.{take, set}
 use lib.IntN.{ℤ, pos}
 use mir.Syntax.{w32}
 use mir.Val.{SFits, to_z, of_z}
@@ -11,9 +11,7 @@ use mir.Facts.{to_z-of_z}
 use Rattle.model.specs.Words.{Words}
 use Rattle.words.specs.Laying.{laid}
 use Rattle.words.proofs.MovingLaws.{headed}
-use borrow.Author.Rules.{rules}
 use Rattle.joining.proofs.join.head.Goals as goal
-
 
 pub returns-then-kind : goal.returns-then-kind
 returns-then-kind c =

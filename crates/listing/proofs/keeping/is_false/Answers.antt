@@ -1,14 +1,12 @@
 -- `listing::keeping::is_false` meets its contract, by the value found.
 use mathlib.Core.Path.{◌≡◌}
 use mathlib.Core.Bool.{Bool, true, false}
-use borrow.Author.Rules.{rules}
 use Rattle.model.specs.Listing.{is_false}
 use Rattle.logs.specs.Value.{as_value}
 use Rattle.logs.specs.declared.value.Value.TheVariants.{True, False, Open}
 use Rattle.listing.specs.Keeping.{TellsFalse}
 use Rattle.listing.proofs.KeepLaws.{answer, false-value}
 use Rattle.listing.proofs.keeping.is_false.Goals as goal
-
 
 pub returns-in-True : goal.returns-in-True
 unfolding is_false

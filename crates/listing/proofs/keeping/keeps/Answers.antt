@@ -1,9 +1,7 @@
 -- `listing::keeping::keeps` meets its contract, by the tag.
 use native.Mathlib.Omega.{arith}
-use borrow.Author.Rules.{rules}
 use Rattle.listing.proofs.KeepLaws.{keeping_atom, keeping_compare, keeps_plain, keeps_atom, keeps_compare, keeps_none}
 use Rattle.listing.proofs.keeping.keeps.Goals as goal
-
 
 pub compare-requires : goal.compare-requires
 compare-requires c =

@@ -1,30 +1,10 @@
 -- The proof of the cycle of calls {list, list_join, list_some}. The measure is twice the levels left: one more for
 -- `list_join`, which calls `list` at its own level, and one less for `list_some`, which calls it a level down.
 -- The loop: the children passed made the lists that stand, and those left stand at the index reached.
-use Prim.Native.Nat.{ℕ, ◌+◌, ◌*◌, ◌-◌, ◌≤◌, ◌<◌}
-use native.Mathlib.Omega.{arith}
-use mathlib.Core.Path.{◌≡◌, refl, sym, ap, ◌∙◌, subst}
-use mathlib.Core.Bool.{true, false}
-use mathlib.Core.List.{[], ◌∷◌}
-use types.Run.{OneOf, miss}
-use denote.Enum.Declared.{tag_of}
+use Prim.Native.Nat.{◌*◌, ◌-◌, ◌≤◌}
+use mathlib.Core.Path.{◌≡◌}
 use lib.ListN.{length}
-use borrow.Author.Rules.{rules}
-use Rattle.model.specs.Level.{restriction}
-use Rattle.model.specs.Tag as T
-use Rattle.policies.specs.Standing.{HereAll}
-use Rattle.policies.specs.Node.{as_tag}
-use Rattle.policies.specs.declared.node.Tag.{Tag}
-use Rattle.policies.specs.declared.node.Tag.TheVariants.{Plain, Atom, Compare, Join, Quantifier, Some, Unused}
-use Rattle.policies.specs.contracts.node.Tag.{the_type as tag-type}
-use Rattle.policies.proofs.Standing.{here-atom, here-join, here-some, low, inside, inside-all}
-use Rattle.listing.proofs.Leaves.{LeafTag}
-use Rattle.listing.specs.Restrictions.{MakesTree}
-use Rattle.listing.proofs.AtomLaws.{terms-there}
-use Rattle.listing.proofs.JoinLaws.{SoFar, join_first, join_asks, join-stop, join_passing, join-next, join-numbers, join_close}
-use Rattle.listing.proofs.WalkLaws.{from-atom, from-kept, from-join, from_some}
-use Rattle.listing.proofs.SomeLaws.{some-short, some-inside, some_holds, some-full, some_end}
-use Prim.Native.Nat.{ℕ, ◌<◌}
+use Rattle.listing.proofs.JoinLaws.{SoFar}
 use Rattle.listing.proofs.restriction.+list_list_join_list_some.Given as goal
 
 abbrev pub decreases-list : goal.decreases-list

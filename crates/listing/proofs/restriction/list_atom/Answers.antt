@@ -1,12 +1,10 @@
 -- `listing::restriction::list_atom` meets its contract. The invariant: what the environments before the i-th gave stands from the
 -- first free place on. The measure is the number of environments left.
-use Prim.Native.Nat.{ℕ, ◌+◌, ◌*◌, ◌-◌, ◌≤◌}
+use Prim.Native.Nat.{ℕ, ◌+◌, ◌-◌}
 use native.Mathlib.Omega.{arith}
-use mathlib.Core.Path.{◌≡◌, refl, sym, ap, ap₂, ◌∙◌, subst}
+use mathlib.Core.Path.{◌≡◌, refl, sym, ap₂, ◌∙◌, subst}
 use mathlib.Core.Bool.{true}
 use mathlib.Core.List.{List}
-use lib.ListN.{length}
-use borrow.Author.Rules.{rules}
 use Rattle.model.specs.Lists.{all, gather}
 use Rattle.model.specs.Reading.{places, in_scope}
 use Rattle.model.specs.Log.{rows}
@@ -15,10 +13,9 @@ use Rattle.policies.specs.Standing.{terms_at}
 use Rattle.environments.specs.Environment.{Holds}
 use Rattle.environments.proofs.ListedLaws.{environment_of}
 use Rattle.listing.specs.Restrictions as R
-use Rattle.listing.proofs.MapLaws.{Mapping, map-start, map_read, map-step}
-use Rattle.listing.proofs.MapRoom.{adds-places, map_ran_out, map_stood, at-list}
+use Rattle.listing.proofs.MapLaws.{map-start, map_read, map-step}
+use Rattle.listing.proofs.MapRoom.{adds-places, map_ran_out, at-list}
 use Rattle.listing.proofs.restriction.list_atom.Goals as goal
-
 
 pub loop-i-init : goal.loop-i-init
 loop-i-init c =

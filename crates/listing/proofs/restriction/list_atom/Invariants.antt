@@ -1,22 +1,14 @@
 -- `listing::restriction::list_atom` meets its contract. The invariant: what the environments before the i-th gave stands from the
 -- first free place on. The measure is the number of environments left.
-use Prim.Native.Nat.{ℕ, ◌+◌, ◌*◌, ◌-◌, ◌≤◌}
-use native.Mathlib.Omega.{arith}
-use mathlib.Core.Path.{◌≡◌, refl, sym, ap, ap₂, ◌∙◌, subst}
-use mathlib.Core.Bool.{true}
+use Prim.Native.Nat.{◌+◌, ◌-◌, ◌≤◌}
+use mathlib.Core.Path.{◌≡◌}
 use mathlib.Core.List.{List}
 use lib.ListN.{length}
-use borrow.Author.Rules.{rules}
-use Rattle.model.specs.Lists.{all, gather}
-use Rattle.model.specs.Reading.{places, in_scope}
 use Rattle.model.specs.Log.{rows}
 use Rattle.model.specs.Listing.{Environment, matches}
 use Rattle.policies.specs.Standing.{terms_at}
-use Rattle.environments.specs.Environment.{Holds}
-use Rattle.environments.proofs.ListedLaws.{environment_of}
 use Rattle.listing.specs.Restrictions as R
-use Rattle.listing.proofs.MapLaws.{Mapping, map-start, map_read, map-step}
-use Rattle.listing.proofs.MapRoom.{adds-places, map_ran_out, map_stood, at-list}
+use Rattle.listing.proofs.MapLaws.{Mapping}
 use Rattle.listing.proofs.restriction.list_atom.Given as goal
 
 abbrev pub invariant-loop-i : goal.invariant-loop-i

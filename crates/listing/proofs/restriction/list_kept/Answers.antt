@@ -1,11 +1,9 @@
 -- `listing::restriction::list_kept` meets its contract. The invariant: the environments kept of those before the i-th stand from
 -- the first free place on. The measure is the number of environments left.
-use Prim.Native.Nat.{ℕ, ◌-◌, ◌≤◌}
+use Prim.Native.Nat.{ℕ, ◌-◌}
 use native.Mathlib.Omega.{arith}
-use mathlib.Core.Path.{◌≡◌, refl, sym, ◌∙◌}
+use mathlib.Core.Path.{refl, sym, ◌∙◌}
 use mathlib.Core.List.{List}
-use lib.ListN.{length}
-use borrow.Author.Tests.{not-true, not-false}
 use Rattle.model.specs.Log.{rows}
 use Rattle.model.specs.Tree.{Tree}
 use Rattle.model.specs.Level.{restriction}
@@ -17,11 +15,10 @@ use Rattle.environments.specs.Environment.{Holds}
 use Rattle.environments.proofs.ListedLaws.{environment_of}
 use Rattle.listing.specs.Keeping.{keeps_of}
 use Rattle.listing.specs.Restrictions as R
-use Rattle.listing.proofs.MapLaws.{Mapping, map-start, map_read}
+use Rattle.listing.proofs.MapLaws.{map-start, map_read}
 use Rattle.listing.proofs.LeafLaws.{kept, tree-there, leaf-behind}
 use Rattle.listing.proofs.KeptRoom.{kept-none, kept-one, kept-short, kept_stood}
 use Rattle.listing.proofs.restriction.list_kept.Goals as goal
-
 
 pub loop-i-init : goal.loop-i-init
 loop-i-init c =

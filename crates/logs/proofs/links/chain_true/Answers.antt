@@ -6,10 +6,8 @@ use Rattle.model.specs.Log.{row_count}
 use Rattle.chains.specs.Chain.{Chained}
 use Rattle.chains.specs.Key.{first_key, first_keys}
 use Rattle.chains.proofs.Keys.{zeros-empty}
-use Rattle.logs.proofs.Linking.{first-zeros, first-long, first-length, second-zeros, second-long, first-chained, second-stands}
-use borrow.Author.Rules.{rules}
+use Rattle.logs.proofs.Linking.{first-zeros, first-length, second-zeros, first-chained, second-stands}
 use Rattle.logs.proofs.links.chain_true.Goals as goal
-
 
 pub fill-requires : goal.fill-requires
 fill-requires c =

@@ -1,21 +1,15 @@
 -- `logs::links::check_and_link` meets its contract: the links by atom stand in front, those of the true rows behind them.
-use Prim.Native.Nat.{ℕ}
-use native.Mathlib.Omega.{arith}
 use mathlib.Core.Path.{◌≡◌, sym, ap, subst, ◌∙◌}
 use lib.ListN.{length}
 use Rattle.model.specs.Answer.{passed}
-use Rattle.model.specs.declared.Refusal.{Refusal}
 use Rattle.model.specs.Log.{row_count, ask_log}
 use Rattle.laws.specs.Log.{accepted}
-use Rattle.tables.specs.declared.Checked.TheVariants.{Passed, Refused}
 use Rattle.tables.specs.Checked.{outcome}
 use Rattle.chains.specs.Chain.{Chained}
 use Rattle.chains.specs.Key.{true_key, predicate_keys, first_key, first_keys}
 use Rattle.logs.specs.Links.{behind}
-use Rattle.logs.proofs.Linking.{behind-behind, first-zeros, first-long, first-length, second-zeros, second-long, first-chained, second-stands}
-use borrow.Author.Rules.{rules}
+use Rattle.logs.proofs.Linking.{behind-behind, first-length, second-zeros, first-chained, second-stands}
 use Rattle.logs.proofs.links.check_and_link.Goals as goal
-
 
 pub link_true-requires : goal.link_true-requires
 link_true-requires c =

@@ -1,23 +1,14 @@
 -- `logs::log::ask_rows` meets its contract. The loop's invariant: the rows passed are good and no row repeats, so the
 -- questions come to those at the rows left. The measure is their number.
-use Prim.Native.Nat.{ℕ, ◌+◌, ◌*◌, ◌-◌, ◌/◌, ◌≤◌}
-use native.Mathlib.Nat.{sub-zero}
-use native.Mathlib.Omega.{arith}
-use mathlib.Core.Path.{◌≡◌, refl, sym, ap, ◌∙◌}
-use mathlib.Core.Bool.{true, false, not}
-use borrow.Author.Tests.{not-true, not-false}
-use lib.ListN.{length, take, drop, length-take, length-drop}
+use Prim.Native.Nat.{ℕ, ◌-◌, ◌≤◌}
+use mathlib.Core.Path.{◌≡◌}
+use mathlib.Core.Bool.{not}
 use Rattle.model.specs.declared.Refusal.TheVariants.{Row, Repeat}
 use Rattle.model.specs.Words.{Words}
 use Rattle.model.specs.Lists.{span}
-use Rattle.model.specs.Answer.{Outcome, passed, refused, ask, in_turn, ◌>>=◌}
-use Rattle.model.specs.Log.{row_count, row_at, good_row}
-use Rattle.laws.specs.Answer.{turn_step, turn_stop, turn_end}
+use Rattle.model.specs.Answer.{Outcome, ask, in_turn, ◌>>=◌}
+use Rattle.model.specs.Log.{row_at, good_row}
 use Rattle.logs.specs.Log.{ask_rows, repeats_at}
-use Rattle.logs.proofs.Rows.{good-number}
-use Rattle.logs.proofs.log.ask_rows.Reads as reads
-use Rattle.logs.proofs.log.good_row.Reads as good-row-reads
-use Rattle.logs.proofs.log.repeats.Reads as repeats-reads
 use Rattle.logs.proofs.log.ask_rows.Given as goal
 
 -- questions 9 and 10 at a row

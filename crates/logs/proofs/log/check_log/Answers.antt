@@ -13,9 +13,6 @@ use Rattle.model.specs.Log.{row_count, ask_log}
 use Rattle.tables.specs.declared.Checked.TheVariants.{Passed, Refused}
 use Rattle.logs.specs.Log.{ask_rows, repeats_at}
 use Rattle.chains.proofs.Keys.{zeros-empty}
-use borrow.Author.Rules.{rules}
-use Rattle.logs.proofs.log.check_log.Reads as reads
-use Rattle.logs.proofs.log.chain_and_check.Reads as chain-and-check-reads
 use Rattle.logs.proofs.log.check_log.Goals as goal
 
 module _ (table log : Words) where
@@ -30,7 +27,6 @@ module _ (table log : Words) where
   ask-rows : eqb (length log % 8) 0 ≡ true → leb (length log / 8) 4096 ≡ true → ask_log table log ≡ ask_rows table log
   unfolding ask_log row_count ask ◌>>=◌ ask_rows repeats_at
   ask-rows e f = rw (e, f)
-
 
 -- a refusal is no pass
 never : {X : Type 0} {p : ℕ} → Refused LogLength p ≡ Passed → X

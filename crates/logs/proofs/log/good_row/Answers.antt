@@ -1,14 +1,11 @@
 -- `logs::log::good_row` meets its contract: three tests, one after another.
 use Prim.Native.Nat.{ℕ}
 use mathlib.Core.Path.{◌≡◌, sym, ap, ◌∙◌}
-use borrow.Author.Tests.{not-true, not-false}
 use Rattle.model.specs.Words.{word, below}
 use Rattle.model.specs.Table.{predicates, arity}
 use Rattle.logs.specs.Log.{unused_from}
 use Rattle.logs.proofs.Rows.{good-first, good-second, good-third}
-use borrow.Author.Rules.{rules}
 use Rattle.logs.proofs.log.good_row.Goals as goal
-
 
 pub returns-then-not-below : goal.returns-then-not-below
 returns-then-not-below c =

@@ -2,7 +2,7 @@
 use Prim.Native.Nat.{ℕ, ◌+◌, ◌*◌, ◌-◌}
 use native.Mathlib.Omega.{arith}
 use mathlib.Core.Path.{◌≡◌, sym, ap, ap₂, ◌∙◌}
-use lib.ListN.{get_or, take, drop, length-take, length-drop}
+use lib.ListN.{take, drop, length-take, length-drop}
 use Rattle.model.specs.Lists.{span}
 use Rattle.model.specs.Log.{row_count}
 use Rattle.chains.specs.Key.{atom_key}
@@ -10,12 +10,7 @@ use Rattle.chains.specs.Search.{first_row}
 use Rattle.logs.specs.Log.{repeats_at}
 use Rattle.chains.proofs.Keys.{own_key, row_small}
 use Rattle.logs.proofs.Repeats.{earlier, repeats-first, own-link, own_first}
-use borrow.Author.Rules.{rules}
-use Rattle.logs.proofs.log.repeats.Reads as reads
-use Rattle.chains.proofs.search.search.Reads as search-reads
-use Rattle.words.proofs.value.Reads as value-reads
 use Rattle.logs.proofs.log.repeats.Goals as goal
-
 
 pub overflow_mul-at : goal.overflow_mul-at
 unfolding row_count

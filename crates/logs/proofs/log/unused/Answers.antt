@@ -1,19 +1,14 @@
 -- `logs::log::unused` meets its contract. The invariant: the test comes to whether the arguments that are not 0 so far stand
 -- before the n-th, and the test of those from i on that are unused.
-use Prim.Native.Nat.{ℕ, ◌+◌, ◌-◌, ◌≤◌, max}
+use Prim.Native.Nat.{ℕ, ◌+◌, ◌-◌, max}
 use native.Mathlib.Omega.{arith}
-use mathlib.Core.Path.{◌≡◌, sym, ap, ◌∙◌}
-use mathlib.Core.Logic.{⊎_elim}
+use mathlib.Core.Path.{sym, ap, ◌∙◌}
 use mathlib.Core.Bool.{◌&&◌}
 use lib.Dec.{leb}
-use borrow.Author.Tests.{not-true, not-false}
 use Rattle.logs.specs.Log.{unused_from}
-use Rattle.logs.proofs.Rows.{unused-start, unused-zero, unused-word, unused-last}
-use Rattle.logs.proofs.log.unused.Reads as reads
-use Rattle.words.proofs.zero.Reads as zero-reads
+use Rattle.logs.proofs.Rows.{unused-zero, unused-word, unused-last}
 use Rattle.logs.proofs.log.unused.Goals as goal
 use Rattle.logs.proofs.log.unused.Goals.{then-not-zero, else-not-zero}
-
 
 pub loop-i-preserved : goal.loop-i-preserved
 loop-i-preserved c =

@@ -4,13 +4,7 @@ use mathlib.Core.Path.{sym, ◌∙◌}
 use mathlib.Core.Bool.{true, false}
 use Rattle.model.specs.Log.{row_count}
 use Rattle.logs.proofs.Values.{first-inside, value_found, by_row, by_complete, by_nothing}
-use borrow.Author.Rules.{rules}
-use Rattle.logs.proofs.value.value_of.Reads as reads
-use Rattle.chains.proofs.key.of_atom.Reads as of-atom-reads
-use Rattle.chains.proofs.search.search.Reads as search-reads
-use Rattle.words.proofs.is.Reads as is-reads
 use Rattle.logs.proofs.value.value_of.Goals as goal
-
 
 pub overflow_mul-row : goal.overflow_mul-row
 unfolding row_count

@@ -1,14 +1,7 @@
 -- `matching::lookup::value_at` meets its contract: the arguments are the numbers of the atom's terms, with zeros behind, and the
 -- value is that of the atom.
-use Prim.Native.Nat.{ℕ, ◌+◌, ◌*◌, ◌^◌, ◌≤◌, ◌<◌}
-use mathlib.Core.Path.{◌≡◌, refl, sym, subst}
-use mathlib.Core.Bool.{true}
-use borrow.Author.Rules.{rules}
-use Rattle.model.specs.Lists.{all}
-use Rattle.model.specs.Reading.{places, in_scope}
 use Rattle.matching.proofs.LookupLaws.{atom-value}
 use Rattle.matching.proofs.lookup.value_at.Goals as goal
-
 
 pub returns : goal.returns
 returns c =

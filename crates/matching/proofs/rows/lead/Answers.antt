@@ -2,11 +2,8 @@
 use Prim.Native.Nat.{◌<◌}
 use native.Mathlib.Omega.{arith}
 use mathlib.Core.Path.{sym, ◌∙◌}
-use borrow.Author.Tests.{not-false}
-use Rattle.matching.proofs.WayLaws.{leads-wide, leads-constant, leads-variable, small-first, sixteen}
-use borrow.Author.Rules.{rules}
+use Rattle.matching.proofs.WayLaws.{leads-wide, leads-constant, leads-variable, small-first}
 use Rattle.matching.proofs.rows.lead.Goals as goal
-
 
 pub returns-then-is : goal.returns-then-is
 returns-then-is c =

@@ -1,9 +1,7 @@
 -- `matching::rows::match_rows` meets its contract: the rows are walked along the chain that leads to all that can fit.
 use native.Mathlib.Omega.{arith}
 use Rattle.matching.proofs.WayLaws.{leads_lent}
-use borrow.Author.Rules.{rules}
 use Rattle.matching.proofs.rows.match_rows.Goals as goal
-
 
 pub offset_bounds-links-from : goal.offset_bounds-links-from
 offset_bounds-links-from c =

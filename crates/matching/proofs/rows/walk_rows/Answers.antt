@@ -1,19 +1,14 @@
 -- `matching::rows::walk_rows` meets its contract. The invariant: the rows passed made the environments that stand in the
 -- places filled, and the link is that of the rows left of the chain. The measure is the link, which falls along a chain.
-use Prim.Native.Nat.{ℕ, ◌+◌, ◌-◌, ◌/◌, ◌≤◌}
+use Prim.Native.Nat.{◌+◌, ◌-◌, ◌/◌}
 use native.Mathlib.Omega.{arith}
-use mathlib.Core.Path.{◌≡◌, refl, sym, ◌∙◌}
+use mathlib.Core.Path.{refl, sym, ◌∙◌}
 use lib.ListN.{length}
-use borrow.Author.Tests.{not-true, not-false}
 use Rattle.model.specs.Log.{row_count}
-use Rattle.model.specs.Listing.{Environment}
-use Rattle.chains.specs.Chain as C
 use Rattle.policies.specs.Standing.{terms_at}
-use Rattle.environments.specs.Environment.{Holds}
-use Rattle.matching.proofs.RowLaws.{SoFar, found_here, found-not, row_inside, next-link, next_less, far_start, far_end, far_none}
+use Rattle.matching.proofs.RowLaws.{found_here, found-not, row_inside, next-link, next_less, far_start, far_end, far_none}
 use Rattle.matching.proofs.RowLaws.{far_one, far_short}
 use Rattle.matching.proofs.rows.walk_rows.Goals as goal
-
 
 pub loop-link-init : goal.loop-link-init
 unfolding row_count

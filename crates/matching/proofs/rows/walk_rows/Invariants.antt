@@ -1,17 +1,14 @@
 -- `matching::rows::walk_rows` meets its contract. The invariant: the rows passed made the environments that stand in the
 -- places filled, and the link is that of the rows left of the chain. The measure is the link, which falls along a chain.
-use Prim.Native.Nat.{ℕ, ◌+◌, ◌-◌, ◌/◌, ◌≤◌}
-use native.Mathlib.Omega.{arith}
-use mathlib.Core.Path.{◌≡◌, refl, sym, ◌∙◌}
+use Prim.Native.Nat.{ℕ, ◌-◌, ◌≤◌}
+use mathlib.Core.Path.{◌≡◌}
 use lib.ListN.{length}
-use borrow.Author.Tests.{not-true, not-false}
 use Rattle.model.specs.Log.{row_count}
 use Rattle.model.specs.Listing.{Environment}
 use Rattle.chains.specs.Chain as C
 use Rattle.policies.specs.Standing.{terms_at}
 use Rattle.environments.specs.Environment.{Holds}
-use Rattle.matching.proofs.RowLaws.{SoFar, found_here, found-not, row_inside, next-link, next_less, far_start, far_end, far_none}
-use Rattle.matching.proofs.RowLaws.{far_one, far_short}
+use Rattle.matching.proofs.RowLaws.{SoFar}
 use Rattle.matching.proofs.rows.walk_rows.Given as goal
 
 abbrev pub invariant-loop-link : goal.invariant-loop-link

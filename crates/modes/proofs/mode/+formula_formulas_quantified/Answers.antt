@@ -4,23 +4,17 @@
 use Rattle.std.proofs.Common.{refl}
 use Rattle.std.specs.Prelude.{◌≡◌}
 use Rattle.std.specs.Prelude.{Bool}
-use Prim.Native.Nat.{ℕ, ◌+◌, ◌*◌, ◌-◌, ◌≤◌, ◌<◌}
+use Prim.Native.Nat.{ℕ, ◌+◌, ◌-◌}
 use native.Mathlib.Omega.{arith}
 use mathlib.Core.Path.{sym, ap, ◌∙◌}
-use mathlib.Core.List.{[], ◌∷◌}
-use borrow.Author.Rules.{rules}
-use borrow.Author.Tests.{not-true, not-false}
-use types.Run.{OneOf, miss}
-use denote.Enum.Declared.{tag_of}
 use Rattle.policies.specs.Node.{as_tag, as_role}
 use Rattle.policies.specs.declared.node.Tag.{Tag}
 use Rattle.policies.specs.declared.node.Tag.TheVariants.{Plain, Atom, Compare, Join, Quantifier, Some, Unused}
-use Rattle.policies.specs.contracts.node.Tag.{the_type as tag-type}
 use Rattle.policies.proofs.Stood.{Stood, formula-kind, level-fits, own-fits, next_in, level_in, level_down}
 use Rattle.modes.proofs.ModeFormula.{Leaf}
 use Rattle.modes.proofs.ModeFormula.{join-kind, join-here, join_asks, quantifier-range, quantifier-here, quantifier_asks}
 use Rattle.modes.proofs.ModeFormula.{leaf_asks}
-use Rattle.modes.proofs.ModeFormulaLoops.{SoFar, so_far_none, next_here, next-passed, next-refused, all-passed}
+use Rattle.modes.proofs.ModeFormulaLoops.{next_here, next-passed, next-refused, all-passed}
 use Rattle.modes.proofs.ModeFormulaLoops.{restriction-refused, variables-missed, body-here, body-asked}
 use Rattle.modes.proofs.mode.+formula_formulas_quantified.Goals as goal
 

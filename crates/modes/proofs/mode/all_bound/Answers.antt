@@ -1,18 +1,14 @@
 -- `modes::mode::all_bound` meets its contract. The loop's invariant: the terms from number i on decide.
-use Prim.Native.Nat.{◌-◌, ◌≤◌}
+use Prim.Native.Nat.{◌-◌}
 use native.Mathlib.Omega.{arith}
-use mathlib.Core.Path.{◌≡◌, sym, ◌∙◌}
-use borrow.Author.Tests.{not-true, not-false}
-use Rattle.model.specs.Lists.{all}
+use mathlib.Core.Path.{sym, ◌∙◌}
 use Rattle.model.specs.Reading.{term_at, in_scope}
 use Rattle.model.specs.Mode.{is_bound}
-use Rattle.policies.specs.Standing.{terms_at}
 use Rattle.modes.specs.Mode.{set_of}
-use Rattle.policies.proofs.NodeTerms.{from, from_first, from_last, from-yes, from-no}
+use Rattle.policies.proofs.NodeTerms.{from_first, from_last, from-yes, from-no}
 use Rattle.policies.proofs.TermLaws.{place-holds}
 use Rattle.modes.proofs.ModeTerms.{bound-places}
 use Rattle.modes.proofs.mode.all_bound.Goals as goal
-
 
 pub loop-i-init : goal.loop-i-init
 loop-i-init c = (

@@ -1,16 +1,12 @@
 -- `modes::mode::all_bound` meets its contract. The loop's invariant: the terms from number i on decide.
 use Prim.Native.Nat.{◌-◌, ◌≤◌}
-use native.Mathlib.Omega.{arith}
-use mathlib.Core.Path.{◌≡◌, sym, ◌∙◌}
-use borrow.Author.Tests.{not-true, not-false}
+use mathlib.Core.Path.{◌≡◌}
 use Rattle.model.specs.Lists.{all}
-use Rattle.model.specs.Reading.{term_at, in_scope}
+use Rattle.model.specs.Reading.{term_at}
 use Rattle.model.specs.Mode.{is_bound}
 use Rattle.policies.specs.Standing.{terms_at}
 use Rattle.modes.specs.Mode.{set_of}
-use Rattle.policies.proofs.NodeTerms.{from, from_first, from_last, from-yes, from-no}
-use Rattle.policies.proofs.TermLaws.{place-holds}
-use Rattle.modes.proofs.ModeTerms.{bound-places}
+use Rattle.policies.proofs.NodeTerms.{from}
 use Rattle.modes.proofs.mode.all_bound.Given as goal
 
 abbrev pub invariant-loop-i : goal.invariant-loop-i

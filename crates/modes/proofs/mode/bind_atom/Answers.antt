@@ -1,14 +1,9 @@
 -- `modes::mode::bind_atom` meets its contract, by the tests on its terms.
-use Prim.Native.Nat.{ℕ, ◌+◌, ◌*◌, ◌^◌, ◌≤◌, ◌<◌}
-use mathlib.Core.Path.{◌≡◌, sym, ◌∙◌, subst}
+use mathlib.Core.Path.{sym, ◌∙◌}
 use mathlib.Core.Bool.{true}
-use borrow.Author.Tests.{not-true, not-false}
-use Rattle.model.specs.Lists.{all}
-use Rattle.model.specs.Reading.{places, in_scope}
 use Rattle.modes.proofs.ModeAtoms.{atom_inputs_no, atom_inputs_yes, atom-all-no, atom-all-yes}
 use borrow.Author.Rules.{rules}
 use Rattle.modes.proofs.mode.bind_atom.Goals as goal
-
 
 pub returns-then-not-inputs_bound : goal.returns-then-not-inputs_bound
 returns-then-not-inputs_bound c =

@@ -1,10 +1,8 @@
 -- `modes::mode::bind_compare` meets its contract, by the test on its terms.
 use mathlib.Core.Path.{sym, ◌∙◌}
-use borrow.Author.Tests.{not-true, not-false}
 use Rattle.modes.proofs.ModeAtoms.{compare-all-no, compare-all-yes}
 use borrow.Author.Rules.{rules}
 use Rattle.modes.proofs.mode.bind_compare.Goals as goal
-
 
 pub returns-then-not-all_bound : goal.returns-then-not-all_bound
 returns-then-not-all_bound c =

@@ -1,13 +1,6 @@
 -- `modes::mode::both` meets its contract. The loop's invariant: the marks below i are those of both sets.
-use Prim.Native.Nat.{◌+◌, ◌-◌, ◌≤◌}
-use native.Mathlib.Omega.{arith}
-use mathlib.Core.Path.{sym, subst}
-use mathlib.Core.Bool.{Bool}
-use mathlib.Core.List.{List}
-use mathlib.Core.Logic.{⊎_elim}
-use borrow.Author.Rules.{rules}
-use borrow.Author.Tests.{not-true, not-false}
-use Rattle.modes.proofs.ModeTerms.{Joining, joining-start, joining-drop, joining-keep, joining_end}
+use Prim.Native.Nat.{◌-◌, ◌≤◌}
+use Rattle.modes.proofs.ModeTerms.{Joining}
 use Rattle.modes.proofs.mode.both.Given as goal
 
 abbrev pub invariant-loop-i : goal.invariant-loop-i

@@ -1,11 +1,9 @@
 -- `modes::mode::check_modes` meets its contract, by that of `formula` at the policy's root.
 use native.Mathlib.Omega.{arith}
 use mathlib.Core.Path.{sym, ◌∙◌}
-use borrow.Author.Rules.{rules}
 use Rattle.policies.proofs.Stood.{formula-kind}
 use Rattle.modes.proofs.ModeFormulaLoops.{told-passed, told-refused}
 use Rattle.modes.proofs.mode.check_modes.Goals as goal
-
 
 pub formula-root-requires : goal.formula-root-requires
 formula-root-requires c = (c.requires.0, omega arith, omega arith, formula-kind, c.requires.1)

@@ -1,18 +1,14 @@
 -- `modes::mode::inputs_bound` meets its contract. The loop's invariant: the terms from number i on decide.
-use Prim.Native.Nat.{◌-◌, ◌≤◌}
+use Prim.Native.Nat.{◌-◌}
 use native.Mathlib.Omega.{arith}
-use mathlib.Core.Path.{◌≡◌, sym, ap, ◌∙◌}
-use borrow.Author.Tests.{not-true, not-false}
-use mathlib.Core.Logic.{⊎_elim}
+use mathlib.Core.Path.{sym, ap, ◌∙◌}
 use Rattle.model.specs.Reading.{in_scope}
 use Rattle.model.specs.Mode.{inputs_bound}
-use Rattle.policies.specs.Standing.{terms_at}
 use Rattle.modes.specs.Mode.{set_of}
-use Rattle.policies.proofs.TermLaws.{place-holds, terms_from, terms-first, terms-next, terms-last}
+use Rattle.policies.proofs.TermLaws.{place-holds, terms-first, terms-next, terms-last}
 use Rattle.modes.proofs.ModeTerms.{inputs_free, inputs_yes, inputs_no}
 use Rattle.modes.proofs.mode.inputs_bound.Goals as goal
 use Rattle.modes.proofs.mode.inputs_bound.Goals.{then-input+else-not-term_bound, else-input}
-
 
 pub loop-i-init : goal.loop-i-init
 loop-i-init c = (

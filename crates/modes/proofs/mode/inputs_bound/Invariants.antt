@@ -1,15 +1,10 @@
 -- `modes::mode::inputs_bound` meets its contract. The loop's invariant: the terms from number i on decide.
 use Prim.Native.Nat.{◌-◌, ◌≤◌}
-use native.Mathlib.Omega.{arith}
-use mathlib.Core.Path.{◌≡◌, sym, ap, ◌∙◌}
-use borrow.Author.Tests.{not-true, not-false}
-use mathlib.Core.Logic.{⊎_elim}
-use Rattle.model.specs.Reading.{in_scope}
+use mathlib.Core.Path.{◌≡◌}
 use Rattle.model.specs.Mode.{inputs_bound}
 use Rattle.policies.specs.Standing.{terms_at}
 use Rattle.modes.specs.Mode.{set_of}
-use Rattle.policies.proofs.TermLaws.{place-holds, terms_from, terms-first, terms-next, terms-last}
-use Rattle.modes.proofs.ModeTerms.{inputs_free, inputs_yes, inputs_no}
+use Rattle.policies.proofs.TermLaws.{terms_from}
 use Rattle.modes.proofs.mode.inputs_bound.Given as goal
 
 abbrev pub invariant-loop-i : goal.invariant-loop-i

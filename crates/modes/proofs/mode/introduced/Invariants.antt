@@ -1,11 +1,9 @@
 -- `modes::mode::introduced` meets its contract. The loop's invariant: the variables from number i on decide.
 use Prim.Native.Nat.{◌-◌, ◌≤◌}
-use native.Mathlib.Omega.{arith}
-use mathlib.Core.Path.{◌≡◌, sym, ◌∙◌}
-use borrow.Author.Tests.{not-true, not-false}
+use mathlib.Core.Path.{◌≡◌}
 use Rattle.model.specs.Lists.{span, all}
 use Rattle.modes.specs.Mode.{set_of}
-use Rattle.modes.proofs.ModeFormulaSets.{left, left-first, left-last, left-yes, left-no}
+use Rattle.modes.proofs.ModeFormulaSets.{left}
 use Rattle.modes.proofs.mode.introduced.Given as goal
 
 abbrev pub invariant-loop-i : goal.invariant-loop-i

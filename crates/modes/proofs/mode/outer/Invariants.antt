@@ -1,9 +1,6 @@
 -- `modes::mode::outer` meets its contract. The loop's invariant: the marks below i are set, and no others.
 use Prim.Native.Nat.{◌-◌, ◌≤◌}
-use native.Mathlib.Omega.{arith}
-use mathlib.Core.Path.{◌≡◌, ap, ◌∙◌}
-use lib.Dec.{ltb}
-use Rattle.modes.proofs.ModeFormulaSets.{Marked, marked_none, marked_more}
+use Rattle.modes.proofs.ModeFormulaSets.{Marked}
 use Rattle.modes.proofs.mode.outer.Given as goal
 
 abbrev pub invariant-loop-i : goal.invariant-loop-i

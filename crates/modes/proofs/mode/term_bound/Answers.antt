@@ -1,12 +1,10 @@
 -- `modes::mode::term_bound` meets its contract: a term in scope that is no constant is a variable below 16.
 use native.Mathlib.Omega.{arith}
 use mathlib.Core.Path.{sym, ap, ◌∙◌}
-use borrow.Author.Rules.{rules}
 use Rattle.modes.specs.Mode.{set_of}
 use Rattle.policies.proofs.TermLaws.{variable-small}
 use Rattle.modes.proofs.ModeTerms.{constant-bound, variable-bound}
 use Rattle.modes.proofs.mode.term_bound.Goals as goal
-
 
 pub returns-then-is : goal.returns-then-is
 returns-then-is c =

@@ -2,11 +2,9 @@
 -- closed.
 use native.Mathlib.Omega.{arith}
 use mathlib.Core.Path.{sym, ◌∙◌}
-use Rattle.nodes.proofs.Concluding.{concluding_here, concluding_sizes, concluding_restriction, concluding_closed}
+use Rattle.nodes.proofs.Concluding.{concluding_sizes, concluding_restriction, concluding_closed}
 use Rattle.nodes.proofs.Concluding.{concluded-closed, concluding_long, concluding_adding, concluding_joining, concluded_open}
-use borrow.Author.Rules.{rules}
 use Rattle.nodes.proofs.conclude.conclude.Goals as goal
-
 
 pub overflow_mul-v : goal.overflow_mul-v
 overflow_mul-v c =

@@ -1,10 +1,7 @@
 -- `nodes::ground::atom` meets its contract, by the value found.
 use native.Mathlib.Omega.{arith}
-use borrow.Author.Rules.{rules}
 use Rattle.nodes.proofs.GroundLaws.{atom_asks, atom_grown, reduces_true, reduces_false, reduces_open}
-use borrow.Author.Rules.{rules}
 use Rattle.nodes.proofs.ground.atom.Goals as goal
-
 
 pub value_at-found-requires : goal.value_at-found-requires
 value_at-found-requires c =

@@ -3,7 +3,6 @@ use native.Mathlib.Omega.{arith}
 use Rattle.nodes.proofs.GroundLaws.{compare_asks, reduces_compare}
 use Rattle.nodes.proofs.ground.compare.Goals as goal
 
-
 pub compare-requires : goal.compare-requires
 compare-requires c = let a = c.args in compare_asks a.words.now a.holds a.at (omega arith) c.requires
 

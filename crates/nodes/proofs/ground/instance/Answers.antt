@@ -1,17 +1,16 @@
 -- `nodes::ground::instance` meets its contract. The loop's invariant: the environment so far binds i variables more, to the first
 -- i numbers of the instance.
-use Prim.Native.Nat.{◌+◌, ◌*◌, ◌-◌, ◌≤◌}
+use Prim.Native.Nat.{◌+◌, ◌*◌, ◌-◌}
 use native.Mathlib.Omega.{arith}
-use mathlib.Core.Path.{◌≡◌, subst}
+use mathlib.Core.Path.{◌≡◌}
 use lib.ListN.{get_or}
 use lib.IntN.{pos}
 use mir.Syntax.{w32}
 use mir.Val.{to_z, of_z}
 use borrow.Author.Rules.{rules}
 use Rattle.environments.proofs.Places.{held-bind}
-use Rattle.nodes.proofs.GroundLaws.{Binding, binding-none, binding-more}
+use Rattle.nodes.proofs.GroundLaws.{binding-more}
 use Rattle.nodes.proofs.ground.instance.Goals as goal
-
 
 pub loop-i-preserved : goal.loop-i-preserved
 loop-i-preserved c =

@@ -1,15 +1,7 @@
 -- `nodes::ground::instance` meets its contract. The loop's invariant: the environment so far binds i variables more, to the first
 -- i numbers of the instance.
-use Prim.Native.Nat.{◌+◌, ◌*◌, ◌-◌, ◌≤◌}
-use native.Mathlib.Omega.{arith}
-use mathlib.Core.Path.{◌≡◌, subst}
-use lib.ListN.{get_or}
-use lib.IntN.{pos}
-use mir.Syntax.{w32}
-use mir.Val.{to_z, of_z}
-use borrow.Author.Rules.{rules}
-use Rattle.environments.proofs.Places.{held-bind}
-use Rattle.nodes.proofs.GroundLaws.{Binding, binding-none, binding-more}
+use Prim.Native.Nat.{◌-◌, ◌≤◌}
+use Rattle.nodes.proofs.GroundLaws.{Binding}
 use Rattle.nodes.proofs.ground.instance.Given as goal
 
 abbrev pub invariant-loop-i : goal.invariant-loop-i

@@ -3,9 +3,7 @@ use Prim.Native.Nat.{◌+◌, ◌*◌, ◌≤◌}
 use native.Mathlib.Omega.{arith}
 use lib.ListN.{length}
 use Rattle.nodes.proofs.GroundLaws.{stay_fits, stay_room, stays_long, stays_part, stays_closed}
-use borrow.Author.Rules.{rules}
 use Rattle.nodes.proofs.ground.stay.Goals as goal
-
 
 pub overflow_mul-size : goal.overflow_mul-size
 overflow_mul-size c =

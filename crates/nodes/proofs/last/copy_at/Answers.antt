@@ -1,10 +1,7 @@
 -- `nodes::last::copy_at` meets its contract: the part behind the index is lent, and the copy stands at its front.
 use lib.ListN.{take}
-use borrow.Author.Rules.{rules}
-use Rattle.nodes.proofs.LastLaws.{copy_room, copy_laid}
-use borrow.Author.Rules.{rules}
+use Rattle.nodes.proofs.LastLaws.{copy_laid}
 use Rattle.nodes.proofs.last.copy_at.Goals as goal
-
 
 pub returns : goal.returns
 returns c =

@@ -1,11 +1,8 @@
 -- `nodes::last::front` meets its contract: the head, the excluded tuples and the tuples in scratch are laid one behind another.
-use native.Mathlib.Omega.{arith}
 use mathlib.Core.Path.{refl}
 use lib.ListN.{length}
-use Rattle.nodes.proofs.LastLaws.{front_sums, front-laid}
-use borrow.Author.Rules.{rules}
+use Rattle.nodes.proofs.LastLaws.{front-laid}
 use Rattle.nodes.proofs.last.front.Goals as goal
-
 
 pub returns : goal.returns
 returns c =

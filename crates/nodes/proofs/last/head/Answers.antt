@@ -7,9 +7,7 @@ use mir.Syntax.{w32}
 use mir.Val.{SFits, to_z, of_z}
 use mir.Facts.{to_z-of_z}
 use Rattle.nodes.proofs.LastLaws.{head-laid}
-use borrow.Author.Rules.{rules}
 use Rattle.nodes.proofs.last.head.Goals as goal
-
 
 pub returns : goal.returns
 returns c =

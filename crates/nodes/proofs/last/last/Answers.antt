@@ -3,9 +3,7 @@
 use native.Mathlib.Omega.{arith}
 use lib.ListN.{length}
 use Rattle.nodes.proofs.LastLaws.{Sizes, here_sizes, here_fronts, here-restriction, here-body, remains_long, remains_part}
-use borrow.Author.Rules.{rules}
 use Rattle.nodes.proofs.last.last.Goals as goal
-
 
 pub overflow_mul-start : goal.overflow_mul-start
 overflow_mul-start c =

@@ -3,9 +3,8 @@ use Prim.Native.Nat.{◌+◌, ◌*◌, ◌-◌, ◌≤◌}
 use native.Mathlib.Omega.{arith}
 use lib.ListN.{length}
 use mathlib.Core.Path.{◌≡◌}
-use Rattle.nodes.proofs.LastLaws.{Copied, copied_start, copied_long, copied_room, copied_more, copied_end}
+use Rattle.nodes.proofs.LastLaws.{copied_start, copied_long, copied_room, copied_more, copied_end}
 use Rattle.nodes.proofs.last.tuples.Goals as goal
-
 
 pub loop-j-init : goal.loop-j-init
 loop-j-init c =

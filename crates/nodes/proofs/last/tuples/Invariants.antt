@@ -1,9 +1,6 @@
 -- `nodes::last::tuples` meets its contract. The loop's invariant: the first j tuples stand one behind another, up to `end`.
-use Prim.Native.Nat.{◌+◌, ◌*◌, ◌-◌, ◌≤◌}
-use native.Mathlib.Omega.{arith}
-use lib.ListN.{length}
-use mathlib.Core.Path.{◌≡◌}
-use Rattle.nodes.proofs.LastLaws.{Copied, copied_start, copied_long, copied_room, copied_more, copied_end}
+use Prim.Native.Nat.{◌+◌, ◌*◌, ◌-◌}
+use Rattle.nodes.proofs.LastLaws.{Copied}
 use Rattle.nodes.proofs.last.tuples.Given as goal
 
 abbrev pub invariant-loop-j : goal.invariant-loop-j

@@ -1,11 +1,10 @@
 -- `nodes::prepare::prepare` meets its contract, from what the listing and the choice of instances ensure.
 use Prim.Native.Nat.{ℕ, ◌+◌, ◌*◌, ◌/◌, ◌≤◌}
 use native.Mathlib.Omega.{arith}
-use mathlib.Core.Path.{sym, ap, ◌∙◌, subst}
+use mathlib.Core.Path.{sym, ◌∙◌, subst}
 use mathlib.Core.List.{List, [], ◌∷◌}
 use lib.ListN.{length}
 use lib.IntN.{ℤ}
-use borrow.Author.Rules.{rules}
 use Rattle.model.specs.Words.{value}
 use Rattle.model.specs.Tree.{Tree}
 use Rattle.model.specs.Level.{restriction}
@@ -18,7 +17,6 @@ use Rattle.listing.specs.Restrictions as R
 use Rattle.nodes.specs.Ground.{Outer}
 use Rattle.nodes.proofs.Preparing.{alone, alone_roomy, alone-holds, prepare_short, prepare_inside, prepare_stood}
 use Rattle.nodes.proofs.prepare.prepare.Goals as goal
-
 
 pub list-made-requires : goal.list-made-requires
 list-made-requires c =

@@ -1,13 +1,10 @@
 -- `policies::node::arity_fits` meets its contract: the predicate is in the table, and its arity the atom's.
 use Prim.Native.Nat.{ℕ, ◌+◌}
 use mathlib.Core.Path.{◌≡◌, sym, ap, ◌∙◌}
-use borrow.Author.Rules.{rules}
-use borrow.Author.Tests.{not-true, not-false}
 use Rattle.model.specs.Words.{word, below}
 use Rattle.model.specs.Table.{predicates, arity}
 use Rattle.model.specs.Reading.{good_predicate}
 use Rattle.policies.proofs.node.arity_fits.Goals as goal
-
 
 pub returns-then-not-below : goal.returns-then-not-below
 unfolding good_predicate

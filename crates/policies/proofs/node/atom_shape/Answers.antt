@@ -3,8 +3,6 @@ use Prim.Native.Nat.{◌≤◌, ◌+◌}
 use native.Mathlib.Omega.{arith}
 use mathlib.Core.Path.{◌≡◌, sym, ◌∙◌}
 use mathlib.Core.Bool.{true}
-use borrow.Author.Rules.{rules}
-use borrow.Author.Tests.{not-true, not-false}
 use Rattle.model.specs.Words.{word, value, within}
 use Rattle.model.specs.Tag.{Tag}
 use Rattle.model.specs.Lists.{all}
@@ -12,7 +10,6 @@ use Rattle.model.specs.Reading.{places, good_kind, own}
 use Rattle.laws.specs.Words.Standing.{within-value}
 use Rattle.policies.proofs.NodeShape.{short, enough}
 use Rattle.policies.proofs.node.atom_shape.Goals as goal
-
 
 pub returns-then-not-within : goal.returns-then-not-within
 unfolding own

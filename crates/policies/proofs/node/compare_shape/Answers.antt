@@ -1,11 +1,9 @@
 -- `policies::node::compare_shape` meets its contract: the room for six words, and then the kinds of the two terms.
 use mathlib.Core.Path.{◌∙◌}
-use borrow.Author.Rules.{rules}
 use Rattle.model.specs.Tag.{Tag}
 use Rattle.model.specs.Reading.{own}
 use Rattle.policies.proofs.NodeShape.{short, enough}
 use Rattle.policies.proofs.node.compare_shape.Goals as goal
-
 
 pub returns-then-words-at-lt6 : goal.returns-then-words-at-lt6
 unfolding own

@@ -1,16 +1,11 @@
 -- `policies::node::cost` meets its contract, by the tag.
 use Rattle.std.specs.Prelude.{Bool}
 use mathlib.Core.Path.{◌≡◌, refl}
-use mathlib.Core.List.{[], ◌∷◌}
-use borrow.Author.Rules.{rules}
-use types.Run.{OneOf, miss}
-use denote.Enum.Declared.{tag_of}
 use Rattle.model.specs.Level as L
 use Rattle.policies.specs.Node.{as_tag, as_role}
 use Rattle.policies.specs.declared.node.Tag.{Tag}
 use Rattle.policies.specs.declared.node.Tag.TheVariants.{Plain, Atom, Compare, Join, Quantifier, Some, Unused}
 use Rattle.policies.specs.declared.node.Role.{Role}
-use Rattle.policies.specs.contracts.node.Tag.{the_type}
 use Rattle.policies.proofs.node.cost.Goals as goal
 
 -- every tag but a quantifier's costs 1

@@ -1,9 +1,7 @@
 -- `policies::node::in_scope` meets its contract: by the kind of the term.
 use mathlib.Core.Path.{sym, ◌∙◌}
-use borrow.Author.Rules.{rules}
 use Rattle.model.specs.Reading.{in_scope}
 use Rattle.policies.proofs.node.in_scope.Goals as goal
-
 
 pub returns-then-is : goal.returns-then-is
 unfolding in_scope

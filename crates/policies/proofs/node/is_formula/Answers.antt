@@ -1,15 +1,10 @@
 -- `policies::node::is_formula` meets its contract, by the role.
 use mathlib.Core.Path.{◌≡◌, refl}
 use mathlib.Core.Bool.{true}
-use mathlib.Core.List.{[], ◌∷◌}
-use borrow.Author.Rules.{rules}
-use types.Run.{OneOf, miss}
-use denote.Enum.Declared.{tag_of}
 use Rattle.model.specs.Reading.{is_formula}
 use Rattle.policies.specs.Node.{as_role}
 use Rattle.policies.specs.declared.node.Role.{Role}
 use Rattle.policies.specs.declared.node.Role.TheVariants.{Restriction, Formula, Operand}
-use Rattle.policies.specs.contracts.node.Role.{the_type}
 use Rattle.policies.proofs.node.is_formula.Goals as goal
 
 -- every role but a restriction's

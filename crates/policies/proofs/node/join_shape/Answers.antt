@@ -1,11 +1,9 @@
 -- `policies::node::join_shape` meets its contract: the room for two words, and then the count.
 use mathlib.Core.Path.{◌∙◌}
-use borrow.Author.Rules.{rules}
 use Rattle.model.specs.Tag.{Tag}
 use Rattle.model.specs.Reading.{own}
 use Rattle.policies.proofs.NodeShape.{short, enough}
 use Rattle.policies.proofs.node.join_shape.Goals as goal
-
 
 pub returns-then-words-at-lt2 : goal.returns-then-words-at-lt2
 unfolding own

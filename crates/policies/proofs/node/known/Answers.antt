@@ -3,16 +3,11 @@ use Rattle.std.specs.Prelude.{Bool}
 use Prim.Native.Nat.{ℕ}
 use mathlib.Core.Path.{◌≡◌, refl}
 use mathlib.Core.Bool.{true}
-use mathlib.Core.List.{[], ◌∷◌}
-use borrow.Author.Rules.{rules}
-use types.Run.{OneOf, miss}
-use denote.Enum.Declared.{tag_of}
 use Rattle.model.specs.Words.{Words}
 use Rattle.model.specs.Reading.{good_predicate}
 use Rattle.policies.specs.Node.{as_tag}
 use Rattle.policies.specs.declared.node.Tag.{Tag}
 use Rattle.policies.specs.declared.node.Tag.TheVariants.{Plain, Atom, Compare, Join, Quantifier, Some, Unused}
-use Rattle.policies.specs.contracts.node.Tag.{the_type}
 use Rattle.policies.proofs.node.known.Goals as goal
 
 -- every tag but an atom's

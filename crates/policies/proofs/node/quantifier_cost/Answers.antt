@@ -1,16 +1,11 @@
 -- `policies::node::quantifier_cost` meets its contract: by the role, and for an operand by the two Bools.
 use mathlib.Core.Path.{◌≡◌, refl}
 use mathlib.Core.Bool.{Bool, true, false}
-use mathlib.Core.List.{[], ◌∷◌}
-use borrow.Author.Rules.{rules}
-use types.Run.{OneOf, miss}
-use denote.Enum.Declared.{tag_of}
 use Rattle.model.specs.Words.{same}
 use Rattle.model.specs.Level.{quantifier_cost}
 use Rattle.policies.specs.Node.{as_role}
 use Rattle.policies.specs.declared.node.Role.{Role}
 use Rattle.policies.specs.declared.node.Role.TheVariants.{Restriction, Formula, Operand}
-use Rattle.policies.specs.contracts.node.Role.{the_type}
 use Rattle.policies.proofs.node.quantifier_cost.Goals as goal
 
 -- in every other role it costs 2

@@ -2,13 +2,10 @@
 use Prim.Native.Nat.{◌+◌}
 use mathlib.Core.Path.{◌≡◌, sym, ◌∙◌}
 use mathlib.Core.Bool.{true}
-use borrow.Author.Rules.{rules}
-use borrow.Author.Tests.{not-true, not-false}
 use Rattle.model.specs.Words.{word, within}
 use Rattle.model.specs.Reading.{is_formula, own}
 use Rattle.policies.specs.Node.{as_role}
 use Rattle.policies.proofs.node.quantifier_shape.Goals as goal
-
 
 pub returns-then-not-is_formula : goal.returns-then-not-is_formula
 unfolding own

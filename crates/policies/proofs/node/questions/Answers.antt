@@ -3,13 +3,11 @@ use Rattle.std.specs.Prelude.{not}
 use Rattle.std.proofs.Common.{ap}
 use Prim.Native.Nat.{◌+◌, ◌≤◌}
 use native.Mathlib.Omega.{arith}
-use borrow.Author.Rules.{rules}
 use Rattle.model.specs.Words.{level_limit}
 use Rattle.model.specs.Level.{cost}
 use Rattle.policies.specs.Node.{as_tag, as_role}
 use Rattle.policies.proofs.NodeQuestions.{shape-no, shaped_there, level-no, predicate-no, variable-no, all_yes}
 use Rattle.policies.proofs.node.questions.Goals as goal
-
 
 pub returns-then-not-shape : goal.returns-then-not-shape
 returns-then-not-shape c =

@@ -5,10 +5,6 @@ use native.Mathlib.Omega.{arith}
 use native.Mathlib.Numerals.{add-one}
 use mathlib.Core.Path.{◌≡◌, refl, sym, ap}
 use mathlib.Core.Bool.{true}
-use mathlib.Core.List.{[], ◌∷◌}
-use borrow.Author.Rules.{rules}
-use types.Run.{OneOf, miss}
-use denote.Enum.Declared.{tag_of}
 use lib.ListN.{length}
 use lib.Dec.{leb}
 use Rattle.model.specs.Words.{Words, value}
@@ -18,7 +14,6 @@ use Rattle.policies.specs.Node.{as_tag}
 use Rattle.policies.specs.declared.node.Tag.{Tag}
 use Rattle.policies.specs.declared.node.Tag.TheVariants.{Plain, Atom, Compare, Join, Quantifier, Some, Unused}
 use Rattle.policies.proofs.NodeShape.{fitting_same, atom-there, compare-there, quantifier-there}
-use Rattle.policies.specs.contracts.node.Tag.{the_type}
 use Rattle.policies.proofs.node.scoped.Goals as goal
 
 -- the other tags

@@ -2,12 +2,10 @@
 use Prim.Native.Nat.{ℕ}
 use native.Mathlib.Numerals.{add-one}
 use mathlib.Core.Path.{sym, ap}
-use borrow.Author.Rules.{rules}
 use lib.ListN.{length}
 use lib.Dec.{leb}
 use Rattle.model.specs.Reading.{own}
 use Rattle.policies.proofs.node.shape.Goals as goal
-
 
 pub returns-in-Plain : goal.returns-in-Plain
 unfolding own

@@ -3,10 +3,6 @@ use Rattle.std.specs.Prelude.{Bool}
 use Prim.Native.Nat.{ℕ, ◌+◌, ◌*◌, ◌≤◌}
 use native.Mathlib.Omega.{arith}
 use mathlib.Core.Path.{◌≡◌, refl, ap}
-use mathlib.Core.List.{[], ◌∷◌}
-use borrow.Author.Rules.{rules}
-use types.Run.{OneOf, miss}
-use denote.Enum.Declared.{tag_of}
 use lib.ListN.{length}
 use Rattle.model.specs.Words.{Words, value}
 use Rattle.model.specs.Level as L
@@ -15,7 +11,6 @@ use Rattle.policies.specs.Node.{as_tag}
 use Rattle.policies.specs.declared.node.Tag.{Tag}
 use Rattle.policies.specs.declared.node.Tag.TheVariants.{Plain, Atom, Compare, Join, Quantifier, Some, Unused}
 use Rattle.policies.proofs.NodeShape.{atom-there, quantifier-there}
-use Rattle.policies.specs.contracts.node.Tag.{the_type}
 use Rattle.policies.proofs.node.size.Goals as goal
 
 -- the other tags

@@ -1,13 +1,11 @@
 -- `policies::node::tag_at` meets its contract: a word that is not negative is looked up by its number.
 use Prim.Native.Nat.{ℕ}
 use mathlib.Core.Path.{◌≡◌, refl, ◌∙◌, sym}
-use borrow.Author.Rules.{rules}
 use lib.ListN.{get_or}
 use Rattle.model.specs.Words.{word, value}
 use Rattle.model.specs.Tag.{Tag, tags, tag_of}
 use Rattle.policies.proofs.NodeTag.{negative_tag, number_tag, no_tag, none_below}
 use Rattle.policies.proofs.node.tag_at.Goals as goal
-
 
 pub returns-then-negative : goal.returns-then-negative
 returns-then-negative c = negative_tag _ (sym c.negative.ensures ∙ c.if-negative.true)

@@ -2,7 +2,6 @@
 use Prim.Native.Nat.{◌+◌, ◌*◌, ◌-◌, ◌^◌, ◌≤◌, ◌<◌}
 use native.Mathlib.Omega.{arith}
 use mathlib.Core.Path.{sym}
-use borrow.Author.Rules.{rules}
 use borrow.Author.Tests.{lt-leb}
 use lib.ListN.{length}
 use Rattle.model.specs.Words.{value}
@@ -10,7 +9,6 @@ use Rattle.model.specs.Reading.{own}
 use Rattle.laws.specs.Words.Standing.{within-value}
 use Rattle.policies.proofs.NodeShape.{fitting_same, too_many, four_times}
 use Rattle.policies.proofs.node.tuples_there.Goals as goal
-
 
 pub returns-then-left-m : goal.returns-then-left-m
 unfolding own value

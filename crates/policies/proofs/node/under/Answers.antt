@@ -1,8 +1,6 @@
 -- `policies::node::under` meets its contract, by the role.
-use borrow.Author.Rules.{rules}
 use Rattle.model.specs.Level.{under}
 use Rattle.policies.proofs.node.under.Goals as goal
-
 
 pub returns-in-Restriction : goal.returns-in-Restriction
 unfolding under

@@ -1,14 +1,11 @@
 -- `policies::node::variables` meets its contract. The loop's invariant: the terms from number i on decide. The measure is their number.
-use Prim.Native.Nat.{◌-◌, ◌≤◌}
+use Prim.Native.Nat.{◌-◌}
 use native.Mathlib.Omega.{arith}
-use mathlib.Core.Path.{◌≡◌, sym, ◌∙◌}
+use mathlib.Core.Path.{sym, ◌∙◌}
 use borrow.Author.Rules.{rules}
-use borrow.Author.Tests.{not-true, not-false}
-use Rattle.model.specs.Lists.{all}
-use Rattle.model.specs.Reading.{places, in_scope}
-use Rattle.policies.proofs.NodeTerms.{from, from_first, from_last, from-yes, from-no}
+use Rattle.model.specs.Reading.{in_scope}
+use Rattle.policies.proofs.NodeTerms.{from_first, from_last, from-yes, from-no}
 use Rattle.policies.proofs.node.variables.Goals as goal
-
 
 pub loop-i-init : goal.loop-i-init
 loop-i-init c = (search rules, from_first _ _ _)

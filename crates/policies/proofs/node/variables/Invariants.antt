@@ -1,12 +1,9 @@
 -- `policies::node::variables` meets its contract. The loop's invariant: the terms from number i on decide. The measure is their number.
 use Prim.Native.Nat.{◌-◌, ◌≤◌}
-use native.Mathlib.Omega.{arith}
-use mathlib.Core.Path.{◌≡◌, sym, ◌∙◌}
-use borrow.Author.Rules.{rules}
-use borrow.Author.Tests.{not-true, not-false}
+use mathlib.Core.Path.{◌≡◌}
 use Rattle.model.specs.Lists.{all}
 use Rattle.model.specs.Reading.{places, in_scope}
-use Rattle.policies.proofs.NodeTerms.{from, from_first, from_last, from-yes, from-no}
+use Rattle.policies.proofs.NodeTerms.{from}
 use Rattle.policies.proofs.node.variables.Given as goal
 
 abbrev pub invariant-loop-i : goal.invariant-loop-i

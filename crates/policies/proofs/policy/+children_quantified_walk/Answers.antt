@@ -3,14 +3,10 @@
 -- The loop of `children`: the nodes left tell what all of them do, given the greatest level of those behind.
 use Rattle.std.proofs.Common.{refl}
 use Rattle.std.specs.Prelude.{Bool}
-use Prim.Native.Nat.{ℕ, ◌+◌, ◌*◌, ◌-◌, ◌≤◌, ◌<◌}
+use Prim.Native.Nat.{ℕ, ◌+◌, ◌-◌}
 use native.Mathlib.Omega.{arith}
 use mathlib.Core.Path.{◌≡◌, sym, ap, ◌∙◌}
-use mathlib.Core.List.{[], ◌∷◌}
 use borrow.Author.Rules.{rules}
-use types.Run.{OneOf, miss}
-use denote.Enum.Declared.{tag_of}
-use lib.ListN.{length}
 use Rattle.model.specs.Answer.{passed}
 use Rattle.model.specs.Level.{restriction}
 use Rattle.model.specs.Reading.{questions}
@@ -19,9 +15,8 @@ use Rattle.tables.specs.Checked.{outcome}
 use Rattle.policies.specs.Node.{as_tag, as_role}
 use Rattle.policies.specs.declared.node.Tag.{Tag}
 use Rattle.policies.specs.declared.node.Tag.TheVariants.{Plain, Atom, Compare, Join, Quantifier, Some, Unused}
-use Rattle.policies.proofs.PolicyRead.{read_fits, Left, left-first, left-last, left-refused}
+use Rattle.policies.proofs.PolicyRead.{read_fits, left-first, left-last, left-refused}
 use Rattle.policies.proofs.PolicyRead.{left-read, restriction-refused, body_refused, both_read}
-use Rattle.policies.specs.contracts.node.Tag.{the_type as tag-type}
 use Rattle.policies.proofs.NodeQuestions.{fits-there}
 use Rattle.policies.proofs.PolicyNode.{refused-tells, Entered, next_fits, level-fits, level_down, quantifier-range}
 use Rattle.policies.proofs.PolicyNode.{some-range, join-tells, quantifier-tells, some-tells, Leaf, leaf-tells}

@@ -1,8 +1,6 @@
 -- `policies::policy::ask_policy` meets its contract: by the length, and then by what the walk from the root tells.
-use borrow.Author.Rules.{rules}
 use Rattle.policies.proofs.PolicyWhole.{none, too_long, root-refused, root-short, root-whole}
 use Rattle.policies.proofs.policy.ask_policy.Goals as goal
-
 
 pub returns-then-n-lt1 : goal.returns-then-n-lt1
 returns-then-n-lt1 c = none c.args.table.now c.args.policy.now c.if-n-lt1.true

@@ -5,9 +5,7 @@ use Rattle.model.specs.Answer.{passed}
 use Rattle.model.specs.Log.{ask_log}
 use Rattle.tables.specs.Checked.{outcome}
 use Rattle.residuals.proofs.ReduceCall.{root, log-refused, chains, all_asked}
-use borrow.Author.Rules.{rules}
 use Rattle.residuals.proofs.residual.over_log.Goals as goal
-
 
 pub returns-in-Refused : goal.returns-in-Refused
 returns-in-Refused c =

@@ -2,9 +2,7 @@
 use mathlib.Core.Path.{refl}
 use lib.ListN.{length}
 use Rattle.residuals.proofs.ReduceCall.{policy-refused, policy-accepted}
-use borrow.Author.Rules.{rules}
 use Rattle.residuals.proofs.residual.residual.Goals as goal
-
 
 pub returns-in_default : goal.returns-in_default
 returns-in_default c =

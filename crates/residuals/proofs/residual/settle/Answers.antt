@@ -2,9 +2,7 @@
 use mathlib.Core.Path.{subst}
 use Rattle.residuals.specs.Residual.{Walked}
 use Rattle.residuals.proofs.ReduceSettling.{settle-short, settle-plain, settle-long, settle-part}
-use borrow.Author.Rules.{rules}
 use Rattle.residuals.proofs.residual.settle.Goals as goal
-
 
 pub returns-in-Short : goal.returns-in-Short
 returns-in-Short c =

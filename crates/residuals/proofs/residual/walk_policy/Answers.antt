@@ -1,12 +1,10 @@
 -- `residuals::residual::walk_policy` meets its contract, from what the walk of the root ensures.
 use native.Mathlib.Omega.{arith}
-use mathlib.Core.Path.{refl, sym}
+use mathlib.Core.Path.{refl}
 use mathlib.Core.List.{[]}
 use Rattle.model.specs.Reading.{is_formula}
-use Rattle.residuals.proofs.ReduceWalking.{lent_long, lent_few, walked_whole}
-use borrow.Author.Rules.{rules}
+use Rattle.residuals.proofs.ReduceWalking.{lent_few, walked_whole}
 use Rattle.residuals.proofs.residual.walk_policy.Goals as goal
-
 
 pub formula-walked-requires : goal.formula-walked-requires
 unfolding is_formula

@@ -4,9 +4,7 @@ use mathlib.Core.Path.{sym, ap}
 use mathlib.Core.Bool.{Bool, cond}
 use lib.IntN.{pos}
 use Rattle.residuals.proofs.ReduceSettling.{plain-no-room, plain-written}
-use borrow.Author.Rules.{rules}
 use Rattle.residuals.proofs.residual.write_plain.Goals as goal
-
 
 pub returns-then-buffer-lt1 : goal.returns-then-buffer-lt1
 returns-then-buffer-lt1 c = plain-no-room c.args.value c.args.buffer.now c.if-buffer-lt1.true

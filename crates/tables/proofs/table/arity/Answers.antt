@@ -3,11 +3,9 @@ use Prim.Native.Nat.{◌*◌}
 use native.Mathlib.Nat.{add-zero}
 use mathlib.Core.Path.{ap, ◌∙◌}
 use lib.IntN.{nat_abs}
-use borrow.Author.Rules.{rules}
 use Rattle.model.specs.Words.{record_words, word, value}
 use Rattle.model.specs.Table.{arity}
 use Rattle.tables.proofs.table.arity.Goals as goal
-
 
 pub returns : goal.returns
 unfolding arity value

@@ -1,19 +1,12 @@
 -- `tables::table::check_table` meets its contract. The loop's invariant: the records passed are good, so question 1 comes to
 -- the questions at those left. The measure is their number.
-use Prim.Native.Nat.{ℕ, ◌-◌, ◌/◌, ◌%◌, ◌≤◌}
-use native.Mathlib.Nat.{sub-zero}
-use native.Mathlib.Omega.{arith}
-use mathlib.Core.Path.{◌≡◌, sym, ap, ◌∙◌}
-use mathlib.Core.Bool.{true, false}
-use borrow.Author.Tests.{not-true, not-false, eq-eqb, ne_eqb, le-leb, lt-leb}
-use lib.ListN.{length}
-use lib.Dec.{eqb, leb}
+use Prim.Native.Nat.{ℕ, ◌-◌, ◌≤◌}
+use mathlib.Core.Path.{◌≡◌}
 use Rattle.model.specs.declared.Refusal.TheVariants.{Table}
 use Rattle.model.specs.Words.{Words}
 use Rattle.model.specs.Lists.{span}
-use Rattle.model.specs.Answer.{Outcome, passed, refused, ask, in_turn, ◌>>=◌}
-use Rattle.model.specs.Table.{predicates, good_record, ask_table}
-use Rattle.laws.specs.Answer.{turn_step, turn_stop, turn_end}
+use Rattle.model.specs.Answer.{Outcome, ask, in_turn}
+use Rattle.model.specs.Table.{good_record, ask_table}
 use Rattle.tables.proofs.table.check_table.Given as goal
 
 -- question 1 at one record

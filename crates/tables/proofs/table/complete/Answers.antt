@@ -1,11 +1,9 @@
 -- `tables::table::complete` meets its contract: it tests the record's third word.
 use mathlib.Core.Path.{ap, ◌∙◌}
 use lib.IntN.{ℤ, pos}
-use borrow.Author.Rules.{rules}
 use Rattle.model.specs.Words.{equal}
 use Rattle.model.specs.Table.{complete}
 use Rattle.tables.proofs.table.complete.Goals as goal
-
 
 pub returns : goal.returns
 unfolding complete

@@ -2,12 +2,9 @@
 use Prim.Native.Nat.{ℕ, ◌^◌, ◌-◌}
 use mathlib.Core.Path.{◌∙◌, sym, ap}
 use Rattle.laws.specs.Words.Standing.{within-value}
-use borrow.Author.Tests.{not-true, not-false}
 use Rattle.model.specs.Words.{value}
 use Rattle.model.specs.Table.{arity, good_record}
-use borrow.Author.Rules.{rules}
 use Rattle.tables.proofs.table.good_record.Goals as goal
-
 
 pub returns-then-not-within : goal.returns-then-not-within
 unfolding good_record

@@ -1,10 +1,9 @@
 -- `tables::table::index` meets its contract: past the end of the table both words are 0.
 use Prim.Native.Nat.{ℕ, ◌+◌, ◌*◌, ◌≤◌}
 use native.Mathlib.Omega.{arith}
-use mathlib.Core.Path.{◌≡◌, refl, sym, ◌∙◌}
+use mathlib.Core.Path.{◌≡◌, sym, ◌∙◌}
 use lib.ListN.{length, get_or-eq_default}
 use lib.IntN.{pos}
-use borrow.Author.Rules.{rules}
 use Rattle.model.specs.Words.{Words, record_words, word}
 use Rattle.tables.proofs.table.index.Goals as goal
 

@@ -3,11 +3,9 @@ use Prim.Native.Nat.{ℕ, ◌/◌, ◌%◌, ◌^◌}
 use mathlib.Core.Path.{ap, ◌∙◌}
 use lib.Dec.{eqb}
 use lib.IntN.{nat_abs}
-use borrow.Author.Rules.{rules}
 use Rattle.model.specs.Words.{value}
 use Rattle.model.specs.Table.{input}
 use Rattle.tables.proofs.table.input.Goals as goal
-
 
 pub returns : goal.returns
 unfolding input value

@@ -3,7 +3,6 @@ use mathlib.Core.Path.{refl}
 use Rattle.model.specs.Table.{predicates}
 use Rattle.tables.proofs.table.predicates.Goals as goal
 
-
 pub returns : goal.returns
 unfolding predicates
 returns c = refl

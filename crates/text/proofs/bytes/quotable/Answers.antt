@@ -3,9 +3,7 @@ use mathlib.Core.Path.{ap}
 use mathlib.Core.Bool.{Bool, ◌||◌}
 use lib.Dec.{eqb}
 use Rattle.model.specs.Csv.{quotable}
-use borrow.Author.Rules.{rules}
 use Rattle.text.proofs.bytes.quotable.Goals as goal
-
 
 pub returns : goal.returns
 unfolding quotable

@@ -1,13 +1,8 @@
 -- `text::reading::digits_at` meets its contract. The loop's invariant: all bytes passed are digits, and the number is followed.
 use Prim.Native.Nat.{◌-◌}
-use native.Mathlib.Omega.{arith}
 use mathlib.Core.Path.{sym, ◌∙◌}
-use lib.ListN.{length}
-use borrow.Author.Tests.{not-true, not-false}
-use Rattle.text.proofs.ReadingLaws.{Passed, passed_none, passed-more, passed-stop}
-use borrow.Author.Rules.{rules}
+use Rattle.text.proofs.ReadingLaws.{passed_none, passed-more}
 use Rattle.text.proofs.reading.digits_at.Goals as goal
-
 
 pub loop-next-init : goal.loop-next-init
 loop-next-init c = passed_none c.args.text.now c.args.at c.requires

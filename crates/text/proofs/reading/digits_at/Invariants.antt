@@ -1,11 +1,7 @@
 -- `text::reading::digits_at` meets its contract. The loop's invariant: all bytes passed are digits, and the number is followed.
 use Prim.Native.Nat.{◌-◌}
-use native.Mathlib.Omega.{arith}
-use mathlib.Core.Path.{sym, ◌∙◌}
 use lib.ListN.{length}
-use borrow.Author.Tests.{not-true, not-false}
-use Rattle.text.proofs.ReadingLaws.{Passed, passed_none, passed-more, passed-stop}
-use borrow.Author.Rules.{rules}
+use Rattle.text.proofs.ReadingLaws.{Passed}
 use Rattle.text.proofs.reading.digits_at.Given as goal
 
 abbrev pub invariant-loop-next : goal.invariant-loop-next

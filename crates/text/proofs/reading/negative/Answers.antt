@@ -1,8 +1,6 @@
 -- `text::reading::negative` meets its contract, from the digits found.
 use Rattle.text.proofs.ReadingLaws.{negative-at}
-use borrow.Author.Rules.{rules}
 use Rattle.text.proofs.reading.negative.Goals as goal
-
 
 pub returns : goal.returns
 returns c =

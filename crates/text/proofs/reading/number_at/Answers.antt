@@ -1,8 +1,6 @@
 -- `text::reading::number_at` meets its contract: a minus at the index or none.
 use Rattle.text.proofs.ReadingLaws.{minus-at}
-use borrow.Author.Rules.{rules}
 use Rattle.text.proofs.reading.number_at.Goals as goal
-
 
 pub returns-then-text-at-eq-MINUS : goal.returns-then-text-at-eq-MINUS
 returns-then-text-at-eq-MINUS c =

@@ -6,9 +6,7 @@ use lib.Dec.{eqb}
 use lib.Seq.{slice, length-slice}
 use Rattle.text.proofs.Slices.{slice_first}
 use Rattle.text.proofs.ReadingLaws.{plain-none, plain-one, plain_more}
-use borrow.Author.Rules.{rules}
 use Rattle.text.proofs.reading.plain.Goals as goal
-
 
 pub returns-then-next-from : goal.returns-then-next-from
 returns-then-next-from c =

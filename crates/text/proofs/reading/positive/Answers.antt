@@ -1,8 +1,6 @@
 -- `text::reading::positive` meets its contract, from the digits found.
 use Rattle.text.proofs.ReadingLaws.{positive-at}
-use borrow.Author.Rules.{rules}
 use Rattle.text.proofs.reading.positive.Goals as goal
-
 
 pub returns : goal.returns
 returns c =

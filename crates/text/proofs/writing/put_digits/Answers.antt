@@ -2,10 +2,8 @@
 -- the number of those left.
 use Prim.Native.Nat.{◌-◌}
 use native.Mathlib.Omega.{arith}
-use Rattle.text.proofs.WritingLaws.{Ending, ending-none, ending-more, ending-all}
-use borrow.Author.Rules.{rules}
+use Rattle.text.proofs.WritingLaws.{ending-more, ending-all}
 use Rattle.text.proofs.writing.put_digits.Goals as goal
-
 
 pub loop-i-preserved : goal.loop-i-preserved
 loop-i-preserved c =

@@ -1,9 +1,7 @@
 -- `text::writing::put_digits` meets its contract. The loop's invariant: the last digits stand from the index reached on. The measure is
 -- the number of those left.
 use Prim.Native.Nat.{◌-◌}
-use native.Mathlib.Omega.{arith}
-use Rattle.text.proofs.WritingLaws.{Ending, ending-none, ending-more, ending-all}
-use borrow.Author.Rules.{rules}
+use Rattle.text.proofs.WritingLaws.{Ending}
 use Rattle.text.proofs.writing.put_digits.Given as goal
 
 abbrev pub invariant-loop-i : goal.invariant-loop-i

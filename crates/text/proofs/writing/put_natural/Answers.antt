@@ -1,9 +1,7 @@
 -- `text::writing::put_natural` meets its contract: no room, or digits.
 use native.Mathlib.Omega.{arith}
 use Rattle.text.proofs.WritingLaws.{natural-long, natural-stands}
-use borrow.Author.Rules.{rules}
 use Rattle.text.proofs.writing.put_natural.Goals as goal
-
 
 pub returns-then-out-next : goal.returns-then-out-next
 returns-then-out-next c = omega (arith, natural-long _ _ c.width.ensures)

@@ -1,11 +1,7 @@
 -- `text::writing::put_number` meets its contract: no room, or a minus and digits, which stand over the minus where there is none.
 use native.Mathlib.Omega.{arith}
-use mathlib.Core.Path.{◌∙◌}
-use lib.ListN.{length-set}
-use Rattle.text.proofs.WritingLaws.{sign_few, number-long, number-stands}
-use borrow.Author.Rules.{rules}
+use Rattle.text.proofs.WritingLaws.{number-long, number-stands}
 use Rattle.text.proofs.writing.put_number.Goals as goal
-
 
 pub returns-then-out-next : goal.returns-then-out-next
 returns-then-out-next c =

@@ -3,7 +3,6 @@ use native.Mathlib.Omega.{arith}
 use Rattle.text.proofs.WritingLaws.{width_of}
 use Rattle.text.proofs.writing.width.Goals as goal
 
-
 pub returns-then-n-lt10 : goal.returns-then-n-lt10
 returns-then-n-lt10 c = width_of 0 c.args.n (omega arith) (λ h. omega arith) (λ h. omega arith)
 

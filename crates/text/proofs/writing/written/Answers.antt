@@ -1,9 +1,7 @@
 -- `text::writing::written` meets its contract, case by case.
 use mathlib.Core.Path.{sym, ap}
-use borrow.Author.Rules.{rules}
 use Rattle.text.specs.Written.{written}
 use Rattle.text.proofs.writing.written.Goals as goal
-
 
 pub returns-in-Full : goal.returns-in-Full
 unfolding written

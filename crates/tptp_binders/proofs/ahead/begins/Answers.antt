@@ -1,9 +1,7 @@
 -- `tptp_binders::ahead::begins` meets its contract.
 use native.Mathlib.Omega.{arith}
 use Rattle.tptp_binders.proofs.AheadLaws.{begins-over, begins-here}
-use borrow.Author.Rules.{rules}
 use Rattle.tptp_binders.proofs.ahead.begins.Goals as goal
-
 
 pub returns-then-text-i : goal.returns-then-text-i
 returns-then-text-i c =

@@ -2,9 +2,7 @@
 use native.Mathlib.Omega.{arith}
 use mathlib.Core.Path.{◌∙◌}
 use Rattle.tptp_binders.proofs.AheadLaws.{excluding-over, excluding-other, excluding-here}
-use borrow.Author.Rules.{rules}
 use Rattle.tptp_binders.proofs.ahead.begins_excluding.Goals as goal
-
 
 pub returns-then-text-i : goal.returns-then-text-i
 returns-then-text-i c =

@@ -3,9 +3,7 @@ use native.Mathlib.Omega.{arith}
 use mathlib.Core.Path.{◌∙◌}
 use lib.ListN.{drop}
 use Rattle.tptp_binders.proofs.AheadLaws.{tuple-one, tuple-over, tuple-other, tuple-here}
-use borrow.Author.Rules.{rules}
 use Rattle.tptp_binders.proofs.ahead.begins_tuple.Goals as goal
-
 
 pub returns-then-v-eq1 : goal.returns-then-v-eq1
 returns-then-v-eq1 c =

@@ -3,9 +3,7 @@ use native.Mathlib.Omega.{arith}
 use mathlib.Core.Path.{ap, sym}
 use Rattle.model.specs.TptpReading.{begins_with}
 use Rattle.tptp_tokens.proofs.TokenLaws.{here, over}
-use borrow.Author.Rules.{rules}
 use Rattle.tptp_binders.proofs.ahead.stands.Goals as goal
-
 
 pub returns-then-text-at : goal.returns-then-text-at
 unfolding begins_with

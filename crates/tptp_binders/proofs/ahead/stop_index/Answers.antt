@@ -1,13 +1,9 @@
 -- `tptp_binders::ahead::stop_index` meets its contract. The loop's invariant: the scan from here goes as that from the start.
 use native.Mathlib.Omega.{arith}
 use Prim.Native.Nat.{◌-◌}
-use mathlib.Core.Logic.{⊎_elim}
-use lib.ListN.{length}
-use Rattle.tptp_binders.proofs.AheadLaws.{Scans, scan_start, scan_end, scan_open, scan_close, scan_closing, scan_other, scan_connective}
-use borrow.Author.Rules.{rules}
+use Rattle.tptp_binders.proofs.AheadLaws.{scan_end, scan_open, scan_close, scan_closing, scan_other, scan_connective}
 use Rattle.tptp_binders.proofs.ahead.stop_index.Goals as goal
 use Rattle.tptp_binders.proofs.ahead.stop_index.Goals.{then-b-eq40, else-b-eq40+then-b-eq41+else-depth-eq0, else-b-eq40+else-b-eq41+else-depth-b}
-
 
 pub returns-then-depth-eq0 : goal.returns-then-depth-eq0
 returns-then-depth-eq0 c =

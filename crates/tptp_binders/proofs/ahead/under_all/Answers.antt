@@ -1,11 +1,8 @@
 -- `tptp_binders::ahead::under_all` meets its contract.
 use Rattle.std.specs.Prelude.{not}
 use Rattle.std.proofs.Common.{ap}
-use native.Mathlib.Omega.{arith}
-use Rattle.tptp_binders.proofs.AheadLaws.{foretold, foretold_none}
-use borrow.Author.Rules.{rules}
+use Rattle.tptp_binders.proofs.AheadLaws.{foretold_none}
 use Rattle.tptp_binders.proofs.ahead.under_all.Goals as goal
-
 
 pub returns-then-not-all-some : goal.returns-then-not-all-some
 returns-then-not-all-some c =

@@ -1,11 +1,6 @@
 -- `tptp_binders::binder::binder` meets its contract.
-use mathlib.Core.List.{[], ◌∷◌}
-use Rattle.model.specs.TptpReading.{token}
-use Rattle.tptp_tokens.proofs.BehindLaws.{steps_within}
 use Rattle.tptp_binders.proofs.BinderLaws.{binder-read}
-use borrow.Author.Rules.{rules}
 use Rattle.tptp_binders.proofs.binder.binder.Goals as goal
-
 
 pub returns : goal.returns
 returns c =

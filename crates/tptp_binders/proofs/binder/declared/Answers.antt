@@ -1,9 +1,7 @@
 -- `tptp_binders::binder::declared` meets its contract.
 use Rattle.model.specs.Bytes.{bytes}
 use Rattle.tptp_binders.proofs.BinderLaws.{declared_read}
-use borrow.Author.Rules.{rules}
 use Rattle.tptp_binders.proofs.binder.declared.Goals as goal
-
 
 pub returns : goal.returns
 unfolding bytes

@@ -1,16 +1,12 @@
 -- `tptp_binders::binder::named` meets its contract.
-use native.Mathlib.Omega.{arith}
-use mathlib.Core.Path.{sym, subst}
-use lib.Seq.{length-take-le}
+use mathlib.Core.Path.{subst}
 use Rattle.model.specs.Bytes.{Text}
 use Rattle.model.specs.Decimal.{digits}
 use Rattle.model.specs.TptpReading.{token}
 use Rattle.text.specs.Put.{Puts}
 use Rattle.tptp_tokens.specs.Steps.{Steps, Behind}
 use Rattle.tptp_binders.proofs.BinderLaws.{never-full, variable-word}
-use borrow.Author.Rules.{rules}
 use Rattle.tptp_binders.proofs.binder.named.Goals as goal
-
 
 pub returns-in_default : goal.returns-in_default
 returns-in_default c =

@@ -6,11 +6,9 @@ use Rattle.model.specs.TptpReading.{declaration, variables}
 use Rattle.tptp_tokens.specs.Steps.{Steps, Valued}
 use Rattle.tptp_binders.specs.Binder.{IsCount}
 use Rattle.tptp_tokens.proofs.TokenLaws.{stays}
-use Rattle.tptp_binders.proofs.BinderLaws.{Counting, counting_first, counting_none, counting_end, counting_over, counting_stop}
+use Rattle.tptp_binders.proofs.BinderLaws.{counting_first, counting_none, counting_end, counting_over, counting_stop}
 use Rattle.tptp_binders.proofs.BinderLaws.{counting_more, counting_refused}
-use borrow.Author.Rules.{rules}
 use Rattle.tptp_binders.proofs.binder.variables.Goals as goal
-
 
 pub returns-in_default : goal.returns-in_default
 returns-in_default c =

@@ -1,14 +1,6 @@
 -- `tptp_binders::binder::variables` meets its contract. The loop's invariant: so many variables were read.
-use native.Mathlib.Omega.{arith}
 use Prim.Native.Nat.{◌+◌, ◌-◌}
-use mathlib.Core.Path.{subst}
-use Rattle.model.specs.TptpReading.{declaration, variables}
-use Rattle.tptp_tokens.specs.Steps.{Steps, Valued}
-use Rattle.tptp_binders.specs.Binder.{IsCount}
-use Rattle.tptp_tokens.proofs.TokenLaws.{stays}
-use Rattle.tptp_binders.proofs.BinderLaws.{Counting, counting_first, counting_none, counting_end, counting_over, counting_stop}
-use Rattle.tptp_binders.proofs.BinderLaws.{counting_more, counting_refused}
-use borrow.Author.Rules.{rules}
+use Rattle.tptp_binders.proofs.BinderLaws.{Counting}
 use Rattle.tptp_binders.proofs.binder.variables.Given as goal
 
 abbrev pub invariant-loop-count : goal.invariant-loop-count

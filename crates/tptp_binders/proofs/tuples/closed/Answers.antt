@@ -1,9 +1,6 @@
 -- `tptp_binders::tuples::closed` meets its contract.
-use mathlib.Core.Path.{refl}
 use Rattle.model.specs.Bytes.{bytes}
-use borrow.Author.Rules.{rules}
 use Rattle.tptp_binders.proofs.tuples.closed.Goals as goal
-
 
 pub returns : goal.returns
 unfolding bytes

@@ -1,13 +1,10 @@
 -- `tptp_binders::tuples::further` meets its contract. The loop's invariant: so many numbers were read and laid.
 use native.Mathlib.Omega.{arith}
-use Prim.Native.Nat.{ℕ, ◌-◌, ◌≤◌}
+use Prim.Native.Nat.{ℕ, ◌-◌}
 use mathlib.Core.Path.{◌≡◌, refl, subst, ◌∙◌}
-use lib.ListN.{length}
-use Rattle.tptp_tokens.specs.Steps.{Within, Behind}
+use Rattle.tptp_tokens.specs.Steps.{Behind}
 use Rattle.tptp_binders.proofs.TupleLaws.{Furthers, furthers_none, furthers_more, furthers_end}
-use borrow.Author.Rules.{rules}
 use Rattle.tptp_binders.proofs.tuples.further.Goals as goal
-
 
 pub loop-i-init : goal.loop-i-init
 loop-i-init c =

@@ -1,11 +1,9 @@
 -- `tptp_binders::tuples::further` meets its contract. The loop's invariant: so many numbers were read and laid.
-use native.Mathlib.Omega.{arith}
-use Prim.Native.Nat.{ℕ, ◌-◌, ◌≤◌}
-use mathlib.Core.Path.{◌≡◌, refl, subst, ◌∙◌}
+use Prim.Native.Nat.{◌-◌, ◌≤◌}
+use mathlib.Core.Path.{◌≡◌}
 use lib.ListN.{length}
 use Rattle.tptp_tokens.specs.Steps.{Within, Behind}
-use Rattle.tptp_binders.proofs.TupleLaws.{Furthers, furthers_none, furthers_more, furthers_end}
-use borrow.Author.Rules.{rules}
+use Rattle.tptp_binders.proofs.TupleLaws.{Furthers}
 use Rattle.tptp_binders.proofs.tuples.further.Given as goal
 
 abbrev pub invariant-loop-i : goal.invariant-loop-i

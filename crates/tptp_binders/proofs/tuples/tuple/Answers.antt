@@ -1,8 +1,6 @@
 -- `tptp_binders::tuples::tuple` meets its contract.
 use Rattle.tptp_binders.proofs.TupleLaws.{tuple-read}
-use borrow.Author.Rules.{rules}
 use Rattle.tptp_binders.proofs.tuples.tuple.Goals as goal
-
 
 pub returns : goal.returns
 returns c =

@@ -1,9 +1,7 @@
 -- `tptp_binders::tuples::unequal` meets its contract.
 use Rattle.model.specs.Bytes.{bytes}
 use Rattle.tptp_binders.proofs.TupleLaws.{unequal_read}
-use borrow.Author.Rules.{rules}
 use Rattle.tptp_binders.proofs.tuples.unequal.Goals as goal
-
 
 pub returns : goal.returns
 unfolding bytes

@@ -1,8 +1,6 @@
 -- `tptp_binders::tuples::unequals` meets its contract.
 use Rattle.tptp_binders.proofs.TupleLaws.{unequals-read}
-use borrow.Author.Rules.{rules}
 use Rattle.tptp_binders.proofs.tuples.unequals.Goals as goal
-
 
 pub returns : goal.returns
 returns c =

@@ -1,16 +1,10 @@
 -- `tptp_leaves::leaves::atom` meets its contract.
-use native.Mathlib.Omega.{arith}
 use Prim.Native.Nat.{ℕ}
 use mathlib.Core.Path.{ap, ◌∙◌}
 use lib.ListN.{set}
 use lib.IntN.{pos}
-use mathlib.Core.List.{[], ◌∷◌}
-use Rattle.model.specs.TptpReading.{token}
-use Rattle.tptp_tokens.proofs.BehindLaws.{steps_within}
-use Rattle.tptp_leaves.proofs.LeafLaws.{atom-read, small}
-use borrow.Author.Rules.{rules}
+use Rattle.tptp_leaves.proofs.LeafLaws.{atom-read}
 use Rattle.tptp_leaves.proofs.leaves.atom.Goals as goal
-
 
 pub returns : goal.returns
 returns c =

@@ -1,14 +1,11 @@
 -- `tptp_leaves::leaves::compare` meets its contract.
-use native.Mathlib.Omega.{arith}
 use Prim.Native.Nat.{ℕ}
 use mathlib.Core.Path.{ap, ◌∙◌}
 use lib.ListN.{set}
 use lib.IntN.{pos}
 use Rattle.model.specs.Bytes.{bytes}
-use Rattle.tptp_leaves.proofs.LeafLaws.{compare-read, small}
-use borrow.Author.Rules.{rules}
+use Rattle.tptp_leaves.proofs.LeafLaws.{compare-read}
 use Rattle.tptp_leaves.proofs.leaves.compare.Goals as goal
-
 
 pub returns : goal.returns
 unfolding bytes

@@ -1,12 +1,8 @@
 -- `tptp_leaves::leaves::dollar` meets its contract.
 use native.Mathlib.Omega.{arith}
 use Rattle.model.specs.Bytes.{bytes}
-use Rattle.model.specs.TptpReading.{literal}
-use Rattle.tptp_tokens.proofs.BehindLaws.{steps_within}
 use Rattle.tptp_leaves.proofs.LeafLaws.{dollar-over, dollar-true, dollar-false, dollar-compare}
-use borrow.Author.Rules.{rules}
 use Rattle.tptp_leaves.proofs.leaves.dollar.Goals as goal
-
 
 pub returns-then-text-at : goal.returns-then-text-at
 returns-then-text-at c =

@@ -1,8 +1,6 @@
 -- `tptp_leaves::leaves::leaf` meets its contract.
 use Rattle.tptp_leaves.proofs.LeafLaws.{leaf-dollar, leaf-atom, leaf_negated, leaf-none}
-use borrow.Author.Rules.{rules}
 use Rattle.tptp_leaves.proofs.leaves.leaf.Goals as goal
-
 
 pub returns-then-b-eq36 : goal.returns-then-b-eq36
 returns-then-b-eq36 c =

@@ -1,12 +1,8 @@
 -- `tptp_leaves::leaves::negated` meets its contract.
 use native.Mathlib.Omega.{arith}
 use Rattle.model.specs.Bytes.{bytes}
-use Rattle.model.specs.TptpReading.{token}
-use Rattle.tptp_tokens.proofs.BehindLaws.{steps_within}
 use Rattle.tptp_leaves.proofs.LeafLaws.{negation-over, negation-atom, negation-compare}
-use borrow.Author.Rules.{rules}
 use Rattle.tptp_leaves.proofs.leaves.negated.Goals as goal
-
 
 pub returns-then-text-i : goal.returns-then-text-i
 returns-then-text-i c =

@@ -1,13 +1,10 @@
 -- `tptp_leaves::leaves::plain` meets its contract.
-use native.Mathlib.Omega.{arith}
 use Prim.Native.Nat.{ℕ}
 use mathlib.Core.Path.{ap, ◌∙◌}
 use lib.ListN.{set}
 use lib.IntN.{pos}
-use Rattle.tptp_leaves.proofs.LeafLaws.{plain-read, small}
-use borrow.Author.Rules.{rules}
+use Rattle.tptp_leaves.proofs.LeafLaws.{plain-read}
 use Rattle.tptp_leaves.proofs.leaves.plain.Goals as goal
-
 
 pub returns : goal.returns
 returns c =

@@ -1,5 +1,4 @@
 -- `tptp_leaves::terms::constant` meets its contract.
-use native.Mathlib.Omega.{arith}
 use mathlib.Core.Path.{sym, subst}
 use Rattle.model.specs.Words.{Words}
 use Rattle.model.specs.TptpReading.{integer}
@@ -8,9 +7,7 @@ use Rattle.tptp_tokens.specs.Steps.{Value}
 use Rattle.tptp_leaves.specs.Terms.{TermStands, read_constant}
 use Rattle.tptp_tokens.proofs.TokenLaws.{halt}
 use Rattle.tptp_leaves.proofs.TermLaws.{constant-at}
-use borrow.Author.Rules.{rules}
 use Rattle.tptp_leaves.proofs.terms.constant.Goals as goal
-
 
 pub returns-in-Refused : goal.returns-in-Refused
 returns-in-Refused c =

@@ -1,9 +1,7 @@
 -- `tptp_leaves::terms::term` meets its contract.
 use native.Mathlib.Omega.{arith}
 use Rattle.tptp_leaves.proofs.TermLaws.{term-over, term-variable, term-constant}
-use borrow.Author.Rules.{rules}
 use Rattle.tptp_leaves.proofs.terms.term.Goals as goal
-
 
 pub returns-then-text-i : goal.returns-then-text-i
 returns-then-text-i c =

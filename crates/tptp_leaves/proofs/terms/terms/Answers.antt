@@ -1,8 +1,8 @@
 -- `tptp_leaves::terms::terms` meets its contract. The loop's invariant: so many terms were read and stand with their number.
 use native.Mathlib.Omega.{arith}
 use Prim.Native.Nat.{◌+◌, ◌*◌, ◌-◌}
-use mathlib.Core.Path.{sym, subst, ◌∙◌}
-use lib.ListN.{set, length-set}
+use mathlib.Core.Path.{sym, subst}
+use lib.ListN.{set}
 use lib.IntN.{pos}
 use Rattle.model.specs.Words.{Words}
 use Rattle.model.specs.TptpReading.{term, terms}
@@ -11,9 +11,7 @@ use Rattle.tptp_leaves.specs.Terms.{TermStands, TermsStand}
 use Rattle.tptp_tokens.proofs.TokenLaws.{halt, stays}
 use Rattle.tptp_leaves.proofs.TermLaws.{Listing, listing_first, terms-front, listing_end, listing_over, listing_stop, listing_refused}
 use Rattle.tptp_leaves.proofs.TermLaws.{listing_more}
-use borrow.Author.Rules.{rules}
 use Rattle.tptp_leaves.proofs.terms.terms.Goals as goal
-
 
 pub returns-in_default : goal.returns-in_default
 unfolding terms

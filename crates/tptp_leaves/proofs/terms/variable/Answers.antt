@@ -1,5 +1,4 @@
 -- `tptp_leaves::terms::variable` meets its contract.
-use native.Mathlib.Omega.{arith}
 use mathlib.Core.Path.{sym, subst}
 use Rattle.model.specs.Words.{Words}
 use Rattle.model.specs.TptpReading.{natural}
@@ -8,9 +7,7 @@ use Rattle.tptp_tokens.specs.Steps.{Value}
 use Rattle.tptp_leaves.specs.Terms.{TermStands, read_variable}
 use Rattle.tptp_tokens.proofs.TokenLaws.{halt}
 use Rattle.tptp_leaves.proofs.TermLaws.{variable-at}
-use borrow.Author.Rules.{rules}
 use Rattle.tptp_leaves.proofs.terms.variable.Goals as goal
-
 
 pub returns-in-Refused : goal.returns-in-Refused
 returns-in-Refused c =

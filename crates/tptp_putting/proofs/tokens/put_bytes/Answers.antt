@@ -2,14 +2,11 @@
 -- are copied up to the index reached. The measure is the number of those left.
 use Prim.Native.Nat.{◌+◌, ◌-◌, ◌≤◌}
 use native.Mathlib.Omega.{arith}
-use mathlib.Core.Path.{◌≡◌}
 use lib.ListN.{length}
-use Rattle.text.specs.declared.writing.Put.TheVariants.{Full, At}
-use Rattle.tptp_putting.proofs.AddLaws.{fits-at, adds-at, adds-full}
-use Rattle.tptp_putting.proofs.TokenLaws.{Copied, copied_none, copied_long, copied_more, copied_all}
+use Rattle.tptp_putting.proofs.AddLaws.{fits-at}
+use Rattle.tptp_putting.proofs.TokenLaws.{copied_more}
 use borrow.Author.Rules.{rules}
 use Rattle.tptp_putting.proofs.tokens.put_bytes.Goals as goal
-
 
 pub loop-i-preserved : goal.loop-i-preserved
 loop-i-preserved c =

@@ -4,11 +4,9 @@ use Prim.Native.Nat.{◌+◌}
 use Rattle.model.specs.Words.{word, value}
 use Rattle.model.specs.Bytes.{bytes}
 use Rattle.model.specs.Decimal.{digits, decimal}
-use Rattle.tptp_putting.proofs.AddLaws.{adds-is, Behind, behind-fits, behind_more, behind-is}
+use Rattle.tptp_putting.proofs.AddLaws.{adds-is, Behind, behind_more, behind-is}
 use Rattle.tptp_putting.proofs.TextLaws.{constant-text, variable-text}
-use borrow.Author.Rules.{rules}
 use Rattle.tptp_putting.proofs.tokens.put_term.Goals as goal
-
 
 pub returns-then-zero : goal.returns-then-zero
 returns-then-zero c =

@@ -2,11 +2,9 @@
 -- tuples they are. The measure is the number of words left.
 use Prim.Native.Nat.{◌-◌}
 use native.Mathlib.Omega.{arith}
-use Rattle.tptp_putting.specs.Texts.{Tuples}
 use Rattle.tptp_putting.proofs.AddLaws.{behind-fits}
-use Rattle.tptp_putting.proofs.TupleLaws.{First, first-tuple, Each, each_none, each_more, each_all}
+use Rattle.tptp_putting.proofs.TupleLaws.{First, first-tuple, each_none, each_more, each_all}
 use Rattle.tptp_putting.proofs.tuples.put_each.Goals as goal
-
 
 pub loop-from-init : goal.loop-from-init
 loop-from-init c =

@@ -1,10 +1,8 @@
 -- `tptp_putting::tuples::put_each` meets its contract. The loop's invariant: the tuples stand up to the index reached, whatever
 -- tuples they are. The measure is the number of words left.
 use Prim.Native.Nat.{◌-◌}
-use native.Mathlib.Omega.{arith}
 use Rattle.tptp_putting.specs.Texts.{Tuples}
-use Rattle.tptp_putting.proofs.AddLaws.{behind-fits}
-use Rattle.tptp_putting.proofs.TupleLaws.{First, first-tuple, Each, each_none, each_more, each_all}
+use Rattle.tptp_putting.proofs.TupleLaws.{Each}
 use Rattle.tptp_putting.proofs.tuples.put_each.Given as goal
 
 abbrev pub invariant-loop-from : goal.invariant-loop-from

@@ -3,11 +3,9 @@ use mathlib.Core.Bool.{cond}
 use mathlib.Core.List.{◌++◌}
 use Rattle.model.specs.Bytes.{bytes}
 use Rattle.tptp_putting.specs.Texts.{variables_text}
-use Rattle.tptp_putting.proofs.AddLaws.{Behind, behind-fits, behind_more, behind-is}
+use Rattle.tptp_putting.proofs.AddLaws.{Behind, behind_more, behind-is}
 use Rattle.tptp_putting.proofs.TextLaws.{head-parts}
-use borrow.Author.Rules.{rules}
 use Rattle.tptp_putting.proofs.tuples.put_head.Goals as goal
-
 
 pub returns : goal.returns
 unfolding bytes

@@ -1,10 +1,8 @@
 -- `tptp_putting::tuples::put_next_unequal` meets its contract: two texts, one behind the other.
 use Rattle.model.specs.Bytes.{bytes}
 use Rattle.tptp_putting.specs.Texts.{unequal_text}
-use Rattle.tptp_putting.proofs.AddLaws.{Behind, behind-fits, behind_more}
-use borrow.Author.Rules.{rules}
+use Rattle.tptp_putting.proofs.AddLaws.{Behind, behind_more}
 use Rattle.tptp_putting.proofs.tuples.put_next_unequal.Goals as goal
-
 
 pub returns : goal.returns
 unfolding bytes

@@ -7,11 +7,9 @@ use lib.Seq.{length-take-le}
 use lib.Dec.{eqb}
 use Rattle.model.specs.Bytes.{bytes}
 use Rattle.tptp_putting.specs.Texts.{unequals_text}
-use Rattle.tptp_putting.proofs.AddLaws.{Behind, behind-fits, behind_more, behind-is}
+use Rattle.tptp_putting.proofs.AddLaws.{Behind, behind_more, behind-is}
 use Rattle.tptp_putting.proofs.TextLaws.{tuple-parts}
-use borrow.Author.Rules.{rules}
 use Rattle.tptp_putting.proofs.tuples.put_tuple.Goals as goal
-
 
 pub returns : goal.returns
 unfolding bytes

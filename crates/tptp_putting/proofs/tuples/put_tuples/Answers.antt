@@ -4,9 +4,7 @@ use Rattle.model.specs.Bytes.{bytes}
 use Rattle.tptp_putting.specs.Texts.{tuples_text, Tuples}
 use Rattle.tptp_putting.proofs.AddLaws.{adds-is, adds_none, Behind, behind-fits, behind_more, behind-is}
 use Rattle.tptp_putting.proofs.TupleLaws.{closed_none, closed_some}
-use borrow.Author.Rules.{rules}
 use Rattle.tptp_putting.proofs.tuples.put_tuples.Goals as goal
-
 
 pub returns-then-end-first : goal.returns-then-end-first
 returns-then-end-first c =

@@ -3,11 +3,9 @@ use mathlib.Core.List.{◌++◌}
 use Rattle.model.specs.Words.{word}
 use Rattle.model.specs.Bytes.{bytes}
 use Rattle.model.specs.Decimal.{digits, decimal}
-use Rattle.tptp_putting.proofs.AddLaws.{Behind, behind-fits, behind_more, behind-is}
+use Rattle.tptp_putting.proofs.AddLaws.{Behind, behind_more, behind-is}
 use Rattle.tptp_putting.proofs.TextLaws.{unequal-parts}
-use borrow.Author.Rules.{rules}
 use Rattle.tptp_putting.proofs.tuples.put_unequal.Goals as goal
-
 
 pub returns : goal.returns
 unfolding bytes

@@ -1,15 +1,13 @@
 -- `tptp_putting::tuples::put_unequals` meets its contract: the first variable, and those behind it. The loop's invariant: the
 -- variables behind the first stand up to the word reached. The measure is the number of words left.
-use Prim.Native.Nat.{◌+◌, ◌-◌, ◌≤◌}
+use Prim.Native.Nat.{◌+◌, ◌-◌}
 use native.Mathlib.Omega.{arith}
-use mathlib.Core.Path.{refl, ◌∙◌}
+use mathlib.Core.Path.{refl}
 use Rattle.model.specs.Words.{word}
 use Rattle.tptp_putting.specs.Texts.{unequal_text}
-use Rattle.tptp_putting.proofs.AddLaws.{Behind, behind-fits, behind_then, behind-is, Left, left-none, left-more, left_end}
-use Rattle.tptp_putting.proofs.TextLaws.{next_unequal, unequals_rest, tuple_starts, tuple-more, tuple-none}
-use borrow.Author.Rules.{rules}
+use Rattle.tptp_putting.proofs.AddLaws.{Behind, behind_then, behind-is, left-more, left_end}
+use Rattle.tptp_putting.proofs.TextLaws.{next_unequal, tuple_starts, tuple-more, tuple-none}
 use Rattle.tptp_putting.proofs.tuples.put_unequals.Goals as goal
-
 
 pub loop-i-preserved : goal.loop-i-preserved
 loop-i-preserved c =

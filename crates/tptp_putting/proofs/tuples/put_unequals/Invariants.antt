@@ -1,13 +1,8 @@
 -- `tptp_putting::tuples::put_unequals` meets its contract: the first variable, and those behind it. The loop's invariant: the
 -- variables behind the first stand up to the word reached. The measure is the number of words left.
 use Prim.Native.Nat.{◌+◌, ◌-◌, ◌≤◌}
-use native.Mathlib.Omega.{arith}
-use mathlib.Core.Path.{refl, ◌∙◌}
-use Rattle.model.specs.Words.{word}
-use Rattle.tptp_putting.specs.Texts.{unequal_text}
-use Rattle.tptp_putting.proofs.AddLaws.{Behind, behind-fits, behind_then, behind-is, Left, left-none, left-more, left_end}
-use Rattle.tptp_putting.proofs.TextLaws.{next_unequal, unequals_rest, tuple_starts, tuple-more, tuple-none}
-use borrow.Author.Rules.{rules}
+use Rattle.tptp_putting.proofs.AddLaws.{Left}
+use Rattle.tptp_putting.proofs.TextLaws.{unequals_rest}
 use Rattle.tptp_putting.proofs.tuples.put_unequals.Given as goal
 
 abbrev pub invariant-loop-i : goal.invariant-loop-i

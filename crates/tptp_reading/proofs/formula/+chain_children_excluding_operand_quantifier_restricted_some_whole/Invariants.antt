@@ -3,37 +3,11 @@
 -- there, two for `children`, `excluding` and `restricted`, which call `operand`, three for `chain`, which calls `children`, and four for
 -- `whole`, which calls `chain`. All other calls are behind a parenthesis.
 -- The loop of `children`: the operands passed are read and told behind the first, and there is fuel for those left.
-use Prim.Native.Nat.{ℕ, ◌+◌, ◌*◌, ◌<◌, ◌-◌}
-use lib.ListN.{length, get_or}
+use Prim.Native.Nat.{◌+◌, ◌*◌, ◌-◌}
+use lib.ListN.{length}
 use Rattle.policies.specs.Node.{as_role}
 use Rattle.tptp_state.specs.Known.{state_of}
-use Rattle.tptp_reading.proofs.ChildrenLaws.{Joining, joining-start, joining-over, joining-stop, joining-begins, joining-refused}
-use Rattle.tptp_reading.proofs.ChildrenLaws.{joining_less, joining-more}
-use mathlib.Core.Bool.{true, false}
-use Rattle.tptp_state.specs.Told.{Told}
-use Rattle.tptp_reading.specs.Formula.{beneath, came, many}
-use mathlib.Core.Path.{sym, refl, ap, ◌∙◌, subst}
-use native.Mathlib.Omega.{arith}
-use borrow.Author.Rules.{rules}
-use borrow.Author.Tests.{not-true, not-false}
-use Rattle.model.specs.Bytes.{ampersand}
-use Rattle.model.specs.Reading.{is_formula}
-use Rattle.model.specs.TptpReading.{more, read_tuple, opening, read_some}
-use Rattle.tptp_binders.specs.Tuples.{StoredTuples}
-use Rattle.tptp_tokens.specs.Steps.{Steps, Valued, Within}
-use Rattle.tptp_tokens.proofs.BehindLaws.{valued_within, steps_within}
-use Rattle.tptp_reading.proofs.RoomLaws.{opening-room}
-use Rattle.tptp_reading.proofs.OperandLaws.{operand-over, operand-refused, operand-chain, operand-some, operand-quantifier, operand_skip}
-use Rattle.tptp_reading.proofs.OperandLaws.{leaf-byte, restricts}
-use Rattle.tptp_reading.proofs.ChainLaws.{chain-begins, chain-refused, chain-stop, chain-rest, chain-read, whole-chain, whole-refused}
-use Rattle.tptp_reading.proofs.ChainLaws.{whole-stop, whole-alone}
-use Rattle.tptp_reading.proofs.RestrictionLaws.{excluding-some, excluding-begins, excluding-refused, excluding-other, excluding-read}
-use Rattle.tptp_reading.proofs.RestrictionLaws.{restricted-begins, restricted-alone, restricted-refused, restricted-excluding}
-use Rattle.tptp_reading.proofs.RestrictionLaws.{restricted-chain}
-use Rattle.tptp_reading.proofs.QuantifierLaws.{cost-few, quantifier-variables, quantifier-begins, quantifier-body, quantifier-refused}
-use Rattle.tptp_reading.proofs.QuantifierLaws.{quantifier_unsigned, quantifier-read}
-use Rattle.tptp_reading.proofs.SomeLaws.{some-begins, some-refused, some_read}
-use Rattle.model.specs.Level as L
+use Rattle.tptp_reading.proofs.ChildrenLaws.{Joining}
 use Rattle.tptp_reading.proofs.formula.+chain_children_excluding_operand_quantifier_restricted_some_whole.Given as goal
 
 abbrev pub decreases-chain : goal.decreases-chain

@@ -6,7 +6,6 @@ use Rattle.model.specs.Bytes.{Text, bytes}
 use Rattle.model.specs.TptpReading.{token}
 use Rattle.tptp_tokens.specs.Steps.{Steps, Within, Behind}
 use Rattle.tptp_tokens.specs.declared.tokens.Step.{Step}
-use borrow.Author.Rules.{rules}
 use Rattle.tptp_reading.proofs.formula.implies.Goals as goal
 
 -- the sign of a for-all, and of an exists

@@ -3,9 +3,7 @@ use mathlib.Core.Path.{◌∙◌}
 use Rattle.model.specs.Reading.{is_formula}
 use Rattle.policies.specs.Node.{as_role}
 use Rattle.tptp_reading.proofs.OperandLaws.{leaf-refused, leaf-stands, leaf-read}
-use borrow.Author.Rules.{rules}
 use Rattle.tptp_reading.proofs.formula.leaf_apart.Goals as goal
-
 
 pub returns-in_default : goal.returns-in_default
 returns-in_default c =

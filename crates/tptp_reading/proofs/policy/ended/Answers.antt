@@ -1,12 +1,8 @@
 -- `tptp_reading::policy::ended` meets its contract.
 use native.Mathlib.Omega.{arith}
-use mathlib.Core.Path.{subst}
-use Rattle.tptp_tokens.specs.Steps.{Within}
-use Rattle.tptp_tokens.proofs.BehindLaws.{behind-same, behind-read}
+use Rattle.tptp_tokens.proofs.BehindLaws.{behind-read}
 use Rattle.tptp_reading.proofs.PolicyLaws.{ended-other, ended-over}
-use borrow.Author.Rules.{rules}
 use Rattle.tptp_reading.proofs.policy.ended.Goals as goal
-
 
 pub returns-then-i-text : goal.returns-then-i-text
 returns-then-i-text c =

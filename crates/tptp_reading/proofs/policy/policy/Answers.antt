@@ -1,22 +1,16 @@
 -- `tptp_reading::policy::policy` meets its contract.
-use native.Mathlib.Omega.{arith}
-use mathlib.Core.Path.{sym, subst}
 use mathlib.Core.Bool.{true}
-use mathlib.Core.List.{[], ◌∷◌}
 use Rattle.model.specs.Level.{formula}
 use Rattle.model.specs.Reading.{is_formula}
-use Rattle.model.specs.TptpReading.{token, readers}
-use Rattle.tptp_tokens.specs.Steps.{Valued, Within}
-use Rattle.tptp_state.specs.Told.{Ready, Told}
+use Rattle.model.specs.TptpReading.{readers}
+use Rattle.tptp_tokens.specs.Steps.{Valued}
+use Rattle.tptp_state.specs.Told.{Told}
 use Rattle.tptp_reading.specs.Formula.{closed}
 use Rattle.tptp_reading.specs.Policy.{start_state}
 use Rattle.tptp_state.specs.declared.state.State.{State}
-use Rattle.tptp_tokens.proofs.BehindLaws.{steps_within}
 use Rattle.tptp_state.proofs.KnownLaws.{as_held}
-use Rattle.tptp_reading.proofs.PolicyLaws.{header_refused, policy-read, start-held, start-ready}
-use borrow.Author.Rules.{rules}
+use Rattle.tptp_reading.proofs.PolicyLaws.{header_refused, policy-read, start-held}
 use Rattle.tptp_reading.proofs.policy.policy.Goals as goal
-
 
 pub returns-in_default : goal.returns-in_default
 returns-in_default c =

@@ -1,7 +1,6 @@
 -- `tptp_state::known::checked` meets its contract.
 use Prim.Native.Nat.{ℕ}
 use mathlib.Core.Path.{◌≡◌, sym, ap, ◌∙◌}
-use borrow.Author.Rules.{rules}
 use Rattle.model.specs.declared.Refusal.{Refusal}
 use Rattle.tables.specs.declared.Checked.TheVariants.{Passed, Refused}
 use Rattle.tptp_state.specs.Known.{checked_of}

@@ -1,8 +1,6 @@
 -- `tptp_state::known::code` meets its contract.
 use Rattle.tptp_state.specs.Known.{code_of}
-use borrow.Author.Rules.{rules}
 use Rattle.tptp_state.proofs.known.code.Goals as goal
-
 
 pub returns-in-Passed : goal.returns-in-Passed
 unfolding code_of

@@ -1,8 +1,6 @@
 -- `tptp_state::known::hold` meets its contract.
 use Rattle.tptp_state.proofs.KnownLaws.{held_again}
-use borrow.Author.Rules.{rules}
 use Rattle.tptp_state.proofs.known.hold.Goals as goal
-
 
 pub returns : goal.returns
 returns c =

@@ -1,14 +1,11 @@
 -- `tptp_state::state::ask_leaf` meets its contract.
-use native.Mathlib.Omega.{arith}
 use mathlib.Core.Path.{sym, ap, ◌∙◌}
 use Rattle.model.specs.Tag.{Tag}
 use Rattle.model.specs.Reading.{questions}
 use Rattle.policies.specs.Node.{as_role}
 use Rattle.tptp_state.specs.Told.{moved}
 use Rattle.tptp_state.proofs.StateLaws.{refused_then, passed_then}
-use borrow.Author.Rules.{rules}
 use Rattle.tptp_state.proofs.state.ask_leaf.Goals as goal
-
 
 pub returns-in-Refused : goal.returns-in-Refused
 returns-in-Refused c = refused_then c.in-Refused.is _

@@ -1,8 +1,6 @@
 -- `tptp_state::state::at_place` meets its contract.
 use Rattle.tptp_state.specs.Told.{moved}
-use borrow.Author.Rules.{rules}
 use Rattle.tptp_state.proofs.state.at_place.Goals as goal
-
 
 pub returns-in-Passed : goal.returns-in-Passed
 unfolding moved

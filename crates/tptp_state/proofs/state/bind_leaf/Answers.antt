@@ -1,8 +1,6 @@
 -- `tptp_state::state::bind_leaf` meets its contract.
-use Rattle.tptp_state.proofs.StateLaws.{bound-asked, bound-moded, bound-leaf}
-use borrow.Author.Rules.{rules}
+use Rattle.tptp_state.proofs.StateLaws.{bound-moded, bound-leaf}
 use Rattle.tptp_state.proofs.state.bind_leaf.Goals as goal
-
 
 pub returns-in-Refused-moded : goal.returns-in-Refused-moded
 returns-in-Refused-moded c =

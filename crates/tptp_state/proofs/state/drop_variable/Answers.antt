@@ -1,9 +1,7 @@
 -- `tptp_state::state::drop_variable` meets its contract.
 use native.Mathlib.Omega.{arith}
-use Rattle.tptp_state.proofs.StateLaws.{dropped, dropped_none}
-use borrow.Author.Rules.{rules}
+use Rattle.tptp_state.proofs.StateLaws.{dropped}
 use Rattle.tptp_state.proofs.state.drop_variable.Goals as goal
-
 
 pub returns : goal.returns
 returns c =

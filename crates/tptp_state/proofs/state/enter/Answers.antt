@@ -4,9 +4,7 @@ use Rattle.model.specs.Answer.{Outcome, ask, ◌>>=◌}
 use Rattle.model.specs.declared.Refusal.TheVariants.{Variable}
 use Rattle.laws.specs.Answer.{then_assoc}
 use Rattle.tables.specs.Checked.{outcome}
-use borrow.Author.Rules.{rules}
 use Rattle.tptp_state.proofs.state.enter.Goals as goal
-
 
 pub returns : goal.returns
 returns c =

@@ -5,10 +5,8 @@ use mathlib.Core.Bool.{Bool}
 use Rattle.model.specs.Answer.{ask, ◌>>=◌}
 use Rattle.model.specs.declared.Refusal.TheVariants.{Mode}
 use Rattle.tables.specs.Checked.{outcome}
-use Rattle.tptp_state.proofs.StateLaws.{introduces, introduces_none}
-use borrow.Author.Rules.{rules}
+use Rattle.tptp_state.proofs.StateLaws.{introduces}
 use Rattle.tptp_state.proofs.state.introduce.Goals as goal
-
 
 pub returns : goal.returns
 returns c =

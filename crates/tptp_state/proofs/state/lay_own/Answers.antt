@@ -1,13 +1,9 @@
 -- `tptp_state::state::lay_own` meets its contract. The loop's invariant: so many words are laid.
 use native.Mathlib.Omega.{arith}
-use Prim.Native.Nat.{ℕ, ◌-◌, ◌≤◌}
-use mathlib.Core.Path.{◌≡◌, refl, ap, ◌∙◌}
-use lib.ListN.{length, take}
-use lib.Seq.{sets, length-sets}
+use Prim.Native.Nat.{◌-◌}
+use mathlib.Core.Path.{◌∙◌}
 use Rattle.tptp_state.proofs.StateLaws.{laid_more}
-use borrow.Author.Rules.{rules}
 use Rattle.tptp_state.proofs.state.lay_own.Goals as goal
-
 
 pub loop-i-preserved : goal.loop-i-preserved
 loop-i-preserved c =

@@ -1,11 +1,8 @@
 -- `tptp_state::state::lay_own` meets its contract. The loop's invariant: so many words are laid.
-use native.Mathlib.Omega.{arith}
-use Prim.Native.Nat.{ℕ, ◌-◌, ◌≤◌}
-use mathlib.Core.Path.{◌≡◌, refl, ap, ◌∙◌}
-use lib.ListN.{length, take}
-use lib.Seq.{sets, length-sets}
-use Rattle.tptp_state.proofs.StateLaws.{laid_more}
-use borrow.Author.Rules.{rules}
+use Prim.Native.Nat.{◌-◌, ◌≤◌}
+use mathlib.Core.Path.{◌≡◌}
+use lib.ListN.{take}
+use lib.Seq.{sets}
 use Rattle.tptp_state.proofs.state.lay_own.Given as goal
 
 abbrev pub invariant-loop-i : goal.invariant-loop-i

@@ -2,19 +2,14 @@
 use native.Mathlib.Omega.{arith}
 use mathlib.Core.Path.{◌≡◌, refl, ap}
 use mathlib.Core.Bool.{true}
-use mathlib.Core.List.{[], ◌∷◌}
-use types.Run.{OneOf, miss}
 use Rattle.model.specs.Reading.{is_formula}
 use Rattle.model.specs.Tree.{encode}
 use lib.ListN.{length}
 use Rattle.policies.specs.Node.{as_tag, as_role}
 use Rattle.policies.specs.declared.node.Role.{Role}
 use Rattle.policies.specs.declared.node.Role.TheVariants.{Restriction, Formula, Operand}
-use Rattle.policies.specs.contracts.node.Role.{the_type}
-use denote.Enum.Declared.{tag_of}
 use Rattle.tptp_state.proofs.LeafSettling.{leaf-formula, leaf-restricted, leaf-there, leaf-number, leaf-here}
 use Rattle.tptp_state.proofs.StateLaws.{asked-passed}
-use borrow.Author.Rules.{rules}
 use Rattle.tptp_state.proofs.state.settle_leaf.Goals as goal
 
 -- a role that is no restriction is a formula's

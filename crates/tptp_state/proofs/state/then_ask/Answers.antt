@@ -2,9 +2,7 @@
 use mathlib.Core.Path.{sym, ◌∙◌}
 use Rattle.model.specs.Answer.{ask}
 use Rattle.tptp_state.proofs.StateLaws.{refused_then, passed_then}
-use borrow.Author.Rules.{rules}
 use Rattle.tptp_state.proofs.state.then_ask.Goals as goal
-
 
 pub returns-in-Refused : goal.returns-in-Refused
 returns-in-Refused c = refused_then c.in-Refused.is _

@@ -1,11 +1,8 @@
 -- `tptp_tokens::name::name` meets its contract.
 use native.Mathlib.Omega.{arith}
 use mathlib.Core.Path.{sym, ◌∙◌}
-use borrow.Author.Tests.{not-true, not-false}
 use Rattle.tptp_tokens.proofs.NameLaws.{name-over, name-other, name-here}
-use borrow.Author.Rules.{rules}
 use Rattle.tptp_tokens.proofs.name.name.Goals as goal
-
 
 pub returns-then-text-i : goal.returns-then-text-i
 returns-then-text-i c =

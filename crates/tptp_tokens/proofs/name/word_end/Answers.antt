@@ -1,15 +1,9 @@
 -- `tptp_tokens::name::word_end` meets its contract. The loop's invariant: the bytes passed lead from the start to here.
 use native.Mathlib.Omega.{arith}
-use Prim.Native.Nat.{◌-◌, ◌≤◌}
-use mathlib.Core.Path.{◌≡◌, refl, sym, ◌∙◌}
-use lib.ListN.{length}
-use borrow.Author.Tests.{not-true, not-false}
-use borrow.Author.Rules.{rules}
-use Rattle.model.specs.TptpReading.{word_bytes}
-use Rattle.tptp_tokens.specs.Steps.{from}
+use Prim.Native.Nat.{◌-◌}
+use mathlib.Core.Path.{sym, ◌∙◌}
 use Rattle.tptp_tokens.proofs.NameLaws.{word_more, word-stop, word_over}
 use Rattle.tptp_tokens.proofs.name.word_end.Goals as goal
-
 
 pub returns-then-not-is_word : goal.returns-then-not-is_word
 returns-then-not-is_word c =

@@ -3,9 +3,7 @@ use native.Mathlib.Omega.{arith}
 use mathlib.Core.Path.{sym, subst}
 use Rattle.tptp_tokens.specs.Numbers.{Integers}
 use Rattle.tptp_tokens.proofs.NumberLaws.{integer-over, integer-below, integer-above}
-use borrow.Author.Rules.{rules}
 use Rattle.tptp_tokens.proofs.numbers.integer.Goals as goal
-
 
 pub returns-then-text-i : goal.returns-then-text-i
 returns-then-text-i c =

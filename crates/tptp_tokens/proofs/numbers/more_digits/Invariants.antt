@@ -1,14 +1,9 @@
 -- `tptp_tokens::numbers::more_digits` meets its contract. The loop's invariant: the digits passed lead from the start to here.
-use native.Mathlib.Omega.{arith}
 use Prim.Native.Nat.{◌-◌, ◌≤◌}
-use mathlib.Core.Path.{◌≡◌, refl, sym, ◌∙◌}
+use mathlib.Core.Path.{◌≡◌}
 use lib.ListN.{length}
-use borrow.Author.Tests.{not-true, not-false}
 use Rattle.model.specs.TptpReading.{more_digits}
-use Rattle.laws.specs.Decimal.{digit-range}
 use Rattle.tptp_tokens.specs.Steps.{from}
-use Rattle.tptp_tokens.proofs.NumberLaws.{digits_more, digits-nought, digits_great, digits-stop, digits_end}
-use borrow.Author.Rules.{rules}
 use Rattle.tptp_tokens.proofs.numbers.more_digits.Given as goal
 
 abbrev pub invariant-loop-i : goal.invariant-loop-i

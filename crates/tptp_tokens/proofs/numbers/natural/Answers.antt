@@ -1,12 +1,9 @@
 -- `tptp_tokens::numbers::natural` meets its contract.
 use native.Mathlib.Omega.{arith}
 use mathlib.Core.Path.{sym, ◌∙◌}
-use borrow.Author.Tests.{not-true, not-false}
 use Rattle.laws.specs.Decimal.{digit-range}
 use Rattle.tptp_tokens.proofs.NumberLaws.{natural-over, natural-other, natural-first}
-use borrow.Author.Rules.{rules}
 use Rattle.tptp_tokens.proofs.numbers.natural.Goals as goal
-
 
 pub returns-then-text-at : goal.returns-then-text-at
 returns-then-text-at c =

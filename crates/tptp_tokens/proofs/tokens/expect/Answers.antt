@@ -1,9 +1,7 @@
 -- `tptp_tokens::tokens::expect` meets its contract.
 use native.Mathlib.Omega.{arith}
 use Rattle.tptp_tokens.proofs.TokenLaws.{token-here, token-other, token-over}
-use borrow.Author.Rules.{rules}
 use Rattle.tptp_tokens.proofs.tokens.expect.Goals as goal
-
 
 pub returns-then-text-i : goal.returns-then-text-i
 returns-then-text-i c =

@@ -1,14 +1,9 @@
 -- `tptp_tokens::tokens::literal` meets its contract. The loop's invariant: the bytes passed lead from the start to here.
 use native.Mathlib.Omega.{arith}
-use Prim.Native.Nat.{◌+◌, ◌-◌, ◌≤◌}
-use mathlib.Core.Path.{◌≡◌, refl, ◌∙◌}
-use lib.ListN.{length, drop}
-use Rattle.model.specs.TptpReading.{literal}
-use Rattle.tptp_tokens.specs.Steps.{from}
+use Prim.Native.Nat.{◌-◌}
+use mathlib.Core.Path.{◌∙◌}
 use Rattle.tptp_tokens.proofs.TokenLaws.{literal-more, literal-other, literal-short, literal_end}
-use borrow.Author.Rules.{rules}
 use Rattle.tptp_tokens.proofs.tokens.literal.Goals as goal
-
 
 pub returns-then-text-next : goal.returns-then-text-next
 returns-then-text-next c =

@@ -1,12 +1,9 @@
 -- `tptp_tokens::tokens::literal` meets its contract. The loop's invariant: the bytes passed lead from the start to here.
-use native.Mathlib.Omega.{arith}
 use Prim.Native.Nat.{◌+◌, ◌-◌, ◌≤◌}
-use mathlib.Core.Path.{◌≡◌, refl, ◌∙◌}
+use mathlib.Core.Path.{◌≡◌}
 use lib.ListN.{length, drop}
 use Rattle.model.specs.TptpReading.{literal}
 use Rattle.tptp_tokens.specs.Steps.{from}
-use Rattle.tptp_tokens.proofs.TokenLaws.{literal-more, literal-other, literal-short, literal_end}
-use borrow.Author.Rules.{rules}
 use Rattle.tptp_tokens.proofs.tokens.literal.Given as goal
 
 abbrev pub invariant-loop-i : goal.invariant-loop-i

@@ -1,9 +1,7 @@
 -- `tptp_tokens::tokens::opening` meets its contract.
 use native.Mathlib.Omega.{arith}
 use Rattle.tptp_tokens.proofs.TokenLaws.{opening-here, opening-level, opening-other, opening-over}
-use borrow.Author.Rules.{rules}
 use Rattle.tptp_tokens.proofs.tokens.opening.Goals as goal
-
 
 pub returns-then-text-i : goal.returns-then-text-i
 returns-then-text-i c =

@@ -1,15 +1,9 @@
 -- `tptp_tokens::tokens::skip` meets its contract. The loop's invariant: the blanks passed lead from the start to here.
 use native.Mathlib.Omega.{arith}
-use Prim.Native.Nat.{◌-◌, ◌≤◌}
-use mathlib.Core.Path.{◌≡◌, refl, sym, ◌∙◌}
-use lib.ListN.{length}
-use borrow.Author.Tests.{not-true, not-false}
-use Rattle.model.specs.TptpReading.{blanks}
-use Rattle.tptp_tokens.specs.Steps.{from}
+use Prim.Native.Nat.{◌-◌}
+use mathlib.Core.Path.{sym, ◌∙◌}
 use Rattle.tptp_tokens.proofs.TokenLaws.{skip_more, skip_stop, skip_end}
-use borrow.Author.Rules.{rules}
 use Rattle.tptp_tokens.proofs.tokens.skip.Goals as goal
-
 
 pub returns-then-not-is_blank : goal.returns-then-not-is_blank
 returns-then-not-is_blank c =

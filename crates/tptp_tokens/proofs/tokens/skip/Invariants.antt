@@ -1,13 +1,9 @@
 -- `tptp_tokens::tokens::skip` meets its contract. The loop's invariant: the blanks passed lead from the start to here.
-use native.Mathlib.Omega.{arith}
 use Prim.Native.Nat.{◌-◌, ◌≤◌}
-use mathlib.Core.Path.{◌≡◌, refl, sym, ◌∙◌}
+use mathlib.Core.Path.{◌≡◌}
 use lib.ListN.{length}
-use borrow.Author.Tests.{not-true, not-false}
 use Rattle.model.specs.TptpReading.{blanks}
 use Rattle.tptp_tokens.specs.Steps.{from}
-use Rattle.tptp_tokens.proofs.TokenLaws.{skip_more, skip_stop, skip_end}
-use borrow.Author.Rules.{rules}
 use Rattle.tptp_tokens.proofs.tokens.skip.Given as goal
 
 abbrev pub invariant-loop-i : goal.invariant-loop-i

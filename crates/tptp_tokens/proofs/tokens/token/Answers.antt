@@ -1,8 +1,6 @@
 -- `tptp_tokens::tokens::token` meets its contract.
 use Rattle.tptp_tokens.proofs.TokenLaws.{token_steps}
-use borrow.Author.Rules.{rules}
 use Rattle.tptp_tokens.proofs.tokens.token.Goals as goal
-
 
 pub returns : goal.returns
 returns c =

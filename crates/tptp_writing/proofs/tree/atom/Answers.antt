@@ -6,12 +6,10 @@ use mathlib.Core.List.{◌++◌}
 use Rattle.model.specs.Bytes.{Text, bytes}
 use Rattle.model.specs.Decimal.{digits}
 use Rattle.tptp_putting.specs.Texts.{terms_text}
-use Rattle.tptp_putting.proofs.AddLaws.{Behind, behind-fits, behind_more}
+use Rattle.tptp_putting.proofs.AddLaws.{Behind, behind_more}
 use Rattle.tptp_writing.proofs.NodeTextLaws.{atom-text}
 use Rattle.tptp_writing.proofs.PrintLaws.{prints_placed}
-use borrow.Author.Rules.{rules}
 use Rattle.tptp_writing.proofs.tree.atom.Goals as goal
-
 
 pub returns : goal.returns
 unfolding bytes

@@ -3,10 +3,8 @@ use mathlib.Core.Bool.{cond}
 use Rattle.model.specs.Bytes.{bytes}
 use Rattle.text.specs.declared.writing.Put.TheVariants as P
 use Rattle.tptp_putting.proofs.AddLaws.{Behind}
-use Rattle.tptp_writing.proofs.PrintLaws.{fits-nodes, closes_full, closes_at}
-use borrow.Author.Rules.{rules}
+use Rattle.tptp_writing.proofs.PrintLaws.{closes_at}
 use Rattle.tptp_writing.proofs.tree.close.Goals as goal
-
 
 pub returns : goal.returns
 unfolding bytes

@@ -1,6 +1,5 @@
 -- `tptp_writing::tree::compare` meets its contract: texts one behind another.
 use Prim.Native.Nat.{◌+◌}
-use native.Mathlib.Omega.{arith}
 use mathlib.Core.Path.{refl}
 use mathlib.Core.Bool.{cond}
 use mathlib.Core.List.{◌++◌}
@@ -9,12 +8,10 @@ use Rattle.model.specs.Bytes.{Text, bytes}
 use Rattle.model.specs.Decimal.{decimal}
 use Rattle.text.specs.declared.writing.Put.{Put}
 use Rattle.tptp_putting.specs.Texts.{term_text}
-use Rattle.tptp_putting.proofs.AddLaws.{Behind, behind-fits, behind_more}
+use Rattle.tptp_putting.proofs.AddLaws.{Behind, behind_more}
 use Rattle.tptp_writing.proofs.NodeTextLaws.{compare-text}
 use Rattle.tptp_writing.proofs.PrintLaws.{prints_placed}
-use borrow.Author.Rules.{rules}
 use Rattle.tptp_writing.proofs.tree.compare.Goals as goal
-
 
 pub returns : goal.returns
 unfolding bytes

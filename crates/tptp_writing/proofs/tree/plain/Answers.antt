@@ -5,9 +5,7 @@ use Rattle.model.specs.Bytes.{bytes}
 use Rattle.tptp_putting.proofs.AddLaws.{Behind}
 use Rattle.tptp_writing.proofs.NodeTextLaws.{plain-text}
 use Rattle.tptp_writing.proofs.PrintLaws.{prints_placed}
-use borrow.Author.Rules.{rules}
 use Rattle.tptp_writing.proofs.tree.plain.Goals as goal
-
 
 pub returns : goal.returns
 unfolding bytes

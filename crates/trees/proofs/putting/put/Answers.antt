@@ -3,11 +3,9 @@
 use Prim.Native.Nat.{◌+◌, ◌-◌, ◌≤◌}
 use native.Mathlib.Omega.{arith}
 use lib.ListN.{length}
-use borrow.Author.Rules.{rules}
 use Rattle.trees.proofs.Ahead.{ahead_word, ahead_there}
-use Rattle.trees.proofs.TreeWalk.{Treewise, tree-start, tree-next, tree_asks, tree-fits, tree-more, tree-long, tree-last}
+use Rattle.trees.proofs.TreeWalk.{tree-start, tree-next, tree_asks, tree-fits, tree-more, tree-last}
 use Rattle.trees.proofs.putting.put.Goals as goal
-
 
 pub loop-left-init : goal.loop-left-init
 loop-left-init c = tree-start c.args.numbers.now c.args.words.now c.args.at c.args.out.now

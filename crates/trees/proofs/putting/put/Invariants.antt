@@ -1,11 +1,8 @@
 -- `trees::putting::put` meets its contract. The loop's invariant: the words of the nodes passed are copied, and the trees that are left
 -- stand at the index reached.
-use Prim.Native.Nat.{◌+◌, ◌-◌, ◌≤◌}
-use native.Mathlib.Omega.{arith}
+use Prim.Native.Nat.{◌-◌}
 use lib.ListN.{length}
-use borrow.Author.Rules.{rules}
-use Rattle.trees.proofs.Ahead.{ahead_word, ahead_there}
-use Rattle.trees.proofs.TreeWalk.{Treewise, tree-start, tree-next, tree_asks, tree-fits, tree-more, tree-long, tree-last}
+use Rattle.trees.proofs.TreeWalk.{Treewise}
 use Rattle.trees.proofs.putting.put.Given as goal
 
 abbrev pub invariant-loop-left : goal.invariant-loop-left

@@ -10,9 +10,8 @@ use Rattle.trees.specs.Grown.{Grown}
 use Rattle.words.specs.Laying.{laid}
 use Rattle.trees.specs.Own.{own_words}
 use Rattle.trees.proofs.OwnLaws.{terms_of}
-use Rattle.trees.proofs.NodeWords.{node-terms, node-few, node-written, mid_long, node-long}
+use Rattle.trees.proofs.NodeWords.{node-terms, node-few, node-written, mid_long}
 use Rattle.trees.proofs.putting.put_node.Goals as goal
-
 
 pub terms-n-requires : goal.terms-n-requires
 terms-n-requires c = let (t, next, g) = c.requires.0 in tree-word _ _ next t g

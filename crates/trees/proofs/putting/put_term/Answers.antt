@@ -4,7 +4,7 @@ use native.Mathlib.Omega.{arith}
 use mathlib.Core.Path.{◌≡◌, sym, ap, ◌∙◌, subst}
 use mathlib.Core.Bool.{false}
 use lib.Signed.{mag}
-use lib.ListN.{length, get_or, length-set}
+use lib.ListN.{length, get_or}
 use lib.IntN.{ℤ, pos}
 use mir.Syntax.{w32}
 use mir.Val.{SFits, to_z, of_z}
@@ -13,7 +13,6 @@ use Rattle.model.specs.Words.{word, value, equal}
 use Rattle.trees.proofs.TermWords.{stored, term-constant, term-word, term-outer, term-inner}
 use borrow.Author.Rules.{rules}
 use Rattle.trees.proofs.putting.put_term.Goals as goal
-
 
 pub returns-then-is : goal.returns-then-is
 unfolding word

@@ -1,9 +1,8 @@
 -- `trees::putting::put_terms` meets its contract. The loop's invariant: the first i terms are copied, and the others stand behind them.
-use Prim.Native.Nat.{◌-◌, ◌≤◌}
+use Prim.Native.Nat.{◌-◌}
 use native.Mathlib.Omega.{arith}
-use Rattle.trees.proofs.TermsWalk.{Termwise, terms-start, terms-next, terms-long, terms-more, terms_end}
+use Rattle.trees.proofs.TermsWalk.{terms-start, terms-next, terms-more}
 use Rattle.trees.proofs.putting.put_terms.Goals as goal
-
 
 pub loop-i-init : goal.loop-i-init
 loop-i-init c =

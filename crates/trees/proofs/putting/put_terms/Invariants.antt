@@ -1,7 +1,6 @@
 -- `trees::putting::put_terms` meets its contract. The loop's invariant: the first i terms are copied, and the others stand behind them.
 use Prim.Native.Nat.{◌-◌, ◌≤◌}
-use native.Mathlib.Omega.{arith}
-use Rattle.trees.proofs.TermsWalk.{Termwise, terms-start, terms-next, terms-long, terms-more, terms_end}
+use Rattle.trees.proofs.TermsWalk.{Termwise}
 use Rattle.trees.proofs.putting.put_terms.Given as goal
 
 abbrev pub invariant-loop-i : goal.invariant-loop-i

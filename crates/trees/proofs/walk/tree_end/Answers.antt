@@ -3,11 +3,9 @@
 use Prim.Native.Nat.{◌+◌, ◌-◌, ◌≤◌}
 use native.Mathlib.Omega.{arith}
 use lib.ListN.{length}
-use borrow.Author.Rules.{rules}
 use Rattle.trees.proofs.Ahead.{ahead_word, ahead_there}
-use Rattle.trees.proofs.Walking.{Walking, walk_start, walk_ahead, walk_more, walk_fits, walk_end}
+use Rattle.trees.proofs.Walking.{walk_start, walk_ahead, walk_more, walk_fits, walk_end}
 use Rattle.trees.proofs.walk.tree_end.Goals as goal
-
 
 pub loop-left-init : goal.loop-left-init
 loop-left-init c = walk_start c.args.words.now c.args.at

@@ -5,9 +5,8 @@ use mathlib.Core.Path.{◌≡◌}
 use lib.ListN.{length}
 use lib.IntN.{pos}
 use Rattle.model.specs.Calls.{zeros}
-use Rattle.words.proofs.ClearingLaws.{Clearing, clear-start, clear-long, clear-more, clear_end}
+use Rattle.words.proofs.ClearingLaws.{clear-long, clear-more, clear_end}
 use Rattle.words.proofs.clearing.clear.Goals as goal
-
 
 pub loop-i-preserved : goal.loop-i-preserved
 loop-i-preserved c =

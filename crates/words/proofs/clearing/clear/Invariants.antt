@@ -1,11 +1,8 @@
 -- `words::clearing::clear` meets its contract. The loop's invariant: zeros stand from the first index up to the index reached.
 use Prim.Native.Nat.{◌-◌}
-use native.Mathlib.Omega.{arith}
-use mathlib.Core.Path.{◌≡◌}
 use lib.ListN.{length}
 use lib.IntN.{pos}
-use Rattle.model.specs.Calls.{zeros}
-use Rattle.words.proofs.ClearingLaws.{Clearing, clear-start, clear-long, clear-more, clear_end}
+use Rattle.words.proofs.ClearingLaws.{Clearing}
 use Rattle.words.proofs.clearing.clear.Given as goal
 
 abbrev pub invariant-loop-i : goal.invariant-loop-i

@@ -3,9 +3,8 @@ use Prim.Native.Nat.{◌-◌}
 use native.Mathlib.Omega.{arith}
 use mathlib.Core.Path.{◌≡◌}
 use lib.ListN.{length}
-use Rattle.words.proofs.ClearingLaws.{Clearing, clear-start, clear-long, clear-more, clear_end}
+use Rattle.words.proofs.ClearingLaws.{clear-long, clear-more}
 use Rattle.words.proofs.clearing.clear_bytes.Goals as goal
-
 
 pub loop-at-preserved : goal.loop-at-preserved
 loop-at-preserved c =

@@ -1,9 +1,7 @@
 -- `words::clearing::clear_bytes` meets its contract. The loop's invariant: zeros stand from the first index up to the index reached.
 use Prim.Native.Nat.{◌-◌}
-use native.Mathlib.Omega.{arith}
-use mathlib.Core.Path.{◌≡◌}
 use lib.ListN.{length}
-use Rattle.words.proofs.ClearingLaws.{Clearing, clear-start, clear-long, clear-more, clear_end}
+use Rattle.words.proofs.ClearingLaws.{Clearing}
 use Rattle.words.proofs.clearing.clear_bytes.Given as goal
 
 abbrev pub invariant-loop-at : goal.invariant-loop-at

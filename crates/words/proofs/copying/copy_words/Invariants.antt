@@ -1,13 +1,6 @@
 -- `words::copying::copy_words` meets its contract. The loop's invariant: the first i words are copied.
-use Prim.Native.Nat.{◌+◌, ◌-◌}
-use native.Mathlib.Omega.{arith}
-use mathlib.Core.Path.{◌≡◌}
-use lib.ListN.{get_or}
-use lib.IntN.{pos}
-use mir.Syntax.{w32}
-use mir.Val.{to_z, of_z}
-use borrow.Author.Rules.{rules}
-use Rattle.words.proofs.CopyingLaws.{Wordwise, words-start, words_long, words-room, words_more, words_end}
+use Prim.Native.Nat.{◌-◌}
+use Rattle.words.proofs.CopyingLaws.{Wordwise}
 use Rattle.words.proofs.copying.copy_words.Given as goal
 
 abbrev pub invariant-loop-i : goal.invariant-loop-i

@@ -1,15 +1,13 @@
 -- `words::moving::left` meets its contract. The loop's invariant: the first i words have moved.
 use Prim.Native.Nat.{◌+◌, ◌-◌}
-use native.Mathlib.Omega.{arith}
 use mathlib.Core.Path.{◌≡◌}
-use lib.ListN.{length, get_or}
+use lib.ListN.{get_or}
 use lib.IntN.{pos}
 use mir.Syntax.{w32}
 use mir.Val.{to_z, of_z}
 use borrow.Author.Rules.{rules}
-use Rattle.words.proofs.MovingLaws.{Left, left-start, left-long, left-more, left_end}
+use Rattle.words.proofs.MovingLaws.{left-more, left_end}
 use Rattle.words.proofs.moving.left.Goals as goal
-
 
 pub loop-i-preserved : goal.loop-i-preserved
 loop-i-preserved c =

@@ -1,13 +1,6 @@
 -- `words::moving::left` meets its contract. The loop's invariant: the first i words have moved.
-use Prim.Native.Nat.{◌+◌, ◌-◌}
-use native.Mathlib.Omega.{arith}
-use mathlib.Core.Path.{◌≡◌}
-use lib.ListN.{length, get_or}
-use lib.IntN.{pos}
-use mir.Syntax.{w32}
-use mir.Val.{to_z, of_z}
-use borrow.Author.Rules.{rules}
-use Rattle.words.proofs.MovingLaws.{Left, left-start, left-long, left-more, left_end}
+use Prim.Native.Nat.{◌-◌}
+use Rattle.words.proofs.MovingLaws.{Left}
 use Rattle.words.proofs.moving.left.Given as goal
 
 abbrev pub invariant-loop-i : goal.invariant-loop-i

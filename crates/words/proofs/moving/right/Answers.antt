@@ -7,9 +7,8 @@ use lib.IntN.{pos}
 use mir.Syntax.{w32}
 use mir.Val.{to_z, of_z}
 use borrow.Author.Rules.{rules}
-use Rattle.words.proofs.MovingLaws.{Right, right-start, right-more, right_end}
+use Rattle.words.proofs.MovingLaws.{right-more, right_end}
 use Rattle.words.proofs.moving.right.Goals as goal
-
 
 pub loop-i-preserved : goal.loop-i-preserved
 loop-i-preserved c =

@@ -11,7 +11,6 @@ use Rattle.model.specs.Listing.{bind}
 use Rattle.environments.proofs.Places.{held-bind}
 use Rattle.environments.proofs.environment.Environment.bind.Goals as goal
 
-
 pub returns : goal.returns
 returns c =
     λ e h. let k = c.args.number in let back : to_z w32 (of_z w32 k) ≡ k = search rules in subst

@@ -3,9 +3,7 @@ use Prim.Native.Nat.{◌*◌}
 use mathlib.Core.Path.{◌∙◌, ap}
 use Rattle.environments.specs.Environment.{unbits}
 use Rattle.environments.proofs.Places.{numbers-here, marks-here}
-use borrow.Author.Rules.{rules}
 use Rattle.environments.proofs.environment.Environment.read.Goals as goal
-
 
 pub returns : goal.returns
 returns c = λ e h.

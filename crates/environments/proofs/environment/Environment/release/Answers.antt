@@ -4,10 +4,8 @@ use mathlib.Core.Bool.{Bool, false}
 use mathlib.Core.List.{List}
 use lib.ListN.{set}
 use lib.IntN.{ℤ, pos}
-use borrow.Author.Rules.{rules}
 use Rattle.environments.proofs.Places.{numbers-release, marks-release}
 use Rattle.environments.proofs.environment.Environment.release.Goals as goal
-
 
 pub returns : goal.returns
 returns c = λ e h.

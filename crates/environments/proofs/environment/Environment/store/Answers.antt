@@ -1,9 +1,9 @@
 -- `environments::environment::Environment::store` meets its contract. The loop's invariant: the first i numbers are there.
-use Prim.Native.Nat.{◌+◌, ◌*◌, ◌-◌, ◌^◌, ◌≤◌, ◌<◌}
+use Prim.Native.Nat.{◌+◌, ◌*◌, ◌-◌, ◌^◌, ◌<◌}
 use native.Mathlib.Omega.{arith}
-use mathlib.Core.Path.{◌≡◌, refl, sym, ap, ap₂, ◌∙◌}
+use mathlib.Core.Path.{◌≡◌, sym, ap, ap₂, ◌∙◌}
 use lib.ListN.{length, get_or, set, take, drop, length-set}
-use lib.Seq.{paste, paste-zero, paste-suc}
+use lib.Seq.{paste, paste-suc}
 use lib.IntN.{ℤ, pos}
 use mir.Syntax.{w32}
 use mir.Val.{to_z, of_z}
@@ -15,7 +15,6 @@ use Rattle.model.specs.Words.{Words}
 use Rattle.environments.specs.Environment.{bits, marks_of, place_of}
 use Rattle.environments.proofs.Places.{bits_small, place-stored}
 use Rattle.environments.proofs.environment.Environment.store.Goals as goal
-
 
 pub loop-i-preserved : goal.loop-i-preserved
 loop-i-preserved c =

@@ -3,9 +3,7 @@ use mathlib.Core.Path.{◌≡◌}
 use mathlib.Core.Bool.{true, false}
 use Rattle.model.specs.Words.{same}
 use Rattle.joining.proofs.Adding as A
-use borrow.Author.Rules.{rules}
 use Rattle.joining.proofs.join.Join.add.Goals as goal
-
 
 pub returns-then-value-self : goal.returns-then-value-self
 returns-then-value-self c =

@@ -3,9 +3,7 @@ use native.Mathlib.Omega.{arith}
 use mathlib.Core.Path.{◌≡◌}
 use mathlib.Core.Bool.{false}
 use Rattle.joining.proofs.Finishing as F
-use borrow.Author.Rules.{rules}
 use Rattle.joining.proofs.join.Join.finish.Goals as goal
-
 
 pub returns-then-self : goal.returns-then-self
 returns-then-self c = λ b ts need places s. F.finish-short s c.if-self.true

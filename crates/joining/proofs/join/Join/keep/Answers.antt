@@ -2,15 +2,12 @@
 -- makes of the state is said in Keeping.
 use native.Mathlib.Omega.{arith}
 use mathlib.Core.Path.{◌≡◌, sym, ◌∙◌}
-use mathlib.Core.Logic.{⊎_elim}
 use mathlib.Core.Bool.{true, false, cond}
 use lib.IntN.{pos}
 use Rattle.model.specs.Words.{word, equal}
 use Rattle.joining.proofs.Keeping as K
-use borrow.Author.Rules.{rules}
 use Rattle.joining.proofs.join.Join.keep.Goals as goal
 use Rattle.joining.proofs.join.Join.keep.Goals.{then-self-via-then-self, then-self-via-else-self+then-self-2, then-self-via-else-self+else-self-2+then-self-3}
-
 
 pub returns-then-self : goal.returns-then-self
 returns-then-self c =
