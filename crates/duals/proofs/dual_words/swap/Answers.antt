@@ -18,11 +18,10 @@ formulas-more-requires c =
     swap_word _ _ c.loop-left.left c.loop-left.at c.loop-left.buffer c.loop-left-test.true c.loop-left.invariant.1 c.requires.1
 
 pub formula_after-next-requires : goal.formula_after-next-requires
-formula_after-next-requires c =
-    (
-      swap_tree _ _ c.loop-left.left c.loop-left.at c.loop-left.buffer c.loop-left-test.true c.loop-left.invariant.1 c.requires.1,
-      c.tag_at-tag.ensures,
-    )
+formula_after-next-requires c = (
+  swap_tree _ _ c.loop-left.left c.loop-left.at c.loop-left.buffer c.loop-left-test.true c.loop-left.invariant.1 c.requires.1,
+  c.tag_at-tag.ensures,
+)
 
 pub bounds-buffer-at : goal.bounds-buffer-at
 bounds-buffer-at c =

@@ -8,12 +8,11 @@ use Rattle.environments.proofs.Filling.{unbits-next, unbits-last}
 use Rattle.environments.proofs.environment.marks_of.Goals as goal
 
 pub loop-i-preserved : goal.loop-i-preserved
-loop-i-preserved c =
-    (
-      omega arith,
-      length-set c.loop-i.marks c.loop-i.i _ ∙ c.loop-i.invariant.1,
-      c.loop-i.invariant.2 ∙ unbits-next c.loop-i.marks 16 c.loop-i.left c.loop-i.i (omega arith) (omega arith),
-    )
+loop-i-preserved c = (
+  omega arith,
+  length-set c.loop-i.marks c.loop-i.i _ ∙ c.loop-i.invariant.1,
+  c.loop-i.invariant.2 ∙ unbits-next c.loop-i.marks 16 c.loop-i.left c.loop-i.i (omega arith) (omega arith),
+)
 
 pub returns : goal.returns
 returns c =

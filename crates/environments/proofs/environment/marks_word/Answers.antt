@@ -31,9 +31,8 @@ overflow_add-word c =
     omega (arith, small, byte_small (get_or c.args.marks (c.loop-i.i - 1) false))
 
 pub loop-i-preserved : goal.loop-i-preserved
-loop-i-preserved c =
-    (
-      omega arith,
-      c.loop-i.invariant.1,
-      bits-more c.args.marks c.loop-i.i c.loop-i.word c.loop-i-test.true (omega arith) c.loop-i.invariant.2,
-    )
+loop-i-preserved c = (
+  omega arith,
+  c.loop-i.invariant.1,
+  bits-more c.args.marks c.loop-i.i c.loop-i.word c.loop-i-test.true (omega arith) c.loop-i.invariant.2,
+)

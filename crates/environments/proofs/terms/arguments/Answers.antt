@@ -23,13 +23,12 @@ loop-i-init c = (
 )
 
 pub number-requires : goal.number-requires
-number-requires c =
-    (
-      c.requires.0,
-      omega (arith, c.requires.2),
-      place-holds (in_scope c.args.words.now 16) c.args.first
-          c.args.n c.loop-i.i c.requires.3 c.loop-i-test.true,
-    )
+number-requires c = (
+  c.requires.0,
+  omega (arith, c.requires.2),
+  place-holds (in_scope c.args.words.now 16) c.args.first
+      c.args.n c.loop-i.i c.requires.3 c.loop-i-test.true,
+)
 
 pub loop-i-preserved : goal.loop-i-preserved
 loop-i-preserved c =

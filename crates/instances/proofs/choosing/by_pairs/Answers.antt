@@ -51,8 +51,7 @@ loop-i-preserved-then-stands-2 c =
       room = c.requires.1;
       more = c.loop-i-test.true;
       going = c.loop-i.invariant.1;
-    } in
-    (
+    } in (
       omega arith,
       on_seen (turn) c.stands.result c.stands.ensures c.stands-in-loop-i.result
           c.stands-in-loop-i.ensures c.if-stands-2.true,
@@ -77,8 +76,7 @@ loop-i-preserved c =
       room = c.requires.1;
       more = c.loop-i-test.true;
       going = c.loop-i.invariant.1;
-    } in
-    (
+    } in (
       omega arith,
       on_found (turn) c.stands.result c.stands.ensures c.stands-in-loop-i.result c.stands-in-loop-i.ensures
           c.if-stands.false c.if-stands-2.false _ c.copy_place.ensures,

@@ -84,8 +84,7 @@ loop-i-preserved c =
       room = c.requires.1;
       more = c.loop-i-test.true;
       going = c.loop-i.invariant.1;
-    } in
-    (
+    } in (
       omega arith,
       on_new (turn) c.seen.result c.seen.ensures c.if-seen.false _ c.copy_place.ensures,
       keyed_on

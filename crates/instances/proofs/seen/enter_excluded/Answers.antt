@@ -25,8 +25,7 @@ enter-requires c =
 
 pub loop-e-preserved : goal.loop-e-preserved
 loop-e-preserved c =
-    let a = c.args in
-    (
+    let a = c.args in (
       omega arith,
       keyed_entered (λ e. take a.v (drop (a.from + a.v * e) a.words.now)) c.loop-e.e c.key-k.result
           c.loop-e.heads c.loop-e.links (omega (arith, c.requires.1)) c.key-k.ensures c.loop-e.invariant.1 _ _ c.enter.ensures.heads_after

@@ -14,14 +14,14 @@ pub loop-i-preserved : goal.loop-i-preserved
 loop-i-preserved c =
     let a = c.args in
     elim c.if-not-zero.branch [
-      then-not-zero w ↦ let now = w.used-is in (
+      | then-not-zero w ↦ let now = w.used-is in (
         omega arith,
         omega arith,
         c.loop-i.invariant.2 ∙ unused-word a.row.now c.requires a.n c.loop-i.i c.loop-i.used
             c.loop-i-test.true c.loop-i.invariant.1 (sym c.zero.ensures ∙ w.if-not-zero.true) ∙ ap
             (λ (u : ℕ). leb u a.n && unused_from a.row.now (max a.n (c.loop-i.i + 1))) (sym now),
       )
-    | else-not-zero w ↦ let now = w.used-is in (
+      | else-not-zero w ↦ let now = w.used-is in (
         omega arith,
         omega (arith, c.loop-i.invariant.1),
         c.loop-i.invariant.2 ∙ unused-zero a.row.now c.requires a.n c.loop-i.i

@@ -41,8 +41,7 @@ loop-i-preserved-then-word-argument c =
       more = c.loop-i-test.true;
       going = c.loop-i.invariant.1;
     } in
-    let argument_fits : SFits w32 (get_or c.args.log.now (8 * c.args.row + 2 + c.loop-i.i) (pos 0)) = search rules in
-    (
+    let argument_fits : SFits w32 (get_or c.args.log.now (8 * c.args.row + 2 + c.loop-i.i) (pos 0)) = search rules in (
       omega arith,
       constant_on (turn) (sym c.is.ensures ∙ c.if-is.true) c.word.result c.word.ensures
           (bits-equal _ _ (search rules) (argument_fits) c.if-word-argument.true),
@@ -252,8 +251,7 @@ loop-i-preserved c =
     variable-small t.words (t.first + 2 * t.i) 16
     (place-holds (in_scope t.words 16) t.first t.n t.i c.requires.3 t.more)
     (sym c.is.ensures ∙ c.if-is.false) in
-    omega (arith, c.value-x.ensures, v) in
-    (
+    omega (arith, c.value-x.ensures, v) in (
       omega arith,
       variable_on (turn) (sym c.is.ensures ∙ c.if-is.false) c.value-x.result
           c.value-x.ensures (small) (c.if-not-bound-x.false)

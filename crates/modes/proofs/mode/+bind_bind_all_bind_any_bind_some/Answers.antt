@@ -133,18 +133,17 @@ bind-returns-in_default t c =
     (other c.tag_at-tag.result (c.in_default.not-Atom, c.in_default.not-Compare, c.in_default.not-Join, c.in_default.not-Some)) c.args.bound (search rules)
 
 pub bind_all-bind-child-requires : goal.bind_all-bind-child-requires
-bind_all-bind-child-requires t c =
-    (
-      omega (arith, c.decreases, c.requires.1),
-      (
-        c.requires.0,
-        c.requires.1,
-        c.requires.2,
-        all_here c.args.table.now c.args.words.now c.args.above
-            c.args.scope c.args.n c.args.at c.loop-i.i c.loop-i.next c.args.bound c.loop-i.set
-            c.loop-i.invariant.2 c.loop-i-test.true c.requires.3,
-      ),
-    )
+bind_all-bind-child-requires t c = (
+  omega (arith, c.decreases, c.requires.1),
+  (
+    c.requires.0,
+    c.requires.1,
+    c.requires.2,
+    all_here c.args.table.now c.args.words.now c.args.above
+        c.args.scope c.args.n c.args.at c.loop-i.i c.loop-i.next c.args.bound c.loop-i.set
+        c.loop-i.invariant.2 c.loop-i-test.true c.requires.3,
+  ),
+)
 
 pub bind_all-returns-in-Refused : goal.bind_all-returns-in-Refused
 bind_all-returns-in-Refused t c =
@@ -153,19 +152,18 @@ bind_all-returns-in-Refused t c =
     c.bind-child.result c.bind-child.ensures c.in-Refused.is
 
 pub bind_all-loop-i-preserved : goal.bind_all-loop-i-preserved
-bind_all-loop-i-preserved t c =
-    (
-      omega (arith, c.loop-i-test.true),
-      came-marks c.args.table.now c.args.words.now
-          c.args.above c.args.scope c.loop-i.next _ _
-          (all_here c.args.table.now c.args.words.now c.args.above c.args.scope c.args.n c.args.at
-          c.loop-i.i c.loop-i.next c.args.bound c.loop-i.set c.loop-i.invariant.2 c.loop-i-test.true
-          c.requires.3) c.bind-child.ensures,
-      all-step c.args.table.now c.args.words.now c.args.above
-          c.args.scope c.args.n c.args.at c.loop-i.i c.loop-i.next c.args.bound c.loop-i.set
-          c.loop-i.invariant.2 c.loop-i-test.true c.bind-child.result c.bind-child.ensures
-          c.in_default.is,
-    )
+bind_all-loop-i-preserved t c = (
+  omega (arith, c.loop-i-test.true),
+  came-marks c.args.table.now c.args.words.now
+      c.args.above c.args.scope c.loop-i.next _ _
+      (all_here c.args.table.now c.args.words.now c.args.above c.args.scope c.args.n c.args.at
+      c.loop-i.i c.loop-i.next c.args.bound c.loop-i.set c.loop-i.invariant.2 c.loop-i-test.true
+      c.requires.3) c.bind-child.ensures,
+  all-step c.args.table.now c.args.words.now c.args.above
+      c.args.scope c.args.n c.args.at c.loop-i.i c.loop-i.next c.args.bound c.loop-i.set
+      c.loop-i.invariant.2 c.loop-i-test.true c.bind-child.result c.bind-child.ensures
+      c.in_default.is,
+)
 
 pub bind_all-returns : goal.bind_all-returns
 bind_all-returns t c =
@@ -174,17 +172,16 @@ bind_all-returns t c =
     c.loop-i.invariant.1
 
 pub bind_any-bind-first-requires : goal.bind_any-bind-first-requires
-bind_any-bind-first-requires t c =
-    (
-      omega (arith, c.decreases, c.requires.1),
-      (
-        c.requires.0,
-        c.requires.1,
-        c.requires.2,
-        any_here c.args.table.now c.args.words.now c.args.above
-            c.args.scope c.args.n c.args.at c.args.bound c.requires.3 c.requires.4,
-      ),
-    )
+bind_any-bind-first-requires t c = (
+  omega (arith, c.decreases, c.requires.1),
+  (
+    c.requires.0,
+    c.requires.1,
+    c.requires.2,
+    any_here c.args.table.now c.args.words.now c.args.above
+        c.args.scope c.args.n c.args.at c.args.bound c.requires.3 c.requires.4,
+  ),
+)
 
 pub bind_any-returns-in-Refused : goal.bind_any-returns-in-Refused
 bind_any-returns-in-Refused t c =
@@ -192,31 +189,29 @@ bind_any-returns-in-Refused t c =
     c.args.at c.args.bound c.requires.3 c.bind-first.result c.bind-first.ensures c.in-Refused.is
 
 pub bind_any-loop-i-init : goal.bind_any-loop-i-init
-bind_any-loop-i-init t c =
-    (
-      c.requires.3,
-      came-marks c.args.table.now c.args.words.now c.args.above c.args.scope
-          c.args.at _ _
-          (any_here c.args.table.now c.args.words.now c.args.above c.args.scope c.args.n c.args.at
-          c.args.bound c.requires.3 c.requires.4) c.bind-first.ensures,
-      any-start c.args.table.now
-          c.args.words.now c.args.above c.args.scope c.args.n c.args.at c.args.bound c.requires.3
-          c.bind-first.result c.bind-first.ensures c.in_default.is,
-    )
+bind_any-loop-i-init t c = (
+  c.requires.3,
+  came-marks c.args.table.now c.args.words.now c.args.above c.args.scope
+      c.args.at _ _
+      (any_here c.args.table.now c.args.words.now c.args.above c.args.scope c.args.n c.args.at
+      c.args.bound c.requires.3 c.requires.4) c.bind-first.ensures,
+  any-start c.args.table.now
+      c.args.words.now c.args.above c.args.scope c.args.n c.args.at c.args.bound c.requires.3
+      c.bind-first.result c.bind-first.ensures c.in_default.is,
+)
 
 pub bind_any-bind-child-requires : goal.bind_any-bind-child-requires
-bind_any-bind-child-requires t c =
-    (
-      omega (arith, c.decreases, c.requires.1),
-      (
-        c.requires.0,
-        c.requires.1,
-        c.requires.2,
-        any-next-here c.args.table.now c.args.words.now
-            c.args.above c.args.scope c.args.n c.args.at c.args.bound c.requires.3 c.loop-i.i
-            c.loop-i.next c.loop-i.set c.loop-i.invariant.2 c.loop-i-test.true c.requires.4,
-      ),
-    )
+bind_any-bind-child-requires t c = (
+  omega (arith, c.decreases, c.requires.1),
+  (
+    c.requires.0,
+    c.requires.1,
+    c.requires.2,
+    any-next-here c.args.table.now c.args.words.now
+        c.args.above c.args.scope c.args.n c.args.at c.args.bound c.requires.3 c.loop-i.i
+        c.loop-i.next c.loop-i.set c.loop-i.invariant.2 c.loop-i-test.true c.requires.4,
+  ),
+)
 
 pub bind_any-returns-in-Refused-asked : goal.bind_any-returns-in-Refused-asked
 bind_any-returns-in-Refused-asked t c =
@@ -225,15 +220,14 @@ bind_any-returns-in-Refused-asked t c =
     c.loop-i-test.true c.bind-child.result c.bind-child.ensures c.in-Refused-asked.is
 
 pub bind_any-loop-i-preserved : goal.bind_any-loop-i-preserved
-bind_any-loop-i-preserved t c =
-    (
-      omega (arith, c.loop-i-test.true),
-      c.both-joint.ensures.0,
-      any_step c.args.table.now
-          c.args.words.now c.args.above c.args.scope c.args.n c.args.at c.args.bound c.requires.3
-          c.loop-i.i c.loop-i.next c.loop-i.set c.loop-i.invariant.2 c.loop-i-test.true c.bind-child.result
-          c.bind-child.ensures c.in_default-asked.is c.both-joint.result c.both-joint.ensures.1,
-    )
+bind_any-loop-i-preserved t c = (
+  omega (arith, c.loop-i-test.true),
+  c.both-joint.ensures.0,
+  any_step c.args.table.now
+      c.args.words.now c.args.above c.args.scope c.args.n c.args.at c.args.bound c.requires.3
+      c.loop-i.i c.loop-i.next c.loop-i.set c.loop-i.invariant.2 c.loop-i-test.true c.bind-child.result
+      c.bind-child.ensures c.in_default-asked.is c.both-joint.result c.both-joint.ensures.1,
+)
 
 pub bind_any-returns : goal.bind_any-returns
 bind_any-returns t c =

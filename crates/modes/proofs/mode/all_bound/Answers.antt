@@ -18,12 +18,11 @@ loop-i-init c = (
 )
 
 pub term_bound-requires : goal.term_bound-requires
-term_bound-requires c =
-    (
-      omega (arith, c.requires.0),
-      place-holds (in_scope c.args.words.now 16) c.args.first
-          c.args.n c.loop-i.i c.requires.1 c.loop-i-test.true,
-    )
+term_bound-requires c = (
+  omega (arith, c.requires.0),
+  place-holds (in_scope c.args.words.now 16) c.args.first
+      c.args.n c.loop-i.i c.requires.1 c.loop-i-test.true,
+)
 
 pub returns-then-not-term_bound : goal.returns-then-not-term_bound
 returns-then-not-term_bound c =
@@ -33,12 +32,11 @@ returns-then-not-term_bound c =
     (sym c.term_bound.ensures ∙ c.if-not-term_bound.true))
 
 pub loop-i-preserved : goal.loop-i-preserved
-loop-i-preserved c =
-    (
-      omega arith,
-      c.loop-i.invariant.1 ∙ from-yes _ _ _ c.loop-i.i c.loop-i-test.true
-          (sym c.term_bound.ensures ∙ c.if-not-term_bound.false),
-    )
+loop-i-preserved c = (
+  omega arith,
+  c.loop-i.invariant.1 ∙ from-yes _ _ _ c.loop-i.i c.loop-i-test.true
+      (sym c.term_bound.ensures ∙ c.if-not-term_bound.false),
+)
 
 pub returns : goal.returns
 returns c = sym (c.loop-i.invariant.1 ∙ from_last _ _ _ c.loop-i.i c.loop-i-test.false)

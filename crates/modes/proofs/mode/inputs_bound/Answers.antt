@@ -18,12 +18,11 @@ loop-i-init c = (
 )
 
 pub term_bound-requires : goal.term_bound-requires
-term_bound-requires c =
-    (
-      omega (arith, c.requires.1),
-      place-holds (in_scope c.args.words.now 16) c.args.first
-          c.args.n c.loop-i.i c.requires.2 c.loop-i-test.true,
-    )
+term_bound-requires c = (
+  omega (arith, c.requires.1),
+  place-holds (in_scope c.args.words.now 16) c.args.first
+      c.args.n c.loop-i.i c.requires.2 c.loop-i-test.true,
+)
 
 pub returns-then-not-term_bound : goal.returns-then-not-term_bound
 returns-then-not-term_bound c =
@@ -47,12 +46,12 @@ loop-i-preserved c =
       omega arith,
       next
           ∙ elim c.if-input.branch [
-            then-input+else-not-term_bound w ↦
-              inputs_yes a.table.now a.p (set_of a.bound) c.loop-i.i _ _
-              (sym c.input.ensures ∙ w.if-input.true)
-              (sym w.term_bound.ensures ∙ w.if-not-term_bound.false)
-          | else-input w ↦
-              inputs_free a.table.now a.p (set_of a.bound) c.loop-i.i _ _ (sym c.input.ensures ∙ w.if-input.false)
+            | then-input+else-not-term_bound w ↦
+                inputs_yes a.table.now a.p (set_of a.bound) c.loop-i.i _ _
+                (sym c.input.ensures ∙ w.if-input.true)
+                (sym w.term_bound.ensures ∙ w.if-not-term_bound.false)
+            | else-input w ↦
+                inputs_free a.table.now a.p (set_of a.bound) c.loop-i.i _ _ (sym c.input.ensures ∙ w.if-input.false)
           ],
     )
 

@@ -46,25 +46,25 @@ loop-i-preserved c =
     c.loop-i.invariant.2 ∙ ap (with_terms (set_of c.loop-i.set))
     (terms-next a.words.now a.first a.n i c.loop-i-test.true) in
     elim c.if-not-is.branch [
-      then-not-is w ↦ let no-constant = w.if-not-is.true in let marks = c.loop-i.set in let v = value a.words.now
-    (at + 1) in let is : c.if-not-is.set ≡ set marks v true = w.set-is ∙ ap (λ (k : ℕ). set marks k true) w.value-x.ensures in (
-      omega arith,
-      ap length is ∙ length-set marks v true ∙ c.loop-i.invariant.1,
-      next ∙ ap
-          (λ (t : Term). with_terms (set_of marks) (t ∷ terms_from a.words.now a.first a.n (i + 1)))
-          (term-variable a.words.now at (sym c.is.ensures ∙ no-constant)) ∙ with_variable marks v _
-          (omega (arith, small no-constant, c.loop-i.invariant.1)) ∙ ap
-          (λ (m : List Bool). with_terms (set_of m) (terms_from a.words.now a.first a.n (i + 1))) (sym is),
-    )
-    | else-not-is w ↦ let constantly = w.if-not-is.false in (
-      omega arith,
-      ap length w.set-is ∙ c.loop-i.invariant.1,
-      next ∙ ap
-          (λ (t : Term). with_terms (set_of c.loop-i.set) (t ∷ terms_from a.words.now a.first a.n (i + 1)))
-          (term-constant a.words.now at (sym c.is.ensures ∙ constantly)) ∙ with_constant
-          (set_of c.loop-i.set) _ _ ∙ ap
-          (λ (m : List Bool). with_terms (set_of m) (terms_from a.words.now a.first a.n (i + 1))) (sym w.set-is),
-    )
+      | then-not-is w ↦ let no-constant = w.if-not-is.true in let marks = c.loop-i.set in let v = value a.words.now
+          (at + 1) in let is : c.if-not-is.set ≡ set marks v true = w.set-is ∙ ap (λ (k : ℕ). set marks k true) w.value-x.ensures in (
+            omega arith,
+            ap length is ∙ length-set marks v true ∙ c.loop-i.invariant.1,
+            next ∙ ap
+                (λ (t : Term). with_terms (set_of marks) (t ∷ terms_from a.words.now a.first a.n (i + 1)))
+                (term-variable a.words.now at (sym c.is.ensures ∙ no-constant)) ∙ with_variable marks v _
+                (omega (arith, small no-constant, c.loop-i.invariant.1)) ∙ ap
+                (λ (m : List Bool). with_terms (set_of m) (terms_from a.words.now a.first a.n (i + 1))) (sym is),
+          )
+      | else-not-is w ↦ let constantly = w.if-not-is.false in (
+        omega arith,
+        ap length w.set-is ∙ c.loop-i.invariant.1,
+        next ∙ ap
+            (λ (t : Term). with_terms (set_of c.loop-i.set) (t ∷ terms_from a.words.now a.first a.n (i + 1)))
+            (term-constant a.words.now at (sym c.is.ensures ∙ constantly)) ∙ with_constant
+            (set_of c.loop-i.set) _ _ ∙ ap
+            (λ (m : List Bool). with_terms (set_of m) (terms_from a.words.now a.first a.n (i + 1))) (sym w.set-is),
+      )
     ]
 
 pub returns : goal.returns

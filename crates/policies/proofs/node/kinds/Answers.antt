@@ -19,12 +19,11 @@ returns-then-not-within c =
 
 pub loop-i-preserved : goal.loop-i-preserved
 unfolding good_kind
-loop-i-preserved c =
-    (
-      omega (arith, c.loop-i-test.true),
-      c.loop-i.invariant.1
-          ∙ from-yes _ _ _ c.loop-i.i c.loop-i-test.true (sym c.within.ensures ∙ c.if-not-within.false),
-    )
+loop-i-preserved c = (
+  omega (arith, c.loop-i-test.true),
+  c.loop-i.invariant.1
+      ∙ from-yes _ _ _ c.loop-i.i c.loop-i-test.true (sym c.within.ensures ∙ c.if-not-within.false),
+)
 
 pub returns : goal.returns
 returns c = sym (c.loop-i.invariant.1 ∙ from_last _ _ _ c.loop-i.i c.loop-i-test.false)

@@ -17,12 +17,11 @@ returns-then-not-in_scope c =
     ∙ from-no _ _ _ c.loop-i.i c.loop-i-test.true (sym c.in_scope.ensures ∙ c.if-not-in_scope.true))
 
 pub loop-i-preserved : goal.loop-i-preserved
-loop-i-preserved c =
-    (
-      omega (arith, c.loop-i-test.true),
-      c.loop-i.invariant.1
-          ∙ from-yes _ _ _ c.loop-i.i c.loop-i-test.true (sym c.in_scope.ensures ∙ c.if-not-in_scope.false),
-    )
+loop-i-preserved c = (
+  omega (arith, c.loop-i-test.true),
+  c.loop-i.invariant.1
+      ∙ from-yes _ _ _ c.loop-i.i c.loop-i-test.true (sym c.in_scope.ensures ∙ c.if-not-in_scope.false),
+)
 
 pub returns : goal.returns
 returns c = sym (c.loop-i.invariant.1 ∙ from_last _ _ _ c.loop-i.i c.loop-i-test.false)

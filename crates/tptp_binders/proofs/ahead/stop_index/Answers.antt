@@ -21,14 +21,14 @@ pub loop-i-preserved : goal.loop-i-preserved
 loop-i-preserved c =
     let a = c.args in
     elim c.if-b-eq40.branch [
-      then-b-eq40 w ↦
-        scan_open a.text.now a.at c.loop-i.i c.loop-i.depth c.loop-i.invariant c.loop-i-test.true _ w.if-b-eq40.true w.depth-is
-    | else-b-eq40+then-b-eq41+else-depth-eq0 w ↦
-        scan_close a.text.now a.at c.loop-i.i c.loop-i.depth c.loop-i.invariant c.loop-i-test.true _ w.if-b-eq41.true
-        w.if-depth-eq0.false w.depth-is
-    | else-b-eq40+else-b-eq41+else-depth-b w ↦
-        scan_other a.text.now a.at c.loop-i.i c.loop-i.depth c.loop-i.invariant c.loop-i-test.true w.if-b-eq40.false
-        w.if-b-eq41.false _ w.if-depth-b.false w.depth-is
+      | then-b-eq40 w ↦
+          scan_open a.text.now a.at c.loop-i.i c.loop-i.depth c.loop-i.invariant c.loop-i-test.true _ w.if-b-eq40.true w.depth-is
+      | else-b-eq40+then-b-eq41+else-depth-eq0 w ↦
+          scan_close a.text.now a.at c.loop-i.i c.loop-i.depth c.loop-i.invariant c.loop-i-test.true _ w.if-b-eq41.true
+          w.if-depth-eq0.false w.depth-is
+      | else-b-eq40+else-b-eq41+else-depth-b w ↦
+          scan_other a.text.now a.at c.loop-i.i c.loop-i.depth c.loop-i.invariant c.loop-i-test.true w.if-b-eq40.false
+          w.if-b-eq41.false _ w.if-depth-b.false w.depth-is
     ]
 
 pub returns : goal.returns

@@ -179,8 +179,7 @@ operands-node-nodes-requires-in-loop-i t c =
     (arith, here-low a.words.now a.above a.scope a.at (operands_headed c.requires.2).first) in
     let operands-more : let a = c.args in let h = c.requires.2 in More a.words.now a.above a.scope a.n a.at a.every h (operands_headed h) c.loop-i.i (wrote c.node-nodes.result) c.node-nodes.new.out c.loop-i.out c.loop-i.nodes = let h = c.requires.2 in
     c.loop-i.invariant h (operands_headed h) in
-    let operands_sign : Behind (connective c.args.every) (P.At c.in-At.end) c.loop-i.out c.put_connective-sign.new.out c.put_connective-sign.result = record { adds = c.put_connective-sign.ensures; long = c.put_connective-sign.auto.out } in
-    (
+    let operands_sign : Behind (connective c.args.every) (P.At c.in-At.end) c.loop-i.out c.put_connective-sign.new.out c.put_connective-sign.result = record { adds = c.put_connective-sign.ensures; long = c.put_connective-sign.auto.out } in (
       omega (arith, operands-low, c.decreases),
       (behind-fits (operands_sign), more-here (operands-more) c.in-At.is c.loop-i-test.true),
     )

@@ -14,8 +14,7 @@ put_term-requires c =
     terms-next _ _ _ _ _ _ c.loop-i.i _ c.loop-i.invariant.1 c.loop-i-test.true c.requires.0
 
 pub loop-i-preserved : goal.loop-i-preserved
-loop-i-preserved c =
-    (
-      omega (arith, c.loop-i-test.true),
-      terms-more _ _ _ _ _ _ c.loop-i.i _ c.loop-i.invariant.1 c.loop-i-test.true _ c.put_term.ensures,
-    )
+loop-i-preserved c = (
+  omega (arith, c.loop-i-test.true),
+  terms-more _ _ _ _ _ _ c.loop-i.i _ c.loop-i.invariant.1 c.loop-i-test.true _ c.put_term.ensures,
+)

@@ -12,9 +12,9 @@ use Rattle.joining.proofs.join.Join.keep.Goals.{then-self-via-then-self, then-se
 pub returns-then-self : goal.returns-then-self
 returns-then-self c =
     λ a. elim c.then-self.branch [
-      then-self-via-then-self w ↦ K.keep-short a w.if-self.true
-    | then-self-via-else-self+then-self-2 w ↦ K.keep-decided a w.if-self-2.true
-    | then-self-via-else-self+else-self-2+then-self-3 w ↦ K.keep-long a w.if-self-3.true
+      | then-self-via-then-self w ↦ K.keep-short a w.if-self.true
+      | then-self-via-else-self+then-self-2 w ↦ K.keep-decided a w.if-self-2.true
+      | then-self-via-else-self+else-self-2+then-self-3 w ↦ K.keep-long a w.if-self-3.true
     ]
 
 pub overflow_sub-k : goal.overflow_sub-k
