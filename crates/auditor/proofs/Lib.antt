@@ -2,3 +2,5 @@
 pub mod DualFormed
 pub mod DualCall
 pub mod ReduceCleared
+-- Theorems that rest on statements of specs/ which an edit makes false.
+pub mod RunsExample

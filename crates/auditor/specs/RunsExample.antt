@@ -1,20 +1,16 @@
--- A run of three served calls, to which the theorem is applied, so that its premises are seen to be met: one refused for
--- scratch, one over the first two rows, one over the whole log. The log is log A and one more row.
-use Rattle.std.specs.Prelude.{ℕ, ◌≡◌, refl, ◌↔◌, Bool, true, replicate, pos}
-use Rattle.std.proofs.Common.{sym, subst}
-use mathlib.Core.List.{List, [], ◌∷◌, map, append-nil, Memᴰ}
+-- A run of three served calls that meets the premises of the theorem: one refused for scratch, one over the first two rows, one over
+-- the whole log. The log is log A and one more row. The theorem is applied to it in proofs/RunsExample.antt.
+use Rattle.std.specs.Prelude.{ℕ, ◌≡◌, refl, true, replicate, pos}
+use mathlib.Core.List.{List, [], ◌∷◌, map}
 use Rattle.model.specs.declared.Answer.TheVariants.{Accepted, Refused}
 use Rattle.model.specs.declared.Refusal.TheVariants.{Scratch}
 use Rattle.model.specs.Words.{Words}
-use Rattle.model.specs.Answer.{passed}
-use Rattle.model.specs.Tree.{Tree}
-use Rattle.model.specs.Truth.{structure, Is}
-use Rattle.model.specs.Calls.{zeros, ask_policy}
+use Rattle.model.specs.Calls.{zeros}
 use Rattle.model.specs.Runs.{proviso}
 use Rattle.model.specs.Examples.{words, T, computing}
 use Rattle.laws.specs.Answer.{answers}
-use Rattle.laws.proofs.Runs.Example.{log, policy, log-accepted, policy-accepted, extensions, extends}
-use Rattle.auditor.specs.Runs.{Served, call_of, kept, Serves, ServedClaim, every_served_run}
+use Rattle.laws.proofs.Runs.Example.{log, policy}
+use Rattle.auditor.specs.Runs.{Served, call_of, Serves}
 
 -- what a caller lends, not cleared before
 abbrev dirt : ℕ → Words
@@ -77,20 +73,3 @@ serves = (
 pub meets_proviso : proviso T log policy (map call_of calls) ≡ true
 unfolding calls call_of computing log policy
 meets_proviso = refl
-
-pub claim : ServedClaim T log policy calls
-claim = every_served_run T log policy calls log-accepted policy-accepted serves
-
--- the policy that the caller holds at the end is true, and false, as the first policy is: in the log, and in extensions with a row in
--- front, with the rows in reverse order, and with a number beyond 32 bits
-pub same_in_extensions :
-    (before after : Tree) →
-    ask_policy T policy ≡ passed before →
-    ask_policy T (kept T log policy calls) ≡ passed after →
-    (larger : Words) →
-    Memᴰ larger extensions →
-    (truth : Bool) →
-    Is after (structure T larger) truth [] ↔ Is before (structure T larger) truth []
-same_in_extensions before after b a larger m =
-    claim.run.truth meets_proviso (structure T larger) (extends larger m) before after b
-    (subst (λ (p : Words). ask_policy T p ≡ passed after) (claim.holds calls [] (sym (append-nil calls))) a)

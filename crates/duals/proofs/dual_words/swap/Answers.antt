@@ -25,7 +25,9 @@ formula_after-next-requires c = (
 
 pub bounds-buffer-at : goal.bounds-buffer-at
 bounds-buffer-at c =
-    let fits : let next = c.formula_after-next.result in let words = c.args.words.now in ((next + (c.loop-left.left - 1 + c.formulas-more.result) ≤ length words) × (c.loop-left.at < next)) × (length words ≤ length c.loop-left.buffer) = (
+    let fits : let next = c.formula_after-next.result in let words =
+        c.args.words.now in ((next + (c.loop-left.left - 1 + c.formulas-more.result) ≤ length words) × (c.loop-left.at < next)) × (length words ≤
+        length c.loop-left.buffer) = (
       swap_fits c.args.words.now _ c.loop-left.left c.loop-left.at c.loop-left.buffer c.loop-left-test.true _
           c.tag_at-tag.ensures
           c.formulas-more.result
@@ -40,7 +42,9 @@ bounds-buffer-at c =
 
 pub overflow_add-left : goal.overflow_add-left
 overflow_add-left c =
-    let fits : let next = c.formula_after-next.result in let words = c.args.words.now in ((next + (c.loop-left.left - 1 + c.formulas-more.result) ≤ length words) × (c.loop-left.at < next)) × (length words ≤ length c.loop-left.buffer) = (
+    let fits : let next = c.formula_after-next.result in let words =
+        c.args.words.now in ((next + (c.loop-left.left - 1 + c.formulas-more.result) ≤ length words) × (c.loop-left.at < next)) × (length words ≤
+        length c.loop-left.buffer) = (
       swap_fits c.args.words.now _ c.loop-left.left c.loop-left.at c.loop-left.buffer c.loop-left-test.true _
           c.tag_at-tag.ensures
           c.formulas-more.result
@@ -55,7 +59,9 @@ overflow_add-left c =
 
 pub loop-left-smaller : goal.loop-left-smaller
 loop-left-smaller c =
-    let fits : let next = c.formula_after-next.result in let words = c.args.words.now in ((next + (c.loop-left.left - 1 + c.formulas-more.result) ≤ length words) × (c.loop-left.at < next)) × (length words ≤ length c.loop-left.buffer) = (
+    let fits : let next = c.formula_after-next.result in let words =
+        c.args.words.now in ((next + (c.loop-left.left - 1 + c.formulas-more.result) ≤ length words) × (c.loop-left.at < next)) × (length words ≤
+        length c.loop-left.buffer) = (
       swap_fits c.args.words.now _ c.loop-left.left c.loop-left.at c.loop-left.buffer c.loop-left-test.true _
           c.tag_at-tag.ensures
           c.formulas-more.result

@@ -41,7 +41,8 @@ formula-size-requires t c =
 
 pub formula-overflow_add-next : goal.formula-overflow_add-next
 formula-overflow_add-next t c =
-    let formula_stood : Stood c.args.table.now c.args.words.now (as_role c.args.role) c.args.above c.args.scope c.args.at (as_tag c.tag_at-tag.result) (c.args.above + c.cost.result) (c.args.at + c.size.result) = record {
+    let formula_stood : Stood c.args.table.now c.args.words.now (as_role c.args.role) c.args.above c.args.scope c.args.at (as_tag
+        c.tag_at-tag.result) (c.args.above + c.cost.result) (c.args.at + c.size.result) = record {
       kind = c.requires.3;
       here = c.requires.4;
       known = c.tag_at-tag.ensures;
@@ -52,7 +53,8 @@ formula-overflow_add-next t c =
 
 pub formula-formulas-requires : goal.formula-formulas-requires
 formula-formulas-requires t c =
-    let formula_stood : Stood c.args.table.now c.args.words.now (as_role c.args.role) c.args.above c.args.scope c.args.at (as_tag c.tag_at-tag.result) (c.args.above + c.cost.result) (c.args.at + c.size.result) = record {
+    let formula_stood : Stood c.args.table.now c.args.words.now (as_role c.args.role) c.args.above c.args.scope c.args.at (as_tag
+        c.tag_at-tag.result) (c.args.above + c.cost.result) (c.args.at + c.size.result) = record {
       kind = c.requires.3;
       here = c.requires.4;
       known = c.tag_at-tag.ensures;
@@ -73,7 +75,8 @@ formula-formulas-requires t c =
 
 pub formula-quantified-requires : goal.formula-quantified-requires
 formula-quantified-requires t c =
-    let formula_stood : Stood c.args.table.now c.args.words.now (as_role c.args.role) c.args.above c.args.scope c.args.at (as_tag c.tag_at-tag.result) (c.args.above + c.cost.result) (c.args.at + c.size.result) = record {
+    let formula_stood : Stood c.args.table.now c.args.words.now (as_role c.args.role) c.args.above c.args.scope c.args.at (as_tag
+        c.tag_at-tag.result) (c.args.above + c.cost.result) (c.args.at + c.size.result) = record {
       kind = c.requires.3;
       here = c.requires.4;
       known = c.tag_at-tag.ensures;
@@ -93,7 +96,8 @@ formula-quantified-requires t c =
 
 pub formula-returns-in-Join : goal.formula-returns-in-Join
 formula-returns-in-Join t c =
-    let formula_stood : Stood c.args.table.now c.args.words.now (as_role c.args.role) c.args.above c.args.scope c.args.at (as_tag c.tag_at-tag.result) (c.args.above + c.cost.result) (c.args.at + c.size.result) = record {
+    let formula_stood : Stood c.args.table.now c.args.words.now (as_role c.args.role) c.args.above c.args.scope c.args.at (as_tag
+        c.tag_at-tag.result) (c.args.above + c.cost.result) (c.args.at + c.size.result) = record {
       kind = c.requires.3;
       here = c.requires.4;
       known = c.tag_at-tag.ensures;
@@ -105,7 +109,8 @@ formula-returns-in-Join t c =
 
 pub formula-returns-in-Quantifier : goal.formula-returns-in-Quantifier
 formula-returns-in-Quantifier t c =
-    let formula_stood : Stood c.args.table.now c.args.words.now (as_role c.args.role) c.args.above c.args.scope c.args.at (as_tag c.tag_at-tag.result) (c.args.above + c.cost.result) (c.args.at + c.size.result) = record {
+    let formula_stood : Stood c.args.table.now c.args.words.now (as_role c.args.role) c.args.above c.args.scope c.args.at (as_tag
+        c.tag_at-tag.result) (c.args.above + c.cost.result) (c.args.at + c.size.result) = record {
       kind = c.requires.3;
       here = c.requires.4;
       known = c.tag_at-tag.ensures;
@@ -116,7 +121,8 @@ formula-returns-in-Quantifier t c =
 
 pub formula-returns-in_default : goal.formula-returns-in_default
 formula-returns-in_default t c =
-    let formula_stood : Stood c.args.table.now c.args.words.now (as_role c.args.role) c.args.above c.args.scope c.args.at (as_tag c.tag_at-tag.result) (c.args.above + c.cost.result) (c.args.at + c.size.result) = record {
+    let formula_stood : Stood c.args.table.now c.args.words.now (as_role c.args.role) c.args.above c.args.scope c.args.at (as_tag
+        c.tag_at-tag.result) (c.args.above + c.cost.result) (c.args.at + c.size.result) = record {
       kind = c.requires.3;
       here = c.requires.4;
       known = c.tag_at-tag.ensures;

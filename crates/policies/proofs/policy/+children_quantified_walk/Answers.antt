@@ -125,20 +125,24 @@ walk-returns-in-Refused t c =
 
 pub walk-overflow_add-level : goal.walk-overflow_add-level
 walk-overflow_add-level t c =
-    let walk_asked : passed tt ≡ questions c.args.table.now c.args.words.now (as_tag c.tag_at-tag.result) (as_role c.args.role) c.args.above c.args.scope c.args.at = ap outcome (sym c.in_default.is) ∙ c.questions-asked.ensures in
+    let walk_asked : passed tt ≡ questions c.args.table.now c.args.words.now (as_tag c.tag_at-tag.result) (as_role c.args.role) c.args.above
+        c.args.scope c.args.at = ap outcome (sym c.in_default.is) ∙ c.questions-asked.ensures in
     omega (arith, (asked _ _ _ _ _ _ _ (sym (walk_asked))).level, c.cost.ensures)
 
 pub walk-size-requires : goal.walk-size-requires
 walk-size-requires t c =
-    let walk_asked : passed tt ≡ questions c.args.table.now c.args.words.now (as_tag c.tag_at-tag.result) (as_role c.args.role) c.args.above c.args.scope c.args.at = ap outcome (sym c.in_default.is) ∙ c.questions-asked.ensures in
+    let walk_asked : passed tt ≡ questions c.args.table.now c.args.words.now (as_tag c.tag_at-tag.result) (as_role c.args.role) c.args.above
+        c.args.scope c.args.at = ap outcome (sym c.in_default.is) ∙ c.questions-asked.ensures in
     let s = c.args in
     fits-there s.words.now (as_tag c.tag_at-tag.result) (as_role s.role) s.scope s.at
     (asked _ _ _ _ _ _ _ (sym (walk_asked))).fits
 
 pub walk-overflow_add-next : goal.walk-overflow_add-next
 walk-overflow_add-next t c =
-    let walk_asked : passed tt ≡ questions c.args.table.now c.args.words.now (as_tag c.tag_at-tag.result) (as_role c.args.role) c.args.above c.args.scope c.args.at = ap outcome (sym c.in_default.is) ∙ c.questions-asked.ensures in
-    let walk_entered : Entered c.args.table.now c.args.words.now (as_role c.args.role) c.args.above c.args.scope c.args.at (as_tag c.tag_at-tag.result) (c.args.above + c.cost.result) (c.args.at + c.size.result) = record {
+    let walk_asked : passed tt ≡ questions c.args.table.now c.args.words.now (as_tag c.tag_at-tag.result) (as_role c.args.role) c.args.above
+        c.args.scope c.args.at = ap outcome (sym c.in_default.is) ∙ c.questions-asked.ensures in
+    let walk_entered : Entered c.args.table.now c.args.words.now (as_role c.args.role) c.args.above c.args.scope c.args.at (as_tag
+        c.tag_at-tag.result) (c.args.above + c.cost.result) (c.args.at + c.size.result) = record {
       low = c.requires.1;
       known = c.tag_at-tag.ensures;
       yes = walk_asked;
@@ -149,8 +153,10 @@ walk-overflow_add-next t c =
 
 pub walk-children-requires : goal.walk-children-requires
 walk-children-requires t c =
-    let walk_asked : passed tt ≡ questions c.args.table.now c.args.words.now (as_tag c.tag_at-tag.result) (as_role c.args.role) c.args.above c.args.scope c.args.at = ap outcome (sym c.in_default.is) ∙ c.questions-asked.ensures in
-    let walk_entered : Entered c.args.table.now c.args.words.now (as_role c.args.role) c.args.above c.args.scope c.args.at (as_tag c.tag_at-tag.result) (c.args.above + c.cost.result) (c.args.at + c.size.result) = record {
+    let walk_asked : passed tt ≡ questions c.args.table.now c.args.words.now (as_tag c.tag_at-tag.result) (as_role c.args.role) c.args.above
+        c.args.scope c.args.at = ap outcome (sym c.in_default.is) ∙ c.questions-asked.ensures in
+    let walk_entered : Entered c.args.table.now c.args.words.now (as_role c.args.role) c.args.above c.args.scope c.args.at (as_tag
+        c.tag_at-tag.result) (c.args.above + c.cost.result) (c.args.at + c.size.result) = record {
       low = c.requires.1;
       known = c.tag_at-tag.ensures;
       yes = walk_asked;
@@ -162,8 +168,10 @@ walk-children-requires t c =
 
 pub walk-overflow_add-scope : goal.walk-overflow_add-scope
 walk-overflow_add-scope t c =
-    let walk_asked : passed tt ≡ questions c.args.table.now c.args.words.now (as_tag c.tag_at-tag.result) (as_role c.args.role) c.args.above c.args.scope c.args.at = ap outcome (sym c.in_default.is) ∙ c.questions-asked.ensures in
-    let walk_entered : Entered c.args.table.now c.args.words.now (as_role c.args.role) c.args.above c.args.scope c.args.at (as_tag c.tag_at-tag.result) (c.args.above + c.cost.result) (c.args.at + c.size.result) = record {
+    let walk_asked : passed tt ≡ questions c.args.table.now c.args.words.now (as_tag c.tag_at-tag.result) (as_role c.args.role) c.args.above
+        c.args.scope c.args.at = ap outcome (sym c.in_default.is) ∙ c.questions-asked.ensures in
+    let walk_entered : Entered c.args.table.now c.args.words.now (as_role c.args.role) c.args.above c.args.scope c.args.at (as_tag
+        c.tag_at-tag.result) (c.args.above + c.cost.result) (c.args.at + c.size.result) = record {
       low = c.requires.1;
       known = c.tag_at-tag.ensures;
       yes = walk_asked;
@@ -174,8 +182,10 @@ walk-overflow_add-scope t c =
 
 pub walk-quantified-requires : goal.walk-quantified-requires
 walk-quantified-requires t c =
-    let walk_asked : passed tt ≡ questions c.args.table.now c.args.words.now (as_tag c.tag_at-tag.result) (as_role c.args.role) c.args.above c.args.scope c.args.at = ap outcome (sym c.in_default.is) ∙ c.questions-asked.ensures in
-    let walk_entered : Entered c.args.table.now c.args.words.now (as_role c.args.role) c.args.above c.args.scope c.args.at (as_tag c.tag_at-tag.result) (c.args.above + c.cost.result) (c.args.at + c.size.result) = record {
+    let walk_asked : passed tt ≡ questions c.args.table.now c.args.words.now (as_tag c.tag_at-tag.result) (as_role c.args.role) c.args.above
+        c.args.scope c.args.at = ap outcome (sym c.in_default.is) ∙ c.questions-asked.ensures in
+    let walk_entered : Entered c.args.table.now c.args.words.now (as_role c.args.role) c.args.above c.args.scope c.args.at (as_tag
+        c.tag_at-tag.result) (c.args.above + c.cost.result) (c.args.at + c.size.result) = record {
       low = c.requires.1;
       known = c.tag_at-tag.ensures;
       yes = walk_asked;
@@ -193,8 +203,10 @@ walk-quantified-requires t c =
 
 pub walk-walk-requires : goal.walk-walk-requires
 walk-walk-requires t c =
-    let walk_asked : passed tt ≡ questions c.args.table.now c.args.words.now (as_tag c.tag_at-tag.result) (as_role c.args.role) c.args.above c.args.scope c.args.at = ap outcome (sym c.in_default.is) ∙ c.questions-asked.ensures in
-    let walk_entered : Entered c.args.table.now c.args.words.now (as_role c.args.role) c.args.above c.args.scope c.args.at (as_tag c.tag_at-tag.result) (c.args.above + c.cost.result) (c.args.at + c.size.result) = record {
+    let walk_asked : passed tt ≡ questions c.args.table.now c.args.words.now (as_tag c.tag_at-tag.result) (as_role c.args.role) c.args.above
+        c.args.scope c.args.at = ap outcome (sym c.in_default.is) ∙ c.questions-asked.ensures in
+    let walk_entered : Entered c.args.table.now c.args.words.now (as_role c.args.role) c.args.above c.args.scope c.args.at (as_tag
+        c.tag_at-tag.result) (c.args.above + c.cost.result) (c.args.at + c.size.result) = record {
       low = c.requires.1;
       known = c.tag_at-tag.ensures;
       yes = walk_asked;
@@ -208,8 +220,10 @@ walk-walk-requires t c =
 
 pub walk-returns-in-Join : goal.walk-returns-in-Join
 walk-returns-in-Join t c =
-    let walk_asked : passed tt ≡ questions c.args.table.now c.args.words.now (as_tag c.tag_at-tag.result) (as_role c.args.role) c.args.above c.args.scope c.args.at = ap outcome (sym c.in_default.is) ∙ c.questions-asked.ensures in
-    let walk_entered : Entered c.args.table.now c.args.words.now (as_role c.args.role) c.args.above c.args.scope c.args.at (as_tag c.tag_at-tag.result) (c.args.above + c.cost.result) (c.args.at + c.size.result) = record {
+    let walk_asked : passed tt ≡ questions c.args.table.now c.args.words.now (as_tag c.tag_at-tag.result) (as_role c.args.role) c.args.above
+        c.args.scope c.args.at = ap outcome (sym c.in_default.is) ∙ c.questions-asked.ensures in
+    let walk_entered : Entered c.args.table.now c.args.words.now (as_role c.args.role) c.args.above c.args.scope c.args.at (as_tag
+        c.tag_at-tag.result) (c.args.above + c.cost.result) (c.args.at + c.size.result) = record {
       low = c.requires.1;
       known = c.tag_at-tag.ensures;
       yes = walk_asked;
@@ -221,8 +235,10 @@ walk-returns-in-Join t c =
 
 pub walk-returns-in-Quantifier : goal.walk-returns-in-Quantifier
 walk-returns-in-Quantifier t c =
-    let walk_asked : passed tt ≡ questions c.args.table.now c.args.words.now (as_tag c.tag_at-tag.result) (as_role c.args.role) c.args.above c.args.scope c.args.at = ap outcome (sym c.in_default.is) ∙ c.questions-asked.ensures in
-    let walk_entered : Entered c.args.table.now c.args.words.now (as_role c.args.role) c.args.above c.args.scope c.args.at (as_tag c.tag_at-tag.result) (c.args.above + c.cost.result) (c.args.at + c.size.result) = record {
+    let walk_asked : passed tt ≡ questions c.args.table.now c.args.words.now (as_tag c.tag_at-tag.result) (as_role c.args.role) c.args.above
+        c.args.scope c.args.at = ap outcome (sym c.in_default.is) ∙ c.questions-asked.ensures in
+    let walk_entered : Entered c.args.table.now c.args.words.now (as_role c.args.role) c.args.above c.args.scope c.args.at (as_tag
+        c.tag_at-tag.result) (c.args.above + c.cost.result) (c.args.at + c.size.result) = record {
       low = c.requires.1;
       known = c.tag_at-tag.ensures;
       yes = walk_asked;
@@ -235,8 +251,10 @@ walk-returns-in-Quantifier t c =
 
 pub walk-returns-in-Some : goal.walk-returns-in-Some
 walk-returns-in-Some t c =
-    let walk_asked : passed tt ≡ questions c.args.table.now c.args.words.now (as_tag c.tag_at-tag.result) (as_role c.args.role) c.args.above c.args.scope c.args.at = ap outcome (sym c.in_default.is) ∙ c.questions-asked.ensures in
-    let walk_entered : Entered c.args.table.now c.args.words.now (as_role c.args.role) c.args.above c.args.scope c.args.at (as_tag c.tag_at-tag.result) (c.args.above + c.cost.result) (c.args.at + c.size.result) = record {
+    let walk_asked : passed tt ≡ questions c.args.table.now c.args.words.now (as_tag c.tag_at-tag.result) (as_role c.args.role) c.args.above
+        c.args.scope c.args.at = ap outcome (sym c.in_default.is) ∙ c.questions-asked.ensures in
+    let walk_entered : Entered c.args.table.now c.args.words.now (as_role c.args.role) c.args.above c.args.scope c.args.at (as_tag
+        c.tag_at-tag.result) (c.args.above + c.cost.result) (c.args.at + c.size.result) = record {
       low = c.requires.1;
       known = c.tag_at-tag.ensures;
       yes = walk_asked;
@@ -247,8 +265,10 @@ walk-returns-in-Some t c =
 
 pub walk-returns-in_default-tag : goal.walk-returns-in_default-tag
 walk-returns-in_default-tag t c =
-    let walk_asked : passed tt ≡ questions c.args.table.now c.args.words.now (as_tag c.tag_at-tag.result) (as_role c.args.role) c.args.above c.args.scope c.args.at = ap outcome (sym c.in_default.is) ∙ c.questions-asked.ensures in
-    let walk_entered : Entered c.args.table.now c.args.words.now (as_role c.args.role) c.args.above c.args.scope c.args.at (as_tag c.tag_at-tag.result) (c.args.above + c.cost.result) (c.args.at + c.size.result) = record {
+    let walk_asked : passed tt ≡ questions c.args.table.now c.args.words.now (as_tag c.tag_at-tag.result) (as_role c.args.role) c.args.above
+        c.args.scope c.args.at = ap outcome (sym c.in_default.is) ∙ c.questions-asked.ensures in
+    let walk_entered : Entered c.args.table.now c.args.words.now (as_role c.args.role) c.args.above c.args.scope c.args.at (as_tag
+        c.tag_at-tag.result) (c.args.above + c.cost.result) (c.args.at + c.size.result) = record {
       low = c.requires.1;
       known = c.tag_at-tag.ensures;
       yes = walk_asked;
