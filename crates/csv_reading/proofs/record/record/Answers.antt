@@ -16,12 +16,12 @@ loop-place-init c =
 pub returns-in-Bad : goal.returns-in-Bad
 returns-in-Bad c =
     let ended : let a = c.args in Ended a.text.now a.at c.loop-place.from (c.loop-place.fields + 1) (c.loop-place.good && c.put_field-good.result)
-        c.put_field-good.new.row c.field_at-field.result.end = let a = c.args in
+    c.put_field-good.new.row c.field_at-field.result.end = let a = c.args in
     held_more a.text.now a.at c.loop-place.from c.loop-place.fields c.loop-place.good c.loop-place.row
     c.field_at-field.result c.put_field-good.new.row c.put_field-good.result c.loop-place.invariant.0 c.field_at-field.ensures
     c.put_field-good.ensures c.put_field-good.auto.row in
     let ended_by : (e : End) → let a = c.args in c.field_at-field.result.end ≡ e → Ended a.text.now a.at c.loop-place.from (c.loop-place.fields + 1)
-        (c.loop-place.good && c.put_field-good.result) c.put_field-good.new.row e = λ e p. let a = c.args in
+    (c.loop-place.good && c.put_field-good.result) c.put_field-good.new.row e = λ e p. let a = c.args in
     subst (Ended a.text.now a.at c.loop-place.from (c.loop-place.fields + 1) (c.loop-place.good && c.put_field-good.result) c.put_field-good.new.row) p (ended) in
     let a = c.args in
     ended_bad a.text.now a.at c.loop-place.from _ _ _ c.in-Bad.place (ended_by _ c.in-Bad.is)
@@ -29,12 +29,12 @@ returns-in-Bad c =
 pub loop-place-preserved : goal.loop-place-preserved
 loop-place-preserved c =
     let ended : let a = c.args in Ended a.text.now a.at c.loop-place.from (c.loop-place.fields + 1) (c.loop-place.good && c.put_field-good.result)
-        c.put_field-good.new.row c.field_at-field.result.end = let a = c.args in
+    c.put_field-good.new.row c.field_at-field.result.end = let a = c.args in
     held_more a.text.now a.at c.loop-place.from c.loop-place.fields c.loop-place.good c.loop-place.row
     c.field_at-field.result c.put_field-good.new.row c.put_field-good.result c.loop-place.invariant.0 c.field_at-field.ensures
     c.put_field-good.ensures c.put_field-good.auto.row in
     let ended_by : (e : End) → let a = c.args in c.field_at-field.result.end ≡ e → Ended a.text.now a.at c.loop-place.from (c.loop-place.fields + 1)
-        (c.loop-place.good && c.put_field-good.result) c.put_field-good.new.row e = λ e p. let a = c.args in
+    (c.loop-place.good && c.put_field-good.result) c.put_field-good.new.row e = λ e p. let a = c.args in
     subst (Ended a.text.now a.at c.loop-place.from (c.loop-place.fields + 1) (c.loop-place.good && c.put_field-good.result) c.put_field-good.new.row) p (ended) in
     let long : length c.put_field-good.new.row ≡ length c.args.row.now = c.put_field-good.auto.row ∙ c.loop-place.invariant.1 in
     let a = c.args in (
@@ -45,12 +45,12 @@ loop-place-preserved c =
 pub returns-then-not-good : goal.returns-then-not-good
 returns-then-not-good c =
     let ended : let a = c.args in Ended a.text.now a.at c.loop-place.from (c.loop-place.fields + 1) (c.loop-place.good && c.put_field-good.result)
-        c.put_field-good.new.row c.field_at-field.result.end = let a = c.args in
+    c.put_field-good.new.row c.field_at-field.result.end = let a = c.args in
     held_more a.text.now a.at c.loop-place.from c.loop-place.fields c.loop-place.good c.loop-place.row
     c.field_at-field.result c.put_field-good.new.row c.put_field-good.result c.loop-place.invariant.0 c.field_at-field.ensures
     c.put_field-good.ensures c.put_field-good.auto.row in
     let ended_by : (e : End) → let a = c.args in c.field_at-field.result.end ≡ e → Ended a.text.now a.at c.loop-place.from (c.loop-place.fields + 1)
-        (c.loop-place.good && c.put_field-good.result) c.put_field-good.new.row e = λ e p. let a = c.args in
+    (c.loop-place.good && c.put_field-good.result) c.put_field-good.new.row e = λ e p. let a = c.args in
     subst (Ended a.text.now a.at c.loop-place.from (c.loop-place.fields + 1) (c.loop-place.good && c.put_field-good.result) c.put_field-good.new.row) p (ended) in
     let a = c.args in
     line_bad a.table.now a.text.now a.at c.loop-place.from _ _ _ c.in-Line.next
@@ -59,12 +59,12 @@ returns-then-not-good c =
 pub returns-in-Line : goal.returns-in-Line
 returns-in-Line c =
     let ended : let a = c.args in Ended a.text.now a.at c.loop-place.from (c.loop-place.fields + 1) (c.loop-place.good && c.put_field-good.result)
-        c.put_field-good.new.row c.field_at-field.result.end = let a = c.args in
+    c.put_field-good.new.row c.field_at-field.result.end = let a = c.args in
     held_more a.text.now a.at c.loop-place.from c.loop-place.fields c.loop-place.good c.loop-place.row
     c.field_at-field.result c.put_field-good.new.row c.put_field-good.result c.loop-place.invariant.0 c.field_at-field.ensures
     c.put_field-good.ensures c.put_field-good.auto.row in
     let ended_by : (e : End) → let a = c.args in c.field_at-field.result.end ≡ e → Ended a.text.now a.at c.loop-place.from (c.loop-place.fields + 1)
-        (c.loop-place.good && c.put_field-good.result) c.put_field-good.new.row e = λ e p. let a = c.args in
+    (c.loop-place.good && c.put_field-good.result) c.put_field-good.new.row e = λ e p. let a = c.args in
     subst (Ended a.text.now a.at c.loop-place.from (c.loop-place.fields + 1) (c.loop-place.good && c.put_field-good.result) c.put_field-good.new.row) p (ended) in
     let a = c.args in
     line-good a.table.now a.text.now a.at c.loop-place.from _ _ _ c.in-Line.next

@@ -16,7 +16,7 @@ returns-then-not-good_row c =
 pub overflow_add-result : goal.overflow_add-result
 overflow_add-result c =
     let there : let table = c.args.table.now in (value c.clear.new.buffer 0 < predicates table) × (arity table (value c.clear.new.buffer 0) ≤ 6) =
-        good-arity c.args.table.now c.requires.0 c.clear.new.buffer (sym c.good_row.ensures ∙ c.if-not-good_row.false) in
+    good-arity c.args.table.now c.requires.0 c.clear.new.buffer (sym c.good_row.ensures ∙ c.if-not-good_row.false) in
     let arity-is : c.arity.result ≡ arity c.args.table.now (value c.clear.new.buffer 0) = c.arity.ensures ∙ ap (arity c.args.table.now) c.value.ensures in
     omega (arith, arity-is, (there).1)
 

@@ -15,7 +15,7 @@ loop-at-init c = let a = c.args in (gone_none a.table.now a.text.now a.rows.now,
 pub returns-in-Bad : goal.returns-in-Bad
 returns-in-Bad c =
     let placed_as : (e : Line) → let a = c.args in c.place_record-line.result ≡ e → Placed a.table.now a.text.now c.loop-at.at c.loop-at.count
-        c.loop-at.rows c.place_record-line.new.rows e = λ e p. let a = c.args in
+    c.loop-at.rows c.place_record-line.new.rows e = λ e p. let a = c.args in
     subst (Placed a.table.now a.text.now c.loop-at.at c.loop-at.count c.loop-at.rows c.place_record-line.new.rows) p c.place_record-line.ensures in
     let a = c.args in
     gone_bad a.table.now a.text.now c.loop-at.at c.loop-at.count c.loop-at.good c.loop-at.rows _
@@ -25,7 +25,7 @@ pub loop-at-preserved : goal.loop-at-preserved
 loop-at-preserved c =
     let long : length c.place_record-line.new.rows ≡ length c.args.rows.now = c.place_record-line.auto.rows ∙ c.loop-at.invariant.1 in
     let placed_as : (e : Line) → let a = c.args in c.place_record-line.result ≡ e → Placed a.table.now a.text.now c.loop-at.at c.loop-at.count
-        c.loop-at.rows c.place_record-line.new.rows e = λ e p. let a = c.args in
+    c.loop-at.rows c.place_record-line.new.rows e = λ e p. let a = c.args in
     subst (Placed a.table.now a.text.now c.loop-at.at c.loop-at.count c.loop-at.rows c.place_record-line.new.rows) p c.place_record-line.ensures in
     let more : let a = c.args in Gone a.table.now a.text.now c.in-Read.next (c.loop-at.count + 1) c.good_before-good.result c.place_record-line.new.rows = let a = c.args in
     rw c.good_before-good.ensures

@@ -26,8 +26,8 @@ formula_after-next-requires c = (
 pub bounds-buffer-at : goal.bounds-buffer-at
 bounds-buffer-at c =
     let fits : let next = c.formula_after-next.result in let words =
-        c.args.words.now in ((next + (c.loop-left.left - 1 + c.formulas-more.result) ≤ length words) × (c.loop-left.at < next)) × (length words ≤
-        length c.loop-left.buffer) = (
+    c.args.words.now in ((next + (c.loop-left.left - 1 + c.formulas-more.result) ≤ length words) × (c.loop-left.at < next)) × (length words ≤
+    length c.loop-left.buffer) = (
       swap_fits c.args.words.now _ c.loop-left.left c.loop-left.at c.loop-left.buffer c.loop-left-test.true _
           c.tag_at-tag.ensures
           c.formulas-more.result
@@ -43,8 +43,8 @@ bounds-buffer-at c =
 pub overflow_add-left : goal.overflow_add-left
 overflow_add-left c =
     let fits : let next = c.formula_after-next.result in let words =
-        c.args.words.now in ((next + (c.loop-left.left - 1 + c.formulas-more.result) ≤ length words) × (c.loop-left.at < next)) × (length words ≤
-        length c.loop-left.buffer) = (
+    c.args.words.now in ((next + (c.loop-left.left - 1 + c.formulas-more.result) ≤ length words) × (c.loop-left.at < next)) × (length words ≤
+    length c.loop-left.buffer) = (
       swap_fits c.args.words.now _ c.loop-left.left c.loop-left.at c.loop-left.buffer c.loop-left-test.true _
           c.tag_at-tag.ensures
           c.formulas-more.result
@@ -60,8 +60,8 @@ overflow_add-left c =
 pub loop-left-smaller : goal.loop-left-smaller
 loop-left-smaller c =
     let fits : let next = c.formula_after-next.result in let words =
-        c.args.words.now in ((next + (c.loop-left.left - 1 + c.formulas-more.result) ≤ length words) × (c.loop-left.at < next)) × (length words ≤
-        length c.loop-left.buffer) = (
+    c.args.words.now in ((next + (c.loop-left.left - 1 + c.formulas-more.result) ≤ length words) × (c.loop-left.at < next)) × (length words ≤
+    length c.loop-left.buffer) = (
       swap_fits c.args.words.now _ c.loop-left.left c.loop-left.at c.loop-left.buffer c.loop-left-test.true _
           c.tag_at-tag.ensures
           c.formulas-more.result

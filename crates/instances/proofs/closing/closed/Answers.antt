@@ -38,7 +38,7 @@ size-own-requires c =
 pub overflow_add-left : goal.overflow_add-left
 overflow_add-left c =
     let fits : (c.loop-left.next + c.size-own.result + (c.loop-left.left - 1 + c.below-more.result) ≤ length c.args.words.now) × (1 ≤
-        c.size-own.result) = close_fits _ _ _ c.loop-left.left c.loop-left.next c.loop-left.invariant c.loop-left-test.true _
+    c.size-own.result) = close_fits _ _ _ c.loop-left.left c.loop-left.next c.loop-left.invariant c.loop-left-test.true _
     c.tag_at-tag.ensures
     c.below-more.result
     c.size-own.result
@@ -50,7 +50,7 @@ overflow_add-left c =
 pub overflow_add-next : goal.overflow_add-next
 overflow_add-next c =
     let fits : (c.loop-left.next + c.size-own.result + (c.loop-left.left - 1 + c.below-more.result) ≤ length c.args.words.now) × (1 ≤
-        c.size-own.result) = close_fits _ _ _ c.loop-left.left c.loop-left.next c.loop-left.invariant c.loop-left-test.true _
+    c.size-own.result) = close_fits _ _ _ c.loop-left.left c.loop-left.next c.loop-left.invariant c.loop-left-test.true _
     c.tag_at-tag.ensures
     c.below-more.result
     c.size-own.result
@@ -62,7 +62,7 @@ overflow_add-next c =
 pub loop-left-smaller : goal.loop-left-smaller
 loop-left-smaller c =
     let fits : (c.loop-left.next + c.size-own.result + (c.loop-left.left - 1 + c.below-more.result) ≤ length c.args.words.now) × (1 ≤
-        c.size-own.result) = close_fits _ _ _ c.loop-left.left c.loop-left.next c.loop-left.invariant c.loop-left-test.true _
+    c.size-own.result) = close_fits _ _ _ c.loop-left.left c.loop-left.next c.loop-left.invariant c.loop-left-test.true _
     c.tag_at-tag.ensures
     c.below-more.result
     c.size-own.result

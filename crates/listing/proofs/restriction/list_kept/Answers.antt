@@ -33,8 +33,8 @@ loop-i-init c =
 pub loop-i-preserved-then-not-keeps : goal.loop-i-preserved-then-not-keeps
 loop-i-preserved-then-not-keeps c =
     let held-here : let a = c.args in (es : List Environment) → R.Holding a.room a.scratch.now es → (above scope : ℕ) (t : Tree) (next : ℕ) → Node
-        a.table.now a.words.now restriction above scope a.at t next → Holds c.read-environment.result (environment_of es c.loop-i.i) = let a = c.args
-        in
+    a.table.now a.words.now restriction above scope a.at t next → Holds c.read-environment.result (environment_of es c.loop-i.i) = let a = c.args
+    in
     λ es h above scope t next node. let roomy = c.requires.3 in let b1 = roomy.before in let n = h.long in
     c.read-environment.ensures (environment_of es c.loop-i.i)
     (map_read (kept (keeps_of a.table.now (rows a.log.now) t)) es c.loop-i.i a.room.base c.loop-i.made
@@ -62,8 +62,8 @@ loop-i-preserved-then-not-keeps c =
 pub returns-then-left-made : goal.returns-then-left-made
 returns-then-left-made c =
     let held-here : let a = c.args in (es : List Environment) → R.Holding a.room a.scratch.now es → (above scope : ℕ) (t : Tree) (next : ℕ) → Node
-        a.table.now a.words.now restriction above scope a.at t next → Holds c.read-environment.result (environment_of es c.loop-i.i) = let a = c.args
-        in
+    a.table.now a.words.now restriction above scope a.at t next → Holds c.read-environment.result (environment_of es c.loop-i.i) = let a = c.args
+    in
     λ es h above scope t next node. let roomy = c.requires.3 in let b1 = roomy.before in let n = h.long in
     c.read-environment.ensures (environment_of es c.loop-i.i)
     (map_read (kept (keeps_of a.table.now (rows a.log.now) t)) es c.loop-i.i a.room.base c.loop-i.made
@@ -81,8 +81,8 @@ returns-then-left-made c =
 pub loop-i-preserved : goal.loop-i-preserved
 loop-i-preserved c =
     let held-here : let a = c.args in (es : List Environment) → R.Holding a.room a.scratch.now es → (above scope : ℕ) (t : Tree) (next : ℕ) → Node
-        a.table.now a.words.now restriction above scope a.at t next → Holds c.read-environment.result (environment_of es c.loop-i.i) = let a = c.args
-        in
+    a.table.now a.words.now restriction above scope a.at t next → Holds c.read-environment.result (environment_of es c.loop-i.i) = let a = c.args
+    in
     λ es h above scope t next node. let roomy = c.requires.3 in let b1 = roomy.before in let n = h.long in
     c.read-environment.ensures (environment_of es c.loop-i.i)
     (map_read (kept (keeps_of a.table.now (rows a.log.now) t)) es c.loop-i.i a.room.base c.loop-i.made

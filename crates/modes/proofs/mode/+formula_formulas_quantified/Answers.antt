@@ -42,7 +42,7 @@ formula-size-requires t c =
 pub formula-overflow_add-next : goal.formula-overflow_add-next
 formula-overflow_add-next t c =
     let formula_stood : Stood c.args.table.now c.args.words.now (as_role c.args.role) c.args.above c.args.scope c.args.at (as_tag
-        c.tag_at-tag.result) (c.args.above + c.cost.result) (c.args.at + c.size.result) = record {
+    c.tag_at-tag.result) (c.args.above + c.cost.result) (c.args.at + c.size.result) = record {
       kind = c.requires.3;
       here = c.requires.4;
       known = c.tag_at-tag.ensures;
@@ -54,7 +54,7 @@ formula-overflow_add-next t c =
 pub formula-formulas-requires : goal.formula-formulas-requires
 formula-formulas-requires t c =
     let formula_stood : Stood c.args.table.now c.args.words.now (as_role c.args.role) c.args.above c.args.scope c.args.at (as_tag
-        c.tag_at-tag.result) (c.args.above + c.cost.result) (c.args.at + c.size.result) = record {
+    c.tag_at-tag.result) (c.args.above + c.cost.result) (c.args.at + c.size.result) = record {
       kind = c.requires.3;
       here = c.requires.4;
       known = c.tag_at-tag.ensures;
@@ -76,7 +76,7 @@ formula-formulas-requires t c =
 pub formula-quantified-requires : goal.formula-quantified-requires
 formula-quantified-requires t c =
     let formula_stood : Stood c.args.table.now c.args.words.now (as_role c.args.role) c.args.above c.args.scope c.args.at (as_tag
-        c.tag_at-tag.result) (c.args.above + c.cost.result) (c.args.at + c.size.result) = record {
+    c.tag_at-tag.result) (c.args.above + c.cost.result) (c.args.at + c.size.result) = record {
       kind = c.requires.3;
       here = c.requires.4;
       known = c.tag_at-tag.ensures;
@@ -97,7 +97,7 @@ formula-quantified-requires t c =
 pub formula-returns-in-Join : goal.formula-returns-in-Join
 formula-returns-in-Join t c =
     let formula_stood : Stood c.args.table.now c.args.words.now (as_role c.args.role) c.args.above c.args.scope c.args.at (as_tag
-        c.tag_at-tag.result) (c.args.above + c.cost.result) (c.args.at + c.size.result) = record {
+    c.tag_at-tag.result) (c.args.above + c.cost.result) (c.args.at + c.size.result) = record {
       kind = c.requires.3;
       here = c.requires.4;
       known = c.tag_at-tag.ensures;
@@ -110,7 +110,7 @@ formula-returns-in-Join t c =
 pub formula-returns-in-Quantifier : goal.formula-returns-in-Quantifier
 formula-returns-in-Quantifier t c =
     let formula_stood : Stood c.args.table.now c.args.words.now (as_role c.args.role) c.args.above c.args.scope c.args.at (as_tag
-        c.tag_at-tag.result) (c.args.above + c.cost.result) (c.args.at + c.size.result) = record {
+    c.tag_at-tag.result) (c.args.above + c.cost.result) (c.args.at + c.size.result) = record {
       kind = c.requires.3;
       here = c.requires.4;
       known = c.tag_at-tag.ensures;
@@ -122,7 +122,7 @@ formula-returns-in-Quantifier t c =
 pub formula-returns-in_default : goal.formula-returns-in_default
 formula-returns-in_default t c =
     let formula_stood : Stood c.args.table.now c.args.words.now (as_role c.args.role) c.args.above c.args.scope c.args.at (as_tag
-        c.tag_at-tag.result) (c.args.above + c.cost.result) (c.args.at + c.size.result) = record {
+    c.tag_at-tag.result) (c.args.above + c.cost.result) (c.args.at + c.size.result) = record {
       kind = c.requires.3;
       here = c.requires.4;
       known = c.tag_at-tag.ensures;

@@ -45,8 +45,8 @@ list-made-requires c =
 pub returns-in_default : goal.returns-in_default
 returns-in_default c =
     let made_list : let a = c.args in (ρ : List ℤ) (d : Tree) (body : ℕ) → Outer a.environment a.scope ρ → Node a.table.now a.words.now restriction
-        a.level (a.scope + a.v) (a.at + 3 + a.v * value a.words.now (a.at + 2)) d body → R.MakesTree a.table.now a.log.now d (a.scope + a.v) body
-        (outer ρ ∷ []) (alone (length a.scratch.now / 17)) c.store.new.scratch c.list-made.new.scratch c.list-made.result = let a = c.args in
+    a.level (a.scope + a.v) (a.at + 3 + a.v * value a.words.now (a.at + 2)) d body → R.MakesTree a.table.now a.log.now d (a.scope + a.v) body
+    (outer ρ ∷ []) (alone (length a.scratch.now / 17)) c.store.new.scratch c.list-made.new.scratch c.list-made.result = let a = c.args in
     λ ρ d body o node. let room = c.room.ensures in subst
     (λ (r : Room). R.MakesTree a.table.now a.log.now d (a.scope + a.v) body (outer ρ ∷ []) r
     c.store.new.scratch c.list-made.new.scratch c.list-made.result) room
@@ -68,8 +68,8 @@ returns-in_default c =
 pub instances-count-requires : goal.instances-count-requires
 instances-count-requires c =
     let made_list : let a = c.args in (ρ : List ℤ) (d : Tree) (body : ℕ) → Outer a.environment a.scope ρ → Node a.table.now a.words.now restriction
-        a.level (a.scope + a.v) (a.at + 3 + a.v * value a.words.now (a.at + 2)) d body → R.MakesTree a.table.now a.log.now d (a.scope + a.v) body
-        (outer ρ ∷ []) (alone (length a.scratch.now / 17)) c.store.new.scratch c.list-made.new.scratch c.list-made.result = let a = c.args in
+    a.level (a.scope + a.v) (a.at + 3 + a.v * value a.words.now (a.at + 2)) d body → R.MakesTree a.table.now a.log.now d (a.scope + a.v) body
+    (outer ρ ∷ []) (alone (length a.scratch.now / 17)) c.store.new.scratch c.list-made.new.scratch c.list-made.result = let a = c.args in
     λ ρ d body o node. let room = c.room.ensures in subst
     (λ (r : Room). R.MakesTree a.table.now a.log.now d (a.scope + a.v) body (outer ρ ∷ []) r
     c.store.new.scratch c.list-made.new.scratch c.list-made.result) room
@@ -101,8 +101,8 @@ instances-count-requires c =
 pub returns : goal.returns
 returns c =
     let made_list : let a = c.args in (ρ : List ℤ) (d : Tree) (body : ℕ) → Outer a.environment a.scope ρ → Node a.table.now a.words.now restriction
-        a.level (a.scope + a.v) (a.at + 3 + a.v * value a.words.now (a.at + 2)) d body → R.MakesTree a.table.now a.log.now d (a.scope + a.v) body
-        (outer ρ ∷ []) (alone (length a.scratch.now / 17)) c.store.new.scratch c.list-made.new.scratch c.list-made.result = let a = c.args in
+    a.level (a.scope + a.v) (a.at + 3 + a.v * value a.words.now (a.at + 2)) d body → R.MakesTree a.table.now a.log.now d (a.scope + a.v) body
+    (outer ρ ∷ []) (alone (length a.scratch.now / 17)) c.store.new.scratch c.list-made.new.scratch c.list-made.result = let a = c.args in
     λ ρ d body o node. let room = c.room.ensures in subst
     (λ (r : Room). R.MakesTree a.table.now a.log.now d (a.scope + a.v) body (outer ρ ∷ []) r
     c.store.new.scratch c.list-made.new.scratch c.list-made.result) room

@@ -33,19 +33,19 @@ others words Unused role scope at k = refl
 pub overflow_add-at : goal.overflow_add-at
 overflow_add-at c =
     let atom-words : c.args.at + (3 + 2 * value c.args.words.now (c.args.at + 2)) ≤ length c.args.words.now =
-        atom-there c.args.words.now (as_tag c.args.tag) c.args.at c.requires.1 (ap as_tag c.in-Atom.is) in
+    atom-there c.args.words.now (as_tag c.args.tag) c.args.at c.requires.1 (ap as_tag c.in-Atom.is) in
     omega (arith, atom-words)
 
 pub overflow_add-at-in-Atom : goal.overflow_add-at-in-Atom
 overflow_add-at-in-Atom c =
     let atom-words : c.args.at + (3 + 2 * value c.args.words.now (c.args.at + 2)) ≤ length c.args.words.now =
-        atom-there c.args.words.now (as_tag c.args.tag) c.args.at c.requires.1 (ap as_tag c.in-Atom.is) in
+    atom-there c.args.words.now (as_tag c.args.tag) c.args.at c.requires.1 (ap as_tag c.in-Atom.is) in
     omega (arith, atom-words)
 
 pub variables-requires : goal.variables-requires
 variables-requires c =
     let atom-words : c.args.at + (3 + 2 * value c.args.words.now (c.args.at + 2)) ≤ length c.args.words.now =
-        atom-there c.args.words.now (as_tag c.args.tag) c.args.at c.requires.1 (ap as_tag c.in-Atom.is) in
+    atom-there c.args.words.now (as_tag c.args.tag) c.args.at c.requires.1 (ap as_tag c.in-Atom.is) in
     omega (arith, atom-words, c.value.ensures)
 
 pub overflow_add-at-in-Compare : goal.overflow_add-at-in-Compare
@@ -61,7 +61,7 @@ variables-requires-in-Compare c =
 pub overflow_add-at-in-Quantifier : goal.overflow_add-at-in-Quantifier
 overflow_add-at-in-Quantifier c =
     let quantifier-words : let words = c.args.words.now in c.args.at + (3 + value words (c.args.at + 1) * value words (c.args.at + 2)) ≤ length words
-        = quantifier-there c.args.words.now (as_tag c.args.tag) c.args.at c.requires.1 (ap as_tag c.in-Quantifier.is) in
+    = quantifier-there c.args.words.now (as_tag c.args.tag) c.args.at c.requires.1 (ap as_tag c.in-Quantifier.is) in
     omega (arith, quantifier-words)
 
 pub returns-in-Atom : goal.returns-in-Atom

@@ -30,47 +30,47 @@ others words Unused role scope at k = refl
 pub overflow_add-at : goal.overflow_add-at
 overflow_add-at c =
     let atom-words : c.args.at + (3 + 2 * value c.args.words.now (c.args.at + 2)) ≤ length c.args.words.now =
-        atom-there c.args.words.now (as_tag c.args.tag) c.args.at c.requires (ap as_tag c.in-Atom.is) in
+    atom-there c.args.words.now (as_tag c.args.tag) c.args.at c.requires (ap as_tag c.in-Atom.is) in
     omega (arith, atom-words)
 
 pub overflow_mul-result : goal.overflow_mul-result
 overflow_mul-result c =
     let atom-words : c.args.at + (3 + 2 * value c.args.words.now (c.args.at + 2)) ≤ length c.args.words.now =
-        atom-there c.args.words.now (as_tag c.args.tag) c.args.at c.requires (ap as_tag c.in-Atom.is) in
+    atom-there c.args.words.now (as_tag c.args.tag) c.args.at c.requires (ap as_tag c.in-Atom.is) in
     omega (arith, atom-words, c.value.ensures)
 
 pub overflow_add-result : goal.overflow_add-result
 overflow_add-result c =
     let atom-words : c.args.at + (3 + 2 * value c.args.words.now (c.args.at + 2)) ≤ length c.args.words.now =
-        atom-there c.args.words.now (as_tag c.args.tag) c.args.at c.requires (ap as_tag c.in-Atom.is) in
+    atom-there c.args.words.now (as_tag c.args.tag) c.args.at c.requires (ap as_tag c.in-Atom.is) in
     omega (arith, atom-words, c.value.ensures)
 
 pub overflow_add-at-in-Quantifier : goal.overflow_add-at-in-Quantifier
 overflow_add-at-in-Quantifier c =
     let quantifier-words : let words = c.args.words.now in c.args.at + (3 + value words (c.args.at + 1) * value words (c.args.at + 2)) ≤ length words
-        = quantifier-there c.args.words.now (as_tag c.args.tag) c.args.at c.requires (ap as_tag c.in-Quantifier.is) in
+    = quantifier-there c.args.words.now (as_tag c.args.tag) c.args.at c.requires (ap as_tag c.in-Quantifier.is) in
     omega (arith, quantifier-words)
 
 pub overflow_add-at-in-Quantifier-2 : goal.overflow_add-at-in-Quantifier-2
 overflow_add-at-in-Quantifier-2 c =
     let quantifier-words : let words = c.args.words.now in c.args.at + (3 + value words (c.args.at + 1) * value words (c.args.at + 2)) ≤ length words
-        = quantifier-there c.args.words.now (as_tag c.args.tag) c.args.at c.requires (ap as_tag c.in-Quantifier.is) in
+    = quantifier-there c.args.words.now (as_tag c.args.tag) c.args.at c.requires (ap as_tag c.in-Quantifier.is) in
     omega (arith, quantifier-words)
 
 pub overflow_mul-result-in-Quantifier : goal.overflow_mul-result-in-Quantifier
 overflow_mul-result-in-Quantifier c =
     let quantifier-words : let words = c.args.words.now in c.args.at + (3 + value words (c.args.at + 1) * value words (c.args.at + 2)) ≤ length words
-        = quantifier-there c.args.words.now (as_tag c.args.tag) c.args.at c.requires (ap as_tag c.in-Quantifier.is) in
+    = quantifier-there c.args.words.now (as_tag c.args.tag) c.args.at c.requires (ap as_tag c.in-Quantifier.is) in
     let product : c.args.at + (3 + c.value-in-Quantifier.result * c.value-in-Quantifier-2.result) ≤ length c.args.words.now =
-        rw (c.value-in-Quantifier.ensures, c.value-in-Quantifier-2.ensures) (quantifier-words) in
+    rw (c.value-in-Quantifier.ensures, c.value-in-Quantifier-2.ensures) (quantifier-words) in
     omega (arith, product)
 
 pub overflow_add-result-in-Quantifier : goal.overflow_add-result-in-Quantifier
 overflow_add-result-in-Quantifier c =
     let quantifier-words : let words = c.args.words.now in c.args.at + (3 + value words (c.args.at + 1) * value words (c.args.at + 2)) ≤ length words
-        = quantifier-there c.args.words.now (as_tag c.args.tag) c.args.at c.requires (ap as_tag c.in-Quantifier.is) in
+    = quantifier-there c.args.words.now (as_tag c.args.tag) c.args.at c.requires (ap as_tag c.in-Quantifier.is) in
     let product : c.args.at + (3 + c.value-in-Quantifier.result * c.value-in-Quantifier-2.result) ≤ length c.args.words.now =
-        rw (c.value-in-Quantifier.ensures, c.value-in-Quantifier-2.ensures) (quantifier-words) in
+    rw (c.value-in-Quantifier.ensures, c.value-in-Quantifier-2.ensures) (quantifier-words) in
     omega (arith, product)
 
 pub returns-in-Atom : goal.returns-in-Atom

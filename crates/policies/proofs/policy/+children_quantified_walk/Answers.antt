@@ -126,13 +126,13 @@ walk-returns-in-Refused t c =
 pub walk-overflow_add-level : goal.walk-overflow_add-level
 walk-overflow_add-level t c =
     let walk_asked : passed tt ≡ questions c.args.table.now c.args.words.now (as_tag c.tag_at-tag.result) (as_role c.args.role) c.args.above
-        c.args.scope c.args.at = ap outcome (sym c.in_default.is) ∙ c.questions-asked.ensures in
+    c.args.scope c.args.at = ap outcome (sym c.in_default.is) ∙ c.questions-asked.ensures in
     omega (arith, (asked _ _ _ _ _ _ _ (sym (walk_asked))).level, c.cost.ensures)
 
 pub walk-size-requires : goal.walk-size-requires
 walk-size-requires t c =
     let walk_asked : passed tt ≡ questions c.args.table.now c.args.words.now (as_tag c.tag_at-tag.result) (as_role c.args.role) c.args.above
-        c.args.scope c.args.at = ap outcome (sym c.in_default.is) ∙ c.questions-asked.ensures in
+    c.args.scope c.args.at = ap outcome (sym c.in_default.is) ∙ c.questions-asked.ensures in
     let s = c.args in
     fits-there s.words.now (as_tag c.tag_at-tag.result) (as_role s.role) s.scope s.at
     (asked _ _ _ _ _ _ _ (sym (walk_asked))).fits
@@ -140,9 +140,9 @@ walk-size-requires t c =
 pub walk-overflow_add-next : goal.walk-overflow_add-next
 walk-overflow_add-next t c =
     let walk_asked : passed tt ≡ questions c.args.table.now c.args.words.now (as_tag c.tag_at-tag.result) (as_role c.args.role) c.args.above
-        c.args.scope c.args.at = ap outcome (sym c.in_default.is) ∙ c.questions-asked.ensures in
+    c.args.scope c.args.at = ap outcome (sym c.in_default.is) ∙ c.questions-asked.ensures in
     let walk_entered : Entered c.args.table.now c.args.words.now (as_role c.args.role) c.args.above c.args.scope c.args.at (as_tag
-        c.tag_at-tag.result) (c.args.above + c.cost.result) (c.args.at + c.size.result) = record {
+    c.tag_at-tag.result) (c.args.above + c.cost.result) (c.args.at + c.size.result) = record {
       low = c.requires.1;
       known = c.tag_at-tag.ensures;
       yes = walk_asked;
@@ -154,9 +154,9 @@ walk-overflow_add-next t c =
 pub walk-children-requires : goal.walk-children-requires
 walk-children-requires t c =
     let walk_asked : passed tt ≡ questions c.args.table.now c.args.words.now (as_tag c.tag_at-tag.result) (as_role c.args.role) c.args.above
-        c.args.scope c.args.at = ap outcome (sym c.in_default.is) ∙ c.questions-asked.ensures in
+    c.args.scope c.args.at = ap outcome (sym c.in_default.is) ∙ c.questions-asked.ensures in
     let walk_entered : Entered c.args.table.now c.args.words.now (as_role c.args.role) c.args.above c.args.scope c.args.at (as_tag
-        c.tag_at-tag.result) (c.args.above + c.cost.result) (c.args.at + c.size.result) = record {
+    c.tag_at-tag.result) (c.args.above + c.cost.result) (c.args.at + c.size.result) = record {
       low = c.requires.1;
       known = c.tag_at-tag.ensures;
       yes = walk_asked;
@@ -169,9 +169,9 @@ walk-children-requires t c =
 pub walk-overflow_add-scope : goal.walk-overflow_add-scope
 walk-overflow_add-scope t c =
     let walk_asked : passed tt ≡ questions c.args.table.now c.args.words.now (as_tag c.tag_at-tag.result) (as_role c.args.role) c.args.above
-        c.args.scope c.args.at = ap outcome (sym c.in_default.is) ∙ c.questions-asked.ensures in
+    c.args.scope c.args.at = ap outcome (sym c.in_default.is) ∙ c.questions-asked.ensures in
     let walk_entered : Entered c.args.table.now c.args.words.now (as_role c.args.role) c.args.above c.args.scope c.args.at (as_tag
-        c.tag_at-tag.result) (c.args.above + c.cost.result) (c.args.at + c.size.result) = record {
+    c.tag_at-tag.result) (c.args.above + c.cost.result) (c.args.at + c.size.result) = record {
       low = c.requires.1;
       known = c.tag_at-tag.ensures;
       yes = walk_asked;
@@ -183,9 +183,9 @@ walk-overflow_add-scope t c =
 pub walk-quantified-requires : goal.walk-quantified-requires
 walk-quantified-requires t c =
     let walk_asked : passed tt ≡ questions c.args.table.now c.args.words.now (as_tag c.tag_at-tag.result) (as_role c.args.role) c.args.above
-        c.args.scope c.args.at = ap outcome (sym c.in_default.is) ∙ c.questions-asked.ensures in
+    c.args.scope c.args.at = ap outcome (sym c.in_default.is) ∙ c.questions-asked.ensures in
     let walk_entered : Entered c.args.table.now c.args.words.now (as_role c.args.role) c.args.above c.args.scope c.args.at (as_tag
-        c.tag_at-tag.result) (c.args.above + c.cost.result) (c.args.at + c.size.result) = record {
+    c.tag_at-tag.result) (c.args.above + c.cost.result) (c.args.at + c.size.result) = record {
       low = c.requires.1;
       known = c.tag_at-tag.ensures;
       yes = walk_asked;
@@ -204,9 +204,9 @@ walk-quantified-requires t c =
 pub walk-walk-requires : goal.walk-walk-requires
 walk-walk-requires t c =
     let walk_asked : passed tt ≡ questions c.args.table.now c.args.words.now (as_tag c.tag_at-tag.result) (as_role c.args.role) c.args.above
-        c.args.scope c.args.at = ap outcome (sym c.in_default.is) ∙ c.questions-asked.ensures in
+    c.args.scope c.args.at = ap outcome (sym c.in_default.is) ∙ c.questions-asked.ensures in
     let walk_entered : Entered c.args.table.now c.args.words.now (as_role c.args.role) c.args.above c.args.scope c.args.at (as_tag
-        c.tag_at-tag.result) (c.args.above + c.cost.result) (c.args.at + c.size.result) = record {
+    c.tag_at-tag.result) (c.args.above + c.cost.result) (c.args.at + c.size.result) = record {
       low = c.requires.1;
       known = c.tag_at-tag.ensures;
       yes = walk_asked;
@@ -221,9 +221,9 @@ walk-walk-requires t c =
 pub walk-returns-in-Join : goal.walk-returns-in-Join
 walk-returns-in-Join t c =
     let walk_asked : passed tt ≡ questions c.args.table.now c.args.words.now (as_tag c.tag_at-tag.result) (as_role c.args.role) c.args.above
-        c.args.scope c.args.at = ap outcome (sym c.in_default.is) ∙ c.questions-asked.ensures in
+    c.args.scope c.args.at = ap outcome (sym c.in_default.is) ∙ c.questions-asked.ensures in
     let walk_entered : Entered c.args.table.now c.args.words.now (as_role c.args.role) c.args.above c.args.scope c.args.at (as_tag
-        c.tag_at-tag.result) (c.args.above + c.cost.result) (c.args.at + c.size.result) = record {
+    c.tag_at-tag.result) (c.args.above + c.cost.result) (c.args.at + c.size.result) = record {
       low = c.requires.1;
       known = c.tag_at-tag.ensures;
       yes = walk_asked;
@@ -236,9 +236,9 @@ walk-returns-in-Join t c =
 pub walk-returns-in-Quantifier : goal.walk-returns-in-Quantifier
 walk-returns-in-Quantifier t c =
     let walk_asked : passed tt ≡ questions c.args.table.now c.args.words.now (as_tag c.tag_at-tag.result) (as_role c.args.role) c.args.above
-        c.args.scope c.args.at = ap outcome (sym c.in_default.is) ∙ c.questions-asked.ensures in
+    c.args.scope c.args.at = ap outcome (sym c.in_default.is) ∙ c.questions-asked.ensures in
     let walk_entered : Entered c.args.table.now c.args.words.now (as_role c.args.role) c.args.above c.args.scope c.args.at (as_tag
-        c.tag_at-tag.result) (c.args.above + c.cost.result) (c.args.at + c.size.result) = record {
+    c.tag_at-tag.result) (c.args.above + c.cost.result) (c.args.at + c.size.result) = record {
       low = c.requires.1;
       known = c.tag_at-tag.ensures;
       yes = walk_asked;
@@ -252,9 +252,9 @@ walk-returns-in-Quantifier t c =
 pub walk-returns-in-Some : goal.walk-returns-in-Some
 walk-returns-in-Some t c =
     let walk_asked : passed tt ≡ questions c.args.table.now c.args.words.now (as_tag c.tag_at-tag.result) (as_role c.args.role) c.args.above
-        c.args.scope c.args.at = ap outcome (sym c.in_default.is) ∙ c.questions-asked.ensures in
+    c.args.scope c.args.at = ap outcome (sym c.in_default.is) ∙ c.questions-asked.ensures in
     let walk_entered : Entered c.args.table.now c.args.words.now (as_role c.args.role) c.args.above c.args.scope c.args.at (as_tag
-        c.tag_at-tag.result) (c.args.above + c.cost.result) (c.args.at + c.size.result) = record {
+    c.tag_at-tag.result) (c.args.above + c.cost.result) (c.args.at + c.size.result) = record {
       low = c.requires.1;
       known = c.tag_at-tag.ensures;
       yes = walk_asked;
@@ -266,9 +266,9 @@ walk-returns-in-Some t c =
 pub walk-returns-in_default-tag : goal.walk-returns-in_default-tag
 walk-returns-in_default-tag t c =
     let walk_asked : passed tt ≡ questions c.args.table.now c.args.words.now (as_tag c.tag_at-tag.result) (as_role c.args.role) c.args.above
-        c.args.scope c.args.at = ap outcome (sym c.in_default.is) ∙ c.questions-asked.ensures in
+    c.args.scope c.args.at = ap outcome (sym c.in_default.is) ∙ c.questions-asked.ensures in
     let walk_entered : Entered c.args.table.now c.args.words.now (as_role c.args.role) c.args.above c.args.scope c.args.at (as_tag
-        c.tag_at-tag.result) (c.args.above + c.cost.result) (c.args.at + c.size.result) = record {
+    c.tag_at-tag.result) (c.args.above + c.cost.result) (c.args.at + c.size.result) = record {
       low = c.requires.1;
       known = c.tag_at-tag.ensures;
       yes = walk_asked;

@@ -84,7 +84,7 @@ children-formula-child-requires t c =
 pub children-returns-in-Short : goal.children-returns-in-Short
 children-returns-in-Short t c =
     let child : let a = c.args in ReducesNode a.table.now a.words.now a.log.now (L.Role.operand a.kind) a.above a.scope c.loop-i.next a.environment
-        (length a.scratch.now / 17) (rest c.loop-i.out c.loop-i.join.words) c.formula-child.new.out c.formula-child.result = let a = c.args in
+    (length a.scratch.now / 17) (rest c.loop-i.out c.loop-i.join.words) c.formula-child.new.out c.formula-child.result = let a = c.args in
     subst
     (λ (n : ℕ). ReducesNode a.table.now a.words.now a.log.now (L.Role.operand a.kind) a.above
     a.scope c.loop-i.next a.environment (n / 17) (rest c.loop-i.out c.loop-i.join.words)
@@ -103,7 +103,7 @@ children-returns-in-Short t c =
 pub children-add-join-requires : goal.children-add-join-requires
 children-add-join-requires t c =
     let child : let a = c.args in ReducesNode a.table.now a.words.now a.log.now (L.Role.operand a.kind) a.above a.scope c.loop-i.next a.environment
-        (length a.scratch.now / 17) (rest c.loop-i.out c.loop-i.join.words) c.formula-child.new.out c.formula-child.result = let a = c.args in
+    (length a.scratch.now / 17) (rest c.loop-i.out c.loop-i.join.words) c.formula-child.new.out c.formula-child.result = let a = c.args in
     subst
     (λ (n : ℕ). ReducesNode a.table.now a.words.now a.log.now (L.Role.operand a.kind) a.above
     a.scope c.loop-i.next a.environment (n / 17) (rest c.loop-i.out c.loop-i.join.words)
@@ -127,7 +127,7 @@ children-add-join-requires t c =
 pub children-loop-i-preserved : goal.children-loop-i-preserved
 children-loop-i-preserved t c =
     let child : let a = c.args in ReducesNode a.table.now a.words.now a.log.now (L.Role.operand a.kind) a.above a.scope c.loop-i.next a.environment
-        (length a.scratch.now / 17) (rest c.loop-i.out c.loop-i.join.words) c.formula-child.new.out c.formula-child.result = let a = c.args in
+    (length a.scratch.now / 17) (rest c.loop-i.out c.loop-i.join.words) c.formula-child.new.out c.formula-child.result = let a = c.args in
     subst
     (λ (n : ℕ). ReducesNode a.table.now a.words.now a.log.now (L.Role.operand a.kind) a.above
     a.scope c.loop-i.next a.environment (n / 17) (rest c.loop-i.out c.loop-i.join.words)
@@ -168,7 +168,7 @@ formula-size-requires t c =
 pub formula-overflow_add-next : goal.formula-overflow_add-next
 formula-overflow_add-next t c =
     let formula_stood : let a = c.args in Stood a.table.now a.words.now (as_role a.role) a.above a.scope a.at (as_tag c.tag_at-tag.result) (a.above +
-        c.cost.result) (a.at + c.size.result) = let a = c.args in
+    c.cost.result) (a.at + c.size.result) = let a = c.args in
     record {
       kind = c.requires.4;
       here = c.requires.5;
@@ -183,7 +183,7 @@ formula-overflow_add-next t c =
 pub formula-atom-requires : goal.formula-atom-requires
 formula-atom-requires t c =
     let formula_stood : let a = c.args in Stood a.table.now a.words.now (as_role a.role) a.above a.scope a.at (as_tag c.tag_at-tag.result) (a.above +
-        c.cost.result) (a.at + c.size.result) = let a = c.args in
+    c.cost.result) (a.at + c.size.result) = let a = c.args in
     record {
       kind = c.requires.4;
       here = c.requires.5;
@@ -203,7 +203,7 @@ formula-atom-requires t c =
 pub formula-compare-requires : goal.formula-compare-requires
 formula-compare-requires t c =
     let formula_stood : let a = c.args in Stood a.table.now a.words.now (as_role a.role) a.above a.scope a.at (as_tag c.tag_at-tag.result) (a.above +
-        c.cost.result) (a.at + c.size.result) = let a = c.args in
+    c.cost.result) (a.at + c.size.result) = let a = c.args in
     record {
       kind = c.requires.4;
       here = c.requires.5;
@@ -220,7 +220,7 @@ formula-compare-requires t c =
 pub formula-children-requires : goal.formula-children-requires
 formula-children-requires t c =
     let formula_stood : let a = c.args in Stood a.table.now a.words.now (as_role a.role) a.above a.scope a.at (as_tag c.tag_at-tag.result) (a.above +
-        c.cost.result) (a.at + c.size.result) = let a = c.args in
+    c.cost.result) (a.at + c.size.result) = let a = c.args in
     record {
       kind = c.requires.4;
       here = c.requires.5;
@@ -247,7 +247,7 @@ formula-children-requires t c =
 pub formula-quantifier-requires : goal.formula-quantifier-requires
 formula-quantifier-requires t c =
     let formula_stood : let a = c.args in Stood a.table.now a.words.now (as_role a.role) a.above a.scope a.at (as_tag c.tag_at-tag.result) (a.above +
-        c.cost.result) (a.at + c.size.result) = let a = c.args in
+    c.cost.result) (a.at + c.size.result) = let a = c.args in
     record {
       kind = c.requires.4;
       here = c.requires.5;
@@ -274,7 +274,7 @@ formula-quantifier-requires t c =
 pub formula-returns-in-Plain : goal.formula-returns-in-Plain
 formula-returns-in-Plain t c =
     let formula_stood : let a = c.args in Stood a.table.now a.words.now (as_role a.role) a.above a.scope a.at (as_tag c.tag_at-tag.result) (a.above +
-        c.cost.result) (a.at + c.size.result) = let a = c.args in
+    c.cost.result) (a.at + c.size.result) = let a = c.args in
     record {
       kind = c.requires.4;
       here = c.requires.5;
@@ -291,7 +291,7 @@ formula-returns-in-Plain t c =
 pub formula-returns-in-Atom : goal.formula-returns-in-Atom
 formula-returns-in-Atom t c =
     let formula_stood : let a = c.args in Stood a.table.now a.words.now (as_role a.role) a.above a.scope a.at (as_tag c.tag_at-tag.result) (a.above +
-        c.cost.result) (a.at + c.size.result) = let a = c.args in
+    c.cost.result) (a.at + c.size.result) = let a = c.args in
     record {
       kind = c.requires.4;
       here = c.requires.5;
@@ -308,7 +308,7 @@ formula-returns-in-Atom t c =
 pub formula-returns-in-Compare : goal.formula-returns-in-Compare
 formula-returns-in-Compare t c =
     let formula_stood : let a = c.args in Stood a.table.now a.words.now (as_role a.role) a.above a.scope a.at (as_tag c.tag_at-tag.result) (a.above +
-        c.cost.result) (a.at + c.size.result) = let a = c.args in
+    c.cost.result) (a.at + c.size.result) = let a = c.args in
     record {
       kind = c.requires.4;
       here = c.requires.5;
@@ -325,7 +325,7 @@ formula-returns-in-Compare t c =
 pub formula-returns-in-Join : goal.formula-returns-in-Join
 formula-returns-in-Join t c =
     let formula_stood : let a = c.args in Stood a.table.now a.words.now (as_role a.role) a.above a.scope a.at (as_tag c.tag_at-tag.result) (a.above +
-        c.cost.result) (a.at + c.size.result) = let a = c.args in
+    c.cost.result) (a.at + c.size.result) = let a = c.args in
     record {
       kind = c.requires.4;
       here = c.requires.5;
@@ -343,7 +343,7 @@ formula-returns-in-Join t c =
 pub formula-returns-in-Quantifier : goal.formula-returns-in-Quantifier
 formula-returns-in-Quantifier t c =
     let formula_stood : let a = c.args in Stood a.table.now a.words.now (as_role a.role) a.above a.scope a.at (as_tag c.tag_at-tag.result) (a.above +
-        c.cost.result) (a.at + c.size.result) = let a = c.args in
+    c.cost.result) (a.at + c.size.result) = let a = c.args in
     record {
       kind = c.requires.4;
       here = c.requires.5;
@@ -360,7 +360,7 @@ formula-returns-in-Quantifier t c =
 pub formula-returns-in_default : goal.formula-returns-in_default
 formula-returns-in_default t c =
     let formula_stood : let a = c.args in Stood a.table.now a.words.now (as_role a.role) a.above a.scope a.at (as_tag c.tag_at-tag.result) (a.above +
-        c.cost.result) (a.at + c.size.result) = let a = c.args in
+    c.cost.result) (a.at + c.size.result) = let a = c.args in
     record {
       kind = c.requires.4;
       here = c.requires.5;
@@ -517,9 +517,9 @@ quantifier-returns-in_default t c =
 pub quantifier-instances-worked-requires : goal.quantifier-instances-worked-requires
 quantifier-instances-worked-requires t c =
     let stood : let a = c.args in (ρ : List ℤ) (v : ℕ) (excluded : List (List ℤ)) (d f : Tree) (next : ℕ) (o : Outer a.environment a.scope ρ) (q :
-        Quantified a.table.now a.words.now a.kind a.level a.scope a.at v excluded d f next) → PS.InstancesStand a.table.now a.words.now a.log.now
-        a.scope c.value-v.result a.at d ρ (body_at a.table.now a.words.now a.log.now a.kind a.level a.scope a.at c.value-v.result c.value-v.ensures v
-        excluded d f next q) (length a.scratch.now / 17) c.prepare-prepared.new.scratch c.in-Instances.placed = let a = c.args in
+    Quantified a.table.now a.words.now a.kind a.level a.scope a.at v excluded d f next) → PS.InstancesStand a.table.now a.words.now a.log.now
+    a.scope c.value-v.result a.at d ρ (body_at a.table.now a.words.now a.log.now a.kind a.level a.scope a.at c.value-v.result c.value-v.ensures v
+    excluded d f next q) (length a.scratch.now / 17) c.prepare-prepared.new.scratch c.in-Instances.placed = let a = c.args in
     λ ρ v excluded d f next o q.
     (prepared_stood a.table.now a.words.now a.log.now a.kind a.level a.scope a.at
     c.value-v.result c.value-v.ensures v excluded d f next q a.environment ρ o (length a.scratch.now / 17)
@@ -565,9 +565,9 @@ quantifier-instances-worked-requires t c =
 pub quantifier-returns-then-join : goal.quantifier-returns-then-join
 quantifier-returns-then-join t c =
     let stood : let a = c.args in (ρ : List ℤ) (v : ℕ) (excluded : List (List ℤ)) (d f : Tree) (next : ℕ) (o : Outer a.environment a.scope ρ) (q :
-        Quantified a.table.now a.words.now a.kind a.level a.scope a.at v excluded d f next) → PS.InstancesStand a.table.now a.words.now a.log.now
-        a.scope c.value-v.result a.at d ρ (body_at a.table.now a.words.now a.log.now a.kind a.level a.scope a.at c.value-v.result c.value-v.ensures v
-        excluded d f next q) (length a.scratch.now / 17) c.prepare-prepared.new.scratch c.in-Instances.placed = let a = c.args in
+    Quantified a.table.now a.words.now a.kind a.level a.scope a.at v excluded d f next) → PS.InstancesStand a.table.now a.words.now a.log.now
+    a.scope c.value-v.result a.at d ρ (body_at a.table.now a.words.now a.log.now a.kind a.level a.scope a.at c.value-v.result c.value-v.ensures v
+    excluded d f next q) (length a.scratch.now / 17) c.prepare-prepared.new.scratch c.in-Instances.placed = let a = c.args in
     λ ρ v excluded d f next o q.
     (prepared_stood a.table.now a.words.now a.log.now a.kind a.level a.scope a.at
     c.value-v.result c.value-v.ensures v excluded d f next q a.environment ρ o (length a.scratch.now / 17)
@@ -576,10 +576,10 @@ quantifier-returns-then-join t c =
     (restriction-here a.table.now a.words.now a.log.now a.kind a.level a.scope a.at
     c.value-v.result c.value-v.ensures v excluded d f next q))) in
     let worked : let a = c.args in (ρ : List ℤ) (v : ℕ) (excluded : List (List ℤ)) (d f : Tree) (next : ℕ) (o : Outer a.environment a.scope ρ) (q :
-        Quantified a.table.now a.words.now a.kind a.level a.scope a.at v excluded d f next) → Works a.kind a.table.now a.log.now f ρ (found
-        a.table.now a.words.now a.log.now a.kind a.level a.scope a.at c.value-v.result c.value-v.ensures v excluded d f next q a.environment ρ o)
-        (length c.prepare-prepared.new.scratch / 17 - c.in-Instances.placed.used) next c.instances-worked.new.out c.instances-worked.result = let a =
-        c.args in
+    Quantified a.table.now a.words.now a.kind a.level a.scope a.at v excluded d f next) → Works a.kind a.table.now a.log.now f ρ (found
+    a.table.now a.words.now a.log.now a.kind a.level a.scope a.at c.value-v.result c.value-v.ensures v excluded d f next q a.environment ρ o)
+    (length c.prepare-prepared.new.scratch / 17 - c.in-Instances.placed.used) next c.instances-worked.new.out c.instances-worked.result = let a =
+    c.args in
     λ ρ v excluded d f next o q.
     (c.instances-worked.ensures.works ρ
     (found a.table.now a.words.now a.log.now a.kind a.level a.scope a.at c.value-v.result
@@ -605,9 +605,9 @@ quantifier-returns-then-join t c =
 pub quantifier-conclude-answer-requires : goal.quantifier-conclude-answer-requires
 quantifier-conclude-answer-requires t c =
     let stood : let a = c.args in (ρ : List ℤ) (v : ℕ) (excluded : List (List ℤ)) (d f : Tree) (next : ℕ) (o : Outer a.environment a.scope ρ) (q :
-        Quantified a.table.now a.words.now a.kind a.level a.scope a.at v excluded d f next) → PS.InstancesStand a.table.now a.words.now a.log.now
-        a.scope c.value-v.result a.at d ρ (body_at a.table.now a.words.now a.log.now a.kind a.level a.scope a.at c.value-v.result c.value-v.ensures v
-        excluded d f next q) (length a.scratch.now / 17) c.prepare-prepared.new.scratch c.in-Instances.placed = let a = c.args in
+    Quantified a.table.now a.words.now a.kind a.level a.scope a.at v excluded d f next) → PS.InstancesStand a.table.now a.words.now a.log.now
+    a.scope c.value-v.result a.at d ρ (body_at a.table.now a.words.now a.log.now a.kind a.level a.scope a.at c.value-v.result c.value-v.ensures v
+    excluded d f next q) (length a.scratch.now / 17) c.prepare-prepared.new.scratch c.in-Instances.placed = let a = c.args in
     λ ρ v excluded d f next o q.
     (prepared_stood a.table.now a.words.now a.log.now a.kind a.level a.scope a.at
     c.value-v.result c.value-v.ensures v excluded d f next q a.environment ρ o (length a.scratch.now / 17)
@@ -616,10 +616,10 @@ quantifier-conclude-answer-requires t c =
     (restriction-here a.table.now a.words.now a.log.now a.kind a.level a.scope a.at
     c.value-v.result c.value-v.ensures v excluded d f next q))) in
     let worked : let a = c.args in (ρ : List ℤ) (v : ℕ) (excluded : List (List ℤ)) (d f : Tree) (next : ℕ) (o : Outer a.environment a.scope ρ) (q :
-        Quantified a.table.now a.words.now a.kind a.level a.scope a.at v excluded d f next) → Works a.kind a.table.now a.log.now f ρ (found
-        a.table.now a.words.now a.log.now a.kind a.level a.scope a.at c.value-v.result c.value-v.ensures v excluded d f next q a.environment ρ o)
-        (length c.prepare-prepared.new.scratch / 17 - c.in-Instances.placed.used) next c.instances-worked.new.out c.instances-worked.result = let a =
-        c.args in
+    Quantified a.table.now a.words.now a.kind a.level a.scope a.at v excluded d f next) → Works a.kind a.table.now a.log.now f ρ (found
+    a.table.now a.words.now a.log.now a.kind a.level a.scope a.at c.value-v.result c.value-v.ensures v excluded d f next q a.environment ρ o)
+    (length c.prepare-prepared.new.scratch / 17 - c.in-Instances.placed.used) next c.instances-worked.new.out c.instances-worked.result = let a =
+    c.args in
     λ ρ v excluded d f next o q.
     (c.instances-worked.ensures.works ρ
     (found a.table.now a.words.now a.log.now a.kind a.level a.scope a.at c.value-v.result
@@ -651,9 +651,9 @@ quantifier-conclude-answer-requires t c =
 pub quantifier-returns : goal.quantifier-returns
 quantifier-returns t c =
     let stood : let a = c.args in (ρ : List ℤ) (v : ℕ) (excluded : List (List ℤ)) (d f : Tree) (next : ℕ) (o : Outer a.environment a.scope ρ) (q :
-        Quantified a.table.now a.words.now a.kind a.level a.scope a.at v excluded d f next) → PS.InstancesStand a.table.now a.words.now a.log.now
-        a.scope c.value-v.result a.at d ρ (body_at a.table.now a.words.now a.log.now a.kind a.level a.scope a.at c.value-v.result c.value-v.ensures v
-        excluded d f next q) (length a.scratch.now / 17) c.prepare-prepared.new.scratch c.in-Instances.placed = let a = c.args in
+    Quantified a.table.now a.words.now a.kind a.level a.scope a.at v excluded d f next) → PS.InstancesStand a.table.now a.words.now a.log.now
+    a.scope c.value-v.result a.at d ρ (body_at a.table.now a.words.now a.log.now a.kind a.level a.scope a.at c.value-v.result c.value-v.ensures v
+    excluded d f next q) (length a.scratch.now / 17) c.prepare-prepared.new.scratch c.in-Instances.placed = let a = c.args in
     λ ρ v excluded d f next o q.
     (prepared_stood a.table.now a.words.now a.log.now a.kind a.level a.scope a.at
     c.value-v.result c.value-v.ensures v excluded d f next q a.environment ρ o (length a.scratch.now / 17)
@@ -662,10 +662,10 @@ quantifier-returns t c =
     (restriction-here a.table.now a.words.now a.log.now a.kind a.level a.scope a.at
     c.value-v.result c.value-v.ensures v excluded d f next q))) in
     let worked : let a = c.args in (ρ : List ℤ) (v : ℕ) (excluded : List (List ℤ)) (d f : Tree) (next : ℕ) (o : Outer a.environment a.scope ρ) (q :
-        Quantified a.table.now a.words.now a.kind a.level a.scope a.at v excluded d f next) → Works a.kind a.table.now a.log.now f ρ (found
-        a.table.now a.words.now a.log.now a.kind a.level a.scope a.at c.value-v.result c.value-v.ensures v excluded d f next q a.environment ρ o)
-        (length c.prepare-prepared.new.scratch / 17 - c.in-Instances.placed.used) next c.instances-worked.new.out c.instances-worked.result = let a =
-        c.args in
+    Quantified a.table.now a.words.now a.kind a.level a.scope a.at v excluded d f next) → Works a.kind a.table.now a.log.now f ρ (found
+    a.table.now a.words.now a.log.now a.kind a.level a.scope a.at c.value-v.result c.value-v.ensures v excluded d f next q a.environment ρ o)
+    (length c.prepare-prepared.new.scratch / 17 - c.in-Instances.placed.used) next c.instances-worked.new.out c.instances-worked.result = let a =
+    c.args in
     λ ρ v excluded d f next o q.
     (c.instances-worked.ensures.works ρ
     (found a.table.now a.words.now a.log.now a.kind a.level a.scope a.at c.value-v.result

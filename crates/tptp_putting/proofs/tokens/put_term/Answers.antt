@@ -18,8 +18,11 @@ returns-then-zero c =
 pub returns : goal.returns
 unfolding bytes
 returns c =
-    let name : let a = c.args in Behind (bytes "X") a.before a.out.now c.put_bytes-name.new.out c.put_bytes-name.result = record { adds =
-        c.put_bytes-name.ensures; long = c.put_bytes-name.auto.out } in
+    let name : let a = c.args in Behind (bytes "X") a.before a.out.now c.put_bytes-name.new.out c.put_bytes-name.result = record {
+      adds =
+          c.put_bytes-name.ensures;
+      long = c.put_bytes-name.auto.out;
+    } in
     let a = c.args in
     behind-is (behind_more (name) (digits 10 c.value.result) c.put_natural.ensures c.put_natural.auto.out)
     (variable-text a.words.now a.i (sym c.zero.ensures ∙ c.if-zero.false) ∙ rw c.value.ensures)

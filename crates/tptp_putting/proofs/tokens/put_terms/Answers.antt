@@ -16,7 +16,7 @@ loop-i-preserved c =
 pub returns : goal.returns
 returns c =
     let head : let a = c.args in Behind (term_text a.words.now a.first) a.before a.out.now c.put_term-put.new.out c.put_term-put.result =
-        record { adds = c.put_term-put.ensures; long = c.put_term-put.auto.out } in
+    record { adds = c.put_term-put.ensures; long = c.put_term-put.auto.out } in
     let a = c.args in
     let rest = left_end c.loop-i.invariant
     (runs_none (next_term a.words.now a.first) c.loop-i.i a.n c.loop-i-test.false) in

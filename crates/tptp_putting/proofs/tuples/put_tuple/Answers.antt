@@ -15,10 +15,10 @@ pub returns : goal.returns
 unfolding bytes
 returns c =
     let lead : let a = c.args in Behind (cond (eqb a.v 1) (bytes "&") (bytes "&(")) a.before a.out.now c.put_either-open.new.out
-        c.put_either-open.result = record { adds = c.put_either-open.ensures; long = c.put_either-open.auto.out } in
+    c.put_either-open.result = record { adds = c.put_either-open.ensures; long = c.put_either-open.auto.out } in
     let unequals : let a = c.args in Behind (cond (eqb a.v 1) (bytes "&") (bytes "&(") ++ unequals_text a.scope (take a.v (drop a.first
-        a.words.now))) a.before a.out.now c.put_unequals-unequals.new.out c.put_unequals-unequals.result = behind_more (lead) (unequals_text _ _)
-        c.put_unequals-unequals.ensures
+    a.words.now))) a.before a.out.now c.put_unequals-unequals.new.out c.put_unequals-unequals.result = behind_more (lead) (unequals_text _ _)
+    c.put_unequals-unequals.ensures
     c.put_unequals-unequals.auto.out in
     let a = c.args in
     let long = length-take-le a.v (drop a.first a.words.now)

@@ -16,14 +16,14 @@ returns-then-end-first c =
 pub put_bytes-requires : goal.put_bytes-requires
 put_bytes-requires c =
     let tuples : let a = c.args in (t : Tuples a.words.now a.v a.first a.end) → Behind (tuples_text a.scope t.list) a.before a.out.now
-        c.put_each-tuples.new.out c.put_each-tuples.result = λ t. record { adds = c.put_each-tuples.ensures t; long = c.put_each-tuples.auto.out } in
+    c.put_each-tuples.new.out c.put_each-tuples.result = λ t. record { adds = c.put_each-tuples.ensures t; long = c.put_each-tuples.auto.out } in
     behind-fits (tuples c.requires.3)
 
 pub returns : goal.returns
 unfolding bytes
 returns c =
     let tuples : let a = c.args in (t : Tuples a.words.now a.v a.first a.end) → Behind (tuples_text a.scope t.list) a.before a.out.now
-        c.put_each-tuples.new.out c.put_each-tuples.result = λ t. record { adds = c.put_each-tuples.ensures t; long = c.put_each-tuples.auto.out } in
+    c.put_each-tuples.new.out c.put_each-tuples.result = λ t. record { adds = c.put_each-tuples.ensures t; long = c.put_each-tuples.auto.out } in
     let a = c.args in
     λ t.
     behind-is (behind_more (tuples t) (bytes ")") c.put_bytes.ensures c.put_bytes.auto.out)

@@ -23,7 +23,7 @@ loop-i-preserved c =
 pub returns : goal.returns
 returns c =
     let head : let a = c.args in Behind (unequal_text a.scope (word a.words.now a.first)) a.before a.out.now c.put_unequal-put.new.out
-        c.put_unequal-put.result = record { adds = c.put_unequal-put.ensures; long = c.put_unequal-put.auto.out } in
+    c.put_unequal-put.result = record { adds = c.put_unequal-put.ensures; long = c.put_unequal-put.auto.out } in
     let a = c.args in
     let end = a.first + a.v in
     let rest = left_end c.loop-i.invariant.1

@@ -15,8 +15,11 @@ loop-x-preserved c =
 
 pub returns : goal.returns
 returns c =
-    let head : let a = c.args in Behind (digits 10 a.scope) a.before a.out.now c.put_natural-put.new.out c.put_natural-put.result = record { adds =
-        c.put_natural-put.ensures; long = c.put_natural-put.auto.out } in
+    let head : let a = c.args in Behind (digits 10 a.scope) a.before a.out.now c.put_natural-put.new.out c.put_natural-put.result = record {
+      adds =
+          c.put_natural-put.ensures;
+      long = c.put_natural-put.auto.out;
+    } in
     let a = c.args in
     let rest = left_end c.loop-x.invariant (runs_none next_variable c.loop-x.x (a.scope + a.v) c.loop-x-test.false) in
     behind-is (behind_then (head) rest)

@@ -35,7 +35,7 @@ pub join-operands-nodes-requires : goal.join-operands-nodes-requires
 unfolding bytes
 join-operands-nodes-requires t c =
     let join_lead : let a = c.args in Behind (cond a.bare (bytes "") (bytes "(")) a.before a.out.now c.put_either-open.new.out
-        c.put_either-open.result = record { adds = c.put_either-open.ensures; long = c.put_either-open.auto.out } in
+    c.put_either-open.result = record { adds = c.put_either-open.ensures; long = c.put_either-open.auto.out } in
     let join-parts : let a = c.args in (h : Printable a.words.now a.above a.scope a.at) → Joined a.words.now a.above a.scope a.at a.every c.value-n.result h = λ h. let a = c.args in
     joined a.words.now a.above a.scope a.at h a.every c.value-n.result c.requires.1 c.value-n.ensures in
     let a = c.args in
@@ -48,7 +48,7 @@ pub join-close-requires : goal.join-close-requires
 unfolding bytes
 join-close-requires t c =
     let join_lead : let a = c.args in Behind (cond a.bare (bytes "") (bytes "(")) a.before a.out.now c.put_either-open.new.out
-        c.put_either-open.result = record { adds = c.put_either-open.ensures; long = c.put_either-open.auto.out } in
+    c.put_either-open.result = record { adds = c.put_either-open.ensures; long = c.put_either-open.auto.out } in
     let join-parts : let a = c.args in (h : Printable a.words.now a.above a.scope a.at) → Joined a.words.now a.above a.scope a.at a.every c.value-n.result h = λ h. let a = c.args in
     joined a.words.now a.above a.scope a.at h a.every c.value-n.result c.requires.1 c.value-n.ensures in
     join-fits (join-parts c.requires.2) c.args.bare (join_lead) c.operands-nodes.ensures c.operands-nodes.auto.out
@@ -57,7 +57,7 @@ pub join-returns : goal.join-returns
 unfolding bytes
 join-returns t c =
     let join_lead : let a = c.args in Behind (cond a.bare (bytes "") (bytes "(")) a.before a.out.now c.put_either-open.new.out
-        c.put_either-open.result = record { adds = c.put_either-open.ensures; long = c.put_either-open.auto.out } in
+    c.put_either-open.result = record { adds = c.put_either-open.ensures; long = c.put_either-open.auto.out } in
     let join-parts : let a = c.args in (h : Printable a.words.now a.above a.scope a.at) → Joined a.words.now a.above a.scope a.at a.every c.value-n.result h = λ h. let a = c.args in
     joined a.words.now a.above a.scope a.at h a.every c.value-n.result c.requires.1 c.value-n.ensures in
     let a = c.args in
@@ -149,7 +149,7 @@ node-returns-in-Unused t c =
 pub operands-node-nodes-requires : goal.operands-node-nodes-requires
 operands-node-nodes-requires t c =
     let operands_headed : let a = c.args in (h : PrintableAll a.words.now a.above a.scope a.n a.at) → Headed a.words.now a.above a.scope a.n a.at h =
-        λ h. let a = c.args in headed a.words.now a.above a.scope a.n a.at h c.requires.1 in
+    λ h. let a = c.args in headed a.words.now a.above a.scope a.n a.at h c.requires.1 in
     let operands-low : c.args.above < 64 = let a = c.args in omega
     (arith, here-low a.words.now a.above a.scope a.at (operands_headed c.requires.2).first) in
     (omega (arith, operands-low, c.decreases), (c.requires.0, (operands_headed c.requires.2).first))
@@ -157,47 +157,53 @@ operands-node-nodes-requires t c =
 pub operands-loop-i-init : goal.operands-loop-i-init
 operands-loop-i-init t c =
     let operands-first : let a = c.args in (h : PrintableAll a.words.now a.above a.scope a.n a.at) (f : Headed a.words.now a.above a.scope a.n a.at
-        h) → Prints (node_text false f.first.tree a.scope) f.first.next a.before a.out.now c.node-nodes.new.out c.node-nodes.result = λ h f.
-        operand_prints f.first.tree _ _ (c.node-nodes.ensures f.first) refl in
+    h) → Prints (node_text false f.first.tree a.scope) f.first.next a.before a.out.now c.node-nodes.new.out c.node-nodes.result = λ h f.
+    operand_prints f.first.tree _ _ (c.node-nodes.ensures f.first) refl in
     let operands-stand : let a = c.args in (h : PrintableAll a.words.now a.above a.scope a.n a.at) (f : Headed a.words.now a.above a.scope a.n a.at
-        h) → Behind (node_text false f.first.tree a.scope) a.before a.out.now c.node-nodes.new.out (wrote c.node-nodes.result) = λ h f. record { adds
-        = (operands-first h f).adds; long = c.node-nodes.auto.out } in
+    h) → Behind (node_text false f.first.tree a.scope) a.before a.out.now c.node-nodes.new.out (wrote c.node-nodes.result) = λ h f. record {
+      adds
+          = (operands-first h f).adds;
+      long = c.node-nodes.auto.out;
+    } in
     λ h f. more-none c.requires.1 c.node-nodes.result (operands-stand h f)
     (operands-first h f).ends
 
 pub operands-returns-in_default : goal.operands-returns-in_default
 operands-returns-in_default t c =
     let operands_headed : let a = c.args in (h : PrintableAll a.words.now a.above a.scope a.n a.at) → Headed a.words.now a.above a.scope a.n a.at h =
-        λ h. let a = c.args in headed a.words.now a.above a.scope a.n a.at h c.requires.1 in
+    λ h. let a = c.args in headed a.words.now a.above a.scope a.n a.at h c.requires.1 in
     let operands-first : let a = c.args in (h : PrintableAll a.words.now a.above a.scope a.n a.at) (f : Headed a.words.now a.above a.scope a.n a.at
-        h) → Prints (node_text false f.first.tree a.scope) f.first.next a.before a.out.now c.node-nodes.new.out c.node-nodes.result = λ h f.
-        operand_prints f.first.tree _ _ (c.node-nodes.ensures f.first) refl in
+    h) → Prints (node_text false f.first.tree a.scope) f.first.next a.before a.out.now c.node-nodes.new.out c.node-nodes.result = λ h f.
+    operand_prints f.first.tree _ _ (c.node-nodes.ensures f.first) refl in
     let operands-stand : let a = c.args in (h : PrintableAll a.words.now a.above a.scope a.n a.at) (f : Headed a.words.now a.above a.scope a.n a.at
-        h) → Behind (node_text false f.first.tree a.scope) a.before a.out.now c.node-nodes.new.out (wrote c.node-nodes.result) = λ h f. record { adds
-        = (operands-first h f).adds; long = c.node-nodes.auto.out } in
+    h) → Behind (node_text false f.first.tree a.scope) a.before a.out.now c.node-nodes.new.out (wrote c.node-nodes.result) = λ h f. record {
+      adds
+          = (operands-first h f).adds;
+      long = c.node-nodes.auto.out;
+    } in
     λ h. let f = operands_headed h in more-full (c.loop-i.invariant h f) (operands-stand h f)
     c.in_default.is
 
 pub operands-put_connective-sign-requires : goal.operands-put_connective-sign-requires
 operands-put_connective-sign-requires t c =
     let operands_headed : let a = c.args in (h : PrintableAll a.words.now a.above a.scope a.n a.at) → Headed a.words.now a.above a.scope a.n a.at h =
-        λ h. let a = c.args in headed a.words.now a.above a.scope a.n a.at h c.requires.1 in
+    λ h. let a = c.args in headed a.words.now a.above a.scope a.n a.at h c.requires.1 in
     let operands-more : let a = c.args in let h = c.requires.2 in More a.words.now a.above a.scope a.n a.at a.every h (operands_headed h) c.loop-i.i
-        (wrote c.node-nodes.result) c.node-nodes.new.out c.loop-i.out c.loop-i.nodes = let h = c.requires.2 in
+    (wrote c.node-nodes.result) c.node-nodes.new.out c.loop-i.out c.loop-i.nodes = let h = c.requires.2 in
     c.loop-i.invariant h (operands_headed h) in
     more-fits (operands-more) c.in-At.is
 
 pub operands-node-nodes-requires-in-loop-i : goal.operands-node-nodes-requires-in-loop-i
 operands-node-nodes-requires-in-loop-i t c =
     let operands_headed : let a = c.args in (h : PrintableAll a.words.now a.above a.scope a.n a.at) → Headed a.words.now a.above a.scope a.n a.at h =
-        λ h. let a = c.args in headed a.words.now a.above a.scope a.n a.at h c.requires.1 in
+    λ h. let a = c.args in headed a.words.now a.above a.scope a.n a.at h c.requires.1 in
     let operands-low : c.args.above < 64 = let a = c.args in omega
     (arith, here-low a.words.now a.above a.scope a.at (operands_headed c.requires.2).first) in
     let operands-more : let a = c.args in let h = c.requires.2 in More a.words.now a.above a.scope a.n a.at a.every h (operands_headed h) c.loop-i.i
-        (wrote c.node-nodes.result) c.node-nodes.new.out c.loop-i.out c.loop-i.nodes = let h = c.requires.2 in
+    (wrote c.node-nodes.result) c.node-nodes.new.out c.loop-i.out c.loop-i.nodes = let h = c.requires.2 in
     c.loop-i.invariant h (operands_headed h) in
     let operands_sign : Behind (connective c.args.every) (P.At c.in-At.end) c.loop-i.out c.put_connective-sign.new.out c.put_connective-sign.result =
-        record { adds = c.put_connective-sign.ensures; long = c.put_connective-sign.auto.out } in (
+    record { adds = c.put_connective-sign.ensures; long = c.put_connective-sign.auto.out } in (
       omega (arith, operands-low, c.decreases),
       (behind-fits (operands_sign), more-here (operands-more) c.in-At.is c.loop-i-test.true),
     )
@@ -205,7 +211,7 @@ operands-node-nodes-requires-in-loop-i t c =
 pub operands-loop-i-preserved : goal.operands-loop-i-preserved
 operands-loop-i-preserved t c =
     let operands_sign : Behind (connective c.args.every) (P.At c.in-At.end) c.loop-i.out c.put_connective-sign.new.out c.put_connective-sign.result =
-        record { adds = c.put_connective-sign.ensures; long = c.put_connective-sign.auto.out } in
+    record { adds = c.put_connective-sign.ensures; long = c.put_connective-sign.auto.out } in
     λ h f.
     more_turn (c.loop-i.invariant h f) c.in-At.is c.loop-i-test.true (operands_sign) _ c.node-nodes-in-loop-i.ensures refl
     c.node-nodes-in-loop-i.auto.out
@@ -213,21 +219,24 @@ operands-loop-i-preserved t c =
 pub operands-returns : goal.operands-returns
 operands-returns t c =
     let operands_headed : let a = c.args in (h : PrintableAll a.words.now a.above a.scope a.n a.at) → Headed a.words.now a.above a.scope a.n a.at h =
-        λ h. let a = c.args in headed a.words.now a.above a.scope a.n a.at h c.requires.1 in
+    λ h. let a = c.args in headed a.words.now a.above a.scope a.n a.at h c.requires.1 in
     let operands-first : let a = c.args in (h : PrintableAll a.words.now a.above a.scope a.n a.at) (f : Headed a.words.now a.above a.scope a.n a.at
-        h) → Prints (node_text false f.first.tree a.scope) f.first.next a.before a.out.now c.node-nodes.new.out c.node-nodes.result = λ h f.
-        operand_prints f.first.tree _ _ (c.node-nodes.ensures f.first) refl in
+    h) → Prints (node_text false f.first.tree a.scope) f.first.next a.before a.out.now c.node-nodes.new.out c.node-nodes.result = λ h f.
+    operand_prints f.first.tree _ _ (c.node-nodes.ensures f.first) refl in
     let operands-stand : let a = c.args in (h : PrintableAll a.words.now a.above a.scope a.n a.at) (f : Headed a.words.now a.above a.scope a.n a.at
-        h) → Behind (node_text false f.first.tree a.scope) a.before a.out.now c.node-nodes.new.out (wrote c.node-nodes.result) = λ h f. record { adds
-        = (operands-first h f).adds; long = c.node-nodes.auto.out } in
+    h) → Behind (node_text false f.first.tree a.scope) a.before a.out.now c.node-nodes.new.out (wrote c.node-nodes.result) = λ h f. record {
+      adds
+          = (operands-first h f).adds;
+      long = c.node-nodes.auto.out;
+    } in
     λ h. let f = operands_headed h in more_end (c.loop-i.invariant h f) (operands-stand h f)
     c.loop-i-test.false
 
 pub quantifier-overflow_mul-first : goal.quantifier-overflow_mul-first
 quantifier-overflow_mul-first t c =
     let quantifier-parts : let v = c.value-v.result in let m = c.value-m.result in let a =
-        c.args in (h : Printable a.words.now a.above a.scope a.at) → Quantified a.words.now a.above a.scope a.at a.every v m (a.at + 3 + v * m) h = λ
-        h. let a = c.args in
+    c.args in (h : Printable a.words.now a.above a.scope a.at) → Quantified a.words.now a.above a.scope a.at a.every v m (a.at + 3 + v * m) h = λ
+    h. let a = c.args in
     quantified a.words.now a.above a.scope a.at h a.every _ _ _ c.requires.1 c.value-v.ensures
     c.value-m.ensures refl in
     let quantifier-long : let a = c.args in a.at + 3 + c.value-v.result * c.value-m.result < length a.words.now = let a = c.args in
@@ -237,8 +246,8 @@ quantifier-overflow_mul-first t c =
 pub quantifier-overflow_add-first-2 : goal.quantifier-overflow_add-first-2
 quantifier-overflow_add-first-2 t c =
     let quantifier-parts : let v = c.value-v.result in let m = c.value-m.result in let a =
-        c.args in (h : Printable a.words.now a.above a.scope a.at) → Quantified a.words.now a.above a.scope a.at a.every v m (a.at + 3 + v * m) h = λ
-        h. let a = c.args in
+    c.args in (h : Printable a.words.now a.above a.scope a.at) → Quantified a.words.now a.above a.scope a.at a.every v m (a.at + 3 + v * m) h = λ
+    h. let a = c.args in
     quantified a.words.now a.above a.scope a.at h a.every _ _ _ c.requires.1 c.value-v.ensures
     c.value-m.ensures refl in
     let quantifier-long : let a = c.args in a.at + 3 + c.value-v.result * c.value-m.result < length a.words.now = let a = c.args in
@@ -248,8 +257,8 @@ quantifier-overflow_add-first-2 t c =
 pub quantifier-put_head-head-requires : goal.quantifier-put_head-head-requires
 quantifier-put_head-head-requires t c =
     let quantifier-parts : let v = c.value-v.result in let m = c.value-m.result in let a =
-        c.args in (h : Printable a.words.now a.above a.scope a.at) → Quantified a.words.now a.above a.scope a.at a.every v m (a.at + 3 + v * m) h = λ
-        h. let a = c.args in
+    c.args in (h : Printable a.words.now a.above a.scope a.at) → Quantified a.words.now a.above a.scope a.at a.every v m (a.at + 3 + v * m) h = λ
+    h. let a = c.args in
     quantified a.words.now a.above a.scope a.at h a.every _ _ _ c.requires.1 c.value-v.ensures
     c.value-m.ensures refl in
     let q = quantifier-parts c.requires.2 in
@@ -263,8 +272,8 @@ quantifier-overflow_add-above t c =
 pub quantifier-overflow_add-scope : goal.quantifier-overflow_add-scope
 quantifier-overflow_add-scope t c =
     let quantifier-parts : let v = c.value-v.result in let m = c.value-m.result in let a =
-        c.args in (h : Printable a.words.now a.above a.scope a.at) → Quantified a.words.now a.above a.scope a.at a.every v m (a.at + 3 + v * m) h = λ
-        h. let a = c.args in
+    c.args in (h : Printable a.words.now a.above a.scope a.at) → Quantified a.words.now a.above a.scope a.at a.every v m (a.at + 3 + v * m) h = λ
+    h. let a = c.args in
     quantified a.words.now a.above a.scope a.at h a.every _ _ _ c.requires.1 c.value-v.ensures
     c.value-m.ensures refl in
     omega (arith, (quantifier-parts c.requires.2).few)
@@ -272,12 +281,12 @@ quantifier-overflow_add-scope t c =
 pub quantifier-node-restriction-requires : goal.quantifier-node-restriction-requires
 quantifier-node-restriction-requires t c =
     let quantifier-parts : let v = c.value-v.result in let m = c.value-m.result in let a =
-        c.args in (h : Printable a.words.now a.above a.scope a.at) → Quantified a.words.now a.above a.scope a.at a.every v m (a.at + 3 + v * m) h = λ
-        h. let a = c.args in
+    c.args in (h : Printable a.words.now a.above a.scope a.at) → Quantified a.words.now a.above a.scope a.at a.every v m (a.at + 3 + v * m) h = λ
+    h. let a = c.args in
     quantified a.words.now a.above a.scope a.at h a.every _ _ _ c.requires.1 c.value-v.ensures
     c.value-m.ensures refl in
     let quantifier_lead : let a = c.args in Behind (head_text a.every a.scope c.value-v.result (eqb c.value-m.result 0)) a.before a.out.now
-        c.put_head-head.new.out c.put_head-head.result = record { adds = c.put_head-head.ensures; long = c.put_head-head.auto.out } in
+    c.put_head-head.new.out c.put_head-head.result = record { adds = c.put_head-head.ensures; long = c.put_head-head.auto.out } in
     let a = c.args in
     let q = quantifier-parts c.requires.2 in (
       omega (arith, here-low a.words.now a.above a.scope a.at c.requires.2, c.decreases),
@@ -287,24 +296,24 @@ quantifier-node-restriction-requires t c =
 pub quantifier-returns-in_default : goal.quantifier-returns-in_default
 quantifier-returns-in_default t c =
     let quantifier-parts : let v = c.value-v.result in let m = c.value-m.result in let a =
-        c.args in (h : Printable a.words.now a.above a.scope a.at) → Quantified a.words.now a.above a.scope a.at a.every v m (a.at + 3 + v * m) h = λ
-        h. let a = c.args in
+    c.args in (h : Printable a.words.now a.above a.scope a.at) → Quantified a.words.now a.above a.scope a.at a.every v m (a.at + 3 + v * m) h = λ
+    h. let a = c.args in
     quantified a.words.now a.above a.scope a.at h a.every _ _ _ c.requires.1 c.value-v.ensures
     c.value-m.ensures refl in
     let quantifier_lead : let a = c.args in Behind (head_text a.every a.scope c.value-v.result (eqb c.value-m.result 0)) a.before a.out.now
-        c.put_head-head.new.out c.put_head-head.result = record { adds = c.put_head-head.ensures; long = c.put_head-head.auto.out } in
+    c.put_head-head.new.out c.put_head-head.result = record { adds = c.put_head-head.ensures; long = c.put_head-head.auto.out } in
     λ h. quantifier-full (quantifier-parts h) (quantifier_lead) c.node-restriction.ensures
     c.node-restriction.auto.out c.in_default.is
 
 pub quantifier-put_tuples-excluded-requires : goal.quantifier-put_tuples-excluded-requires
 quantifier-put_tuples-excluded-requires t c =
     let quantifier-parts : let v = c.value-v.result in let m = c.value-m.result in let a =
-        c.args in (h : Printable a.words.now a.above a.scope a.at) → Quantified a.words.now a.above a.scope a.at a.every v m (a.at + 3 + v * m) h = λ
-        h. let a = c.args in
+    c.args in (h : Printable a.words.now a.above a.scope a.at) → Quantified a.words.now a.above a.scope a.at a.every v m (a.at + 3 + v * m) h = λ
+    h. let a = c.args in
     quantified a.words.now a.above a.scope a.at h a.every _ _ _ c.requires.1 c.value-v.ensures
     c.value-m.ensures refl in
     let quantifier_lead : let a = c.args in Behind (head_text a.every a.scope c.value-v.result (eqb c.value-m.result 0)) a.before a.out.now
-        c.put_head-head.new.out c.put_head-head.result = record { adds = c.put_head-head.ensures; long = c.put_head-head.auto.out } in
+    c.put_head-head.new.out c.put_head-head.result = record { adds = c.put_head-head.ensures; long = c.put_head-head.auto.out } in
     let q = quantifier-parts c.requires.2 in (
       restriction-fits q (quantifier_lead) c.node-restriction.ensures c.node-restriction.auto.out c.in-At.is,
       q.some,
@@ -315,15 +324,15 @@ quantifier-put_tuples-excluded-requires t c =
 pub quantifier-put_either-sign-requires : goal.quantifier-put_either-sign-requires
 quantifier-put_either-sign-requires t c =
     let quantifier-parts : let v = c.value-v.result in let m = c.value-m.result in let a =
-        c.args in (h : Printable a.words.now a.above a.scope a.at) → Quantified a.words.now a.above a.scope a.at a.every v m (a.at + 3 + v * m) h = λ
-        h. let a = c.args in
+    c.args in (h : Printable a.words.now a.above a.scope a.at) → Quantified a.words.now a.above a.scope a.at a.every v m (a.at + 3 + v * m) h = λ
+    h. let a = c.args in
     quantified a.words.now a.above a.scope a.at h a.every _ _ _ c.requires.1 c.value-v.ensures
     c.value-m.ensures refl in
     let quantifier_lead : let a = c.args in Behind (head_text a.every a.scope c.value-v.result (eqb c.value-m.result 0)) a.before a.out.now
-        c.put_head-head.new.out c.put_head-head.result = record { adds = c.put_head-head.ensures; long = c.put_head-head.auto.out } in
+    c.put_head-head.new.out c.put_head-head.result = record { adds = c.put_head-head.ensures; long = c.put_head-head.auto.out } in
     let quantifier-tuples : let a = c.args in (t : Tuples a.words.now c.value-v.result (a.at + 3) (a.at + 3 + c.value-v.result * c.value-m.result)) →
-        Behind (closed_text a.scope t.list) (P.At c.in-At.end) c.node-restriction.new.out c.put_tuples-excluded.new.out c.put_tuples-excluded.result
-        = λ t. record { adds = c.put_tuples-excluded.ensures t; long = c.put_tuples-excluded.auto.out } in
+    Behind (closed_text a.scope t.list) (P.At c.in-At.end) c.node-restriction.new.out c.put_tuples-excluded.new.out c.put_tuples-excluded.result
+    = λ t. record { adds = c.put_tuples-excluded.ensures t; long = c.put_tuples-excluded.auto.out } in
     let q = quantifier-parts c.requires.2 in
     tuples-fits q (quantifier_lead) c.node-restriction.ensures c.node-restriction.auto.out c.in-At.is (quantifier-tuples)
 
@@ -335,8 +344,8 @@ quantifier-overflow_add-above-2 t c =
 pub quantifier-overflow_add-scope-2 : goal.quantifier-overflow_add-scope-2
 quantifier-overflow_add-scope-2 t c =
     let quantifier-parts : let v = c.value-v.result in let m = c.value-m.result in let a =
-        c.args in (h : Printable a.words.now a.above a.scope a.at) → Quantified a.words.now a.above a.scope a.at a.every v m (a.at + 3 + v * m) h = λ
-        h. let a = c.args in
+    c.args in (h : Printable a.words.now a.above a.scope a.at) → Quantified a.words.now a.above a.scope a.at a.every v m (a.at + 3 + v * m) h = λ
+    h. let a = c.args in
     quantified a.words.now a.above a.scope a.at h a.every _ _ _ c.requires.1 c.value-v.ensures
     c.value-m.ensures refl in
     omega (arith, (quantifier-parts c.requires.2).few)
@@ -345,14 +354,14 @@ pub quantifier-node-body-requires : goal.quantifier-node-body-requires
 unfolding bytes
 quantifier-node-body-requires t c =
     let quantifier-parts : let v = c.value-v.result in let m = c.value-m.result in let a =
-        c.args in (h : Printable a.words.now a.above a.scope a.at) → Quantified a.words.now a.above a.scope a.at a.every v m (a.at + 3 + v * m) h = λ
-        h. let a = c.args in
+    c.args in (h : Printable a.words.now a.above a.scope a.at) → Quantified a.words.now a.above a.scope a.at a.every v m (a.at + 3 + v * m) h = λ
+    h. let a = c.args in
     quantified a.words.now a.above a.scope a.at h a.every _ _ _ c.requires.1 c.value-v.ensures
     c.value-m.ensures refl in
     let quantifier_lead : let a = c.args in Behind (head_text a.every a.scope c.value-v.result (eqb c.value-m.result 0)) a.before a.out.now
-        c.put_head-head.new.out c.put_head-head.result = record { adds = c.put_head-head.ensures; long = c.put_head-head.auto.out } in
+    c.put_head-head.new.out c.put_head-head.result = record { adds = c.put_head-head.ensures; long = c.put_head-head.auto.out } in
     let quantifier_sign : let a = c.args in Behind (cond a.every (bytes "=>") (bytes "&")) c.put_tuples-excluded.result c.put_tuples-excluded.new.out
-        c.put_either-sign.new.out c.put_either-sign.result = record { adds = c.put_either-sign.ensures; long = c.put_either-sign.auto.out } in
+    c.put_either-sign.new.out c.put_either-sign.result = record { adds = c.put_either-sign.ensures; long = c.put_either-sign.auto.out } in
     let a = c.args in
     let q = quantifier-parts c.requires.2 in (
       omega (arith, here-low a.words.now a.above a.scope a.at c.requires.2, c.decreases),
@@ -366,17 +375,17 @@ pub quantifier-close-requires : goal.quantifier-close-requires
 unfolding bytes
 quantifier-close-requires t c =
     let quantifier-parts : let v = c.value-v.result in let m = c.value-m.result in let a =
-        c.args in (h : Printable a.words.now a.above a.scope a.at) → Quantified a.words.now a.above a.scope a.at a.every v m (a.at + 3 + v * m) h = λ
-        h. let a = c.args in
+    c.args in (h : Printable a.words.now a.above a.scope a.at) → Quantified a.words.now a.above a.scope a.at a.every v m (a.at + 3 + v * m) h = λ
+    h. let a = c.args in
     quantified a.words.now a.above a.scope a.at h a.every _ _ _ c.requires.1 c.value-v.ensures
     c.value-m.ensures refl in
     let quantifier_lead : let a = c.args in Behind (head_text a.every a.scope c.value-v.result (eqb c.value-m.result 0)) a.before a.out.now
-        c.put_head-head.new.out c.put_head-head.result = record { adds = c.put_head-head.ensures; long = c.put_head-head.auto.out } in
+    c.put_head-head.new.out c.put_head-head.result = record { adds = c.put_head-head.ensures; long = c.put_head-head.auto.out } in
     let quantifier-tuples : let a = c.args in (t : Tuples a.words.now c.value-v.result (a.at + 3) (a.at + 3 + c.value-v.result * c.value-m.result)) →
-        Behind (closed_text a.scope t.list) (P.At c.in-At.end) c.node-restriction.new.out c.put_tuples-excluded.new.out c.put_tuples-excluded.result
-        = λ t. record { adds = c.put_tuples-excluded.ensures t; long = c.put_tuples-excluded.auto.out } in
+    Behind (closed_text a.scope t.list) (P.At c.in-At.end) c.node-restriction.new.out c.put_tuples-excluded.new.out c.put_tuples-excluded.result
+    = λ t. record { adds = c.put_tuples-excluded.ensures t; long = c.put_tuples-excluded.auto.out } in
     let quantifier_sign : let a = c.args in Behind (cond a.every (bytes "=>") (bytes "&")) c.put_tuples-excluded.result c.put_tuples-excluded.new.out
-        c.put_either-sign.new.out c.put_either-sign.result = record { adds = c.put_either-sign.ensures; long = c.put_either-sign.auto.out } in
+    c.put_either-sign.new.out c.put_either-sign.result = record { adds = c.put_either-sign.ensures; long = c.put_either-sign.auto.out } in
     let q = quantifier-parts c.requires.2 in
     body-fits q (quantifier_lead) c.node-restriction.ensures c.node-restriction.auto.out c.in-At.is (quantifier-tuples)
     (quantifier_sign) c.node-body.ensures c.node-body.auto.out
@@ -385,17 +394,17 @@ pub quantifier-returns : goal.quantifier-returns
 unfolding bytes
 quantifier-returns t c =
     let quantifier-parts : let v = c.value-v.result in let m = c.value-m.result in let a =
-        c.args in (h : Printable a.words.now a.above a.scope a.at) → Quantified a.words.now a.above a.scope a.at a.every v m (a.at + 3 + v * m) h = λ
-        h. let a = c.args in
+    c.args in (h : Printable a.words.now a.above a.scope a.at) → Quantified a.words.now a.above a.scope a.at a.every v m (a.at + 3 + v * m) h = λ
+    h. let a = c.args in
     quantified a.words.now a.above a.scope a.at h a.every _ _ _ c.requires.1 c.value-v.ensures
     c.value-m.ensures refl in
     let quantifier_lead : let a = c.args in Behind (head_text a.every a.scope c.value-v.result (eqb c.value-m.result 0)) a.before a.out.now
-        c.put_head-head.new.out c.put_head-head.result = record { adds = c.put_head-head.ensures; long = c.put_head-head.auto.out } in
+    c.put_head-head.new.out c.put_head-head.result = record { adds = c.put_head-head.ensures; long = c.put_head-head.auto.out } in
     let quantifier-tuples : let a = c.args in (t : Tuples a.words.now c.value-v.result (a.at + 3) (a.at + 3 + c.value-v.result * c.value-m.result)) →
-        Behind (closed_text a.scope t.list) (P.At c.in-At.end) c.node-restriction.new.out c.put_tuples-excluded.new.out c.put_tuples-excluded.result
-        = λ t. record { adds = c.put_tuples-excluded.ensures t; long = c.put_tuples-excluded.auto.out } in
+    Behind (closed_text a.scope t.list) (P.At c.in-At.end) c.node-restriction.new.out c.put_tuples-excluded.new.out c.put_tuples-excluded.result
+    = λ t. record { adds = c.put_tuples-excluded.ensures t; long = c.put_tuples-excluded.auto.out } in
     let quantifier_sign : let a = c.args in Behind (cond a.every (bytes "=>") (bytes "&")) c.put_tuples-excluded.result c.put_tuples-excluded.new.out
-        c.put_either-sign.new.out c.put_either-sign.result = record { adds = c.put_either-sign.ensures; long = c.put_either-sign.auto.out } in
+    c.put_either-sign.new.out c.put_either-sign.result = record { adds = c.put_either-sign.ensures; long = c.put_either-sign.auto.out } in
     λ h.
     quantifier-stands (quantifier-parts h) (quantifier_lead) c.node-restriction.ensures c.node-restriction.auto.out
     c.in-At.is (quantifier-tuples) (quantifier_sign) c.node-body.ensures c.node-body.auto.out
@@ -421,7 +430,7 @@ some-overflow_add-scope t c =
 pub some-node-restriction-requires : goal.some-node-restriction-requires
 some-node-restriction-requires t c =
     let some_lead : let a = c.args in Behind (head_text false a.scope 1 true) a.before a.out.now c.put_head-head.new.out c.put_head-head.result =
-        record { adds = c.put_head-head.ensures; long = c.put_head-head.auto.out } in
+    record { adds = c.put_head-head.ensures; long = c.put_head-head.auto.out } in
     let some-parts : let a = c.args in (h : Printable a.words.now a.above a.scope a.at) → Something a.words.now a.above a.scope a.at h = λ h. let a = c.args in
     something a.words.now a.above a.scope a.at h c.requires.1 in
     let a = c.args in
@@ -433,7 +442,7 @@ some-node-restriction-requires t c =
 pub some-close-requires : goal.some-close-requires
 some-close-requires t c =
     let some_lead : let a = c.args in Behind (head_text false a.scope 1 true) a.before a.out.now c.put_head-head.new.out c.put_head-head.result =
-        record { adds = c.put_head-head.ensures; long = c.put_head-head.auto.out } in
+    record { adds = c.put_head-head.ensures; long = c.put_head-head.auto.out } in
     let some-parts : let a = c.args in (h : Printable a.words.now a.above a.scope a.at) → Something a.words.now a.above a.scope a.at h = λ h. let a = c.args in
     something a.words.now a.above a.scope a.at h c.requires.1 in
     some_fits (some-parts c.requires.2) (some_lead) c.node-restriction.ensures c.node-restriction.auto.out
@@ -441,7 +450,7 @@ some-close-requires t c =
 pub some-returns : goal.some-returns
 some-returns t c =
     let some_lead : let a = c.args in Behind (head_text false a.scope 1 true) a.before a.out.now c.put_head-head.new.out c.put_head-head.result =
-        record { adds = c.put_head-head.ensures; long = c.put_head-head.auto.out } in
+    record { adds = c.put_head-head.ensures; long = c.put_head-head.auto.out } in
     let some-parts : let a = c.args in (h : Printable a.words.now a.above a.scope a.at) → Something a.words.now a.above a.scope a.at h = λ h. let a = c.args in
     something a.words.now a.above a.scope a.at h c.requires.1 in
     λ h. some-stands (some-parts h) (some_lead) c.node-restriction.ensures c.node-restriction.auto.out c.close.ensures

@@ -10,5 +10,5 @@ pub returns : goal.returns
 unfolding bytes
 returns c =
     let last : let a = c.args in Behind (cond a.bare (bytes "") (bytes ")")) (P.At c.in-At.end) a.out.now c.put_either-put.new.out
-        c.put_either-put.result = record { adds = c.put_either-put.ensures; long = c.put_either-put.auto.out } in
+    c.put_either-put.result = record { adds = c.put_either-put.ensures; long = c.put_either-put.auto.out } in
     λ next e. closes_at next c.in-At.is e (last) c.placed.ensures

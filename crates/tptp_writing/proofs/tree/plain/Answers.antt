@@ -11,5 +11,5 @@ pub returns : goal.returns
 unfolding bytes
 returns c =
     let word : let a = c.args in Behind (cond a.holds (bytes "$true") (bytes "$false")) a.before a.out.now c.put_either-put.new.out
-        c.put_either-put.result = record { adds = c.put_either-put.ensures; long = c.put_either-put.auto.out } in
+    c.put_either-put.result = record { adds = c.put_either-put.ensures; long = c.put_either-put.auto.out } in
     prints_placed _ _ _ (word) (plain-text _) refl c.placed.ensures

@@ -33,7 +33,7 @@ put_node-requires c =
 pub overflow_add-left : goal.overflow_add-left
 overflow_add-left c =
     let fits : (c.loop-left.from + c.size-own.result + (c.loop-left.left - 1 + c.below-more.result) ≤ length c.args.words.now) × (1 ≤
-        c.size-own.result) = tree-fits _ _ _ _ c.loop-left.left c.loop-left.from _ c.loop-left.invariant c.loop-left-test.true _
+    c.size-own.result) = tree-fits _ _ _ _ c.loop-left.left c.loop-left.from _ c.loop-left.invariant c.loop-left-test.true _
     c.tag_at-tag.ensures
     c.size-own.result
     c.size-own.ensures
@@ -45,7 +45,7 @@ overflow_add-left c =
 pub overflow_add-from : goal.overflow_add-from
 overflow_add-from c =
     let fits : (c.loop-left.from + c.size-own.result + (c.loop-left.left - 1 + c.below-more.result) ≤ length c.args.words.now) × (1 ≤
-        c.size-own.result) = tree-fits _ _ _ _ c.loop-left.left c.loop-left.from _ c.loop-left.invariant c.loop-left-test.true _
+    c.size-own.result) = tree-fits _ _ _ _ c.loop-left.left c.loop-left.from _ c.loop-left.invariant c.loop-left-test.true _
     c.tag_at-tag.ensures
     c.size-own.result
     c.size-own.ensures
@@ -57,7 +57,7 @@ overflow_add-from c =
 pub loop-left-smaller : goal.loop-left-smaller
 loop-left-smaller c =
     let fits : (c.loop-left.from + c.size-own.result + (c.loop-left.left - 1 + c.below-more.result) ≤ length c.args.words.now) × (1 ≤
-        c.size-own.result) = tree-fits _ _ _ _ c.loop-left.left c.loop-left.from _ c.loop-left.invariant c.loop-left-test.true _
+    c.size-own.result) = tree-fits _ _ _ _ c.loop-left.left c.loop-left.from _ c.loop-left.invariant c.loop-left-test.true _
     c.tag_at-tag.ensures
     c.size-own.result
     c.size-own.ensures

@@ -49,8 +49,8 @@ put_terms-requires c =
 pub returns : goal.returns
 returns c =
     let written : let a = c.args in (t : Tree) (next : ℕ) → Grown a.words.now a.at t next → c.put_terms.new.out ≡ laid a.out.now a.to (own_words (put
-        t a.numbers.now)) = λ t next g. node-written _ _ _ c.requires.1 c.args.own c.terms-n.result c.requires.2 c.terms-n.ensures t next g _
-        c.args.to c.requires.3 _
+    t a.numbers.now)) = λ t next g. node-written _ _ _ c.requires.1 c.args.own c.terms-n.result c.requires.2 c.terms-n.ensures t next g _
+    c.args.to c.requires.3 _
     c.copy_words.ensures
     _
     _

@@ -23,7 +23,7 @@ size-own-requires c =
 pub overflow_add-left : goal.overflow_add-left
 overflow_add-left c =
     let fits : (c.loop-left.next + c.size-own.result + (c.loop-left.left - 1 + c.below-more.result) ≤ length c.args.words.now) × (1 ≤
-        c.size-own.result) = walk_fits _ _ c.loop-left.left c.loop-left.next c.loop-left.invariant c.loop-left-test.true c.requires _
+    c.size-own.result) = walk_fits _ _ c.loop-left.left c.loop-left.next c.loop-left.invariant c.loop-left-test.true c.requires _
     c.tag_at-tag.ensures
     c.below-more.result
     c.size-own.result
@@ -34,7 +34,7 @@ overflow_add-left c =
 pub overflow_add-next : goal.overflow_add-next
 overflow_add-next c =
     let fits : (c.loop-left.next + c.size-own.result + (c.loop-left.left - 1 + c.below-more.result) ≤ length c.args.words.now) × (1 ≤
-        c.size-own.result) = walk_fits _ _ c.loop-left.left c.loop-left.next c.loop-left.invariant c.loop-left-test.true c.requires _
+    c.size-own.result) = walk_fits _ _ c.loop-left.left c.loop-left.next c.loop-left.invariant c.loop-left-test.true c.requires _
     c.tag_at-tag.ensures
     c.below-more.result
     c.size-own.result
@@ -45,7 +45,7 @@ overflow_add-next c =
 pub loop-left-smaller : goal.loop-left-smaller
 loop-left-smaller c =
     let fits : (c.loop-left.next + c.size-own.result + (c.loop-left.left - 1 + c.below-more.result) ≤ length c.args.words.now) × (1 ≤
-        c.size-own.result) = walk_fits _ _ c.loop-left.left c.loop-left.next c.loop-left.invariant c.loop-left-test.true c.requires _
+    c.size-own.result) = walk_fits _ _ c.loop-left.left c.loop-left.next c.loop-left.invariant c.loop-left-test.true c.requires _
     c.tag_at-tag.ensures
     c.below-more.result
     c.size-own.result
