@@ -26,7 +26,7 @@ returns-then-left-spent c =
 
 pub returns-then-not-named : goal.returns-then-not-named
 returns-then-not-named c =
-    let shallow : c.args.above + cost (as_role c.args.role) (as_tag c.args.tag) ≤ level_limit = omega (arith, c.cost-spent.ensures, c.if-left-spent.false, c.requires) in
+    let shallow : c.args.above + cost (as_role c.args.role) (as_tag c.args.tag) ≤ level_limit = omega (arith, c.cost-spent.ensures, c.requires) in
     let a = c.args in
     predicate-no a.table.now a.words.now (as_tag a.tag) (as_role a.role) a.above a.scope a.at
     c.shape.ensures
@@ -44,7 +44,7 @@ scoped-requires c =
 
 pub returns-then-not-scoped : goal.returns-then-not-scoped
 returns-then-not-scoped c =
-    let shallow : c.args.above + cost (as_role c.args.role) (as_tag c.args.tag) ≤ level_limit = omega (arith, c.cost-spent.ensures, c.if-left-spent.false, c.requires) in
+    let shallow : c.args.above + cost (as_role c.args.role) (as_tag c.args.tag) ≤ level_limit = omega (arith, c.cost-spent.ensures, c.requires) in
     let a = c.args in
     variable-no a.table.now a.words.now (as_tag a.tag) (as_role a.role) a.above a.scope a.at
     c.shape.ensures
@@ -57,7 +57,7 @@ returns-then-not-scoped c =
 
 pub returns : goal.returns
 returns c =
-    let shallow : c.args.above + cost (as_role c.args.role) (as_tag c.args.tag) ≤ level_limit = omega (arith, c.cost-spent.ensures, c.if-left-spent.false, c.requires) in
+    let shallow : c.args.above + cost (as_role c.args.role) (as_tag c.args.tag) ≤ level_limit = omega (arith, c.cost-spent.ensures, c.requires) in
     let a = c.args in
     all_yes a.table.now a.words.now (as_tag a.tag) (as_role a.role) a.above a.scope a.at
     c.shape.ensures

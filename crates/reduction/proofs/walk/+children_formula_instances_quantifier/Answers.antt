@@ -92,13 +92,11 @@ children-returns-in-Short t c =
     let a = c.args in
     children-short a.table.now a.words.now a.log.now a.kind a.above a.scope a.environment
     (length a.scratch.now / 17) a.n a.at c.loop-i.i c.loop-i.next c.loop-i.join c.loop-i.out c.loop-i.invariant.3
-    c.loop-i-test.true c.formula-child.new.out c.formula-child.result (child)
-    c.in-Short.is
+    c.loop-i-test.true c.formula-child.new.out c.formula-child.result (child) c.in-Short.is
     (lent_long c.loop-i.out c.loop-i.join.words c.formula-child.new.out
     (children-within a.table.now a.words.now a.log.now a.kind a.above a.scope a.environment
     (length a.scratch.now / 17) a.n a.at c.loop-i.i c.loop-i.next c.loop-i.join c.loop-i.out c.loop-i.invariant.3
-    c.requires.4 c.requires.5) c.formula-child.auto.out ∙ c.loop-i.invariant.2) _
-    c.in-Short.is
+    c.requires.4 c.requires.5) c.formula-child.auto.out ∙ c.loop-i.invariant.2) _ c.in-Short.is
 
 pub children-add-join-requires : goal.children-add-join-requires
 children-add-join-requires t c =
