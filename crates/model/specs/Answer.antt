@@ -1,11 +1,10 @@
 -- AnswersAs: the number, the place and the count of each case, and the asking of questions in order.
-use Rattle.std.specs.Prelude.{ℕ, ◌≡◌, Bool, true, false, get_or}
+use Rattle.std.specs.Prelude.{ℕ, ◌≡◌, Bool, true, false, get_or, Result, Ok, Err}
 use mathlib.Core.List.{List, [], ◌∷◌}
 use Rattle.model.specs.declared.Refusal.{Refusal}
 use Rattle.model.specs.declared.Refusal.TheVariants.{Table, PolicyLength, Shape, Level, Predicate, Variable, Mode, LogLength, Row}
 use Rattle.model.specs.declared.Refusal.TheVariants.{Repeat, Scratch, Room, Csv, Record, Tptp}
-use Rattle.model.specs.declared.Answer.{Answer}
-use Rattle.model.specs.declared.Answer.TheVariants.{Accepted, Refused}
+use Rattle.model.specs.declared.Refused.{Refused}
 
 -- the number of the question that a refusal answers with no
 unfoldable pub question : Refusal → ℕ
@@ -33,18 +32,26 @@ in_order =
 unfoldable pub refusal_of : ℕ → Refusal
 refusal_of n = get_or in_order n Tptp
 
+-- a refusal with its place
+abbrev pub refused_at : Refusal → ℕ → Refused
+refused_at r p = record { 0 = r; 1 = p }
+
+-- accepted with a count, or refused
+abbrev pub Answer : Type 0
+Answer = Result ℕ Refused
+
 -- accepted is 0 with place 0; refused, the count is 0
 unfoldable pub number : Answer → ℕ
-number (Accepted n) = 0
-number (Refused r p) = question r
+number (Ok n) = 0
+number (Err e) = question e.0
 
 unfoldable pub place : Answer → ℕ
-place (Accepted n) = 0
-place (Refused r p) = p
+place (Ok n) = 0
+place (Err e) = e.1
 
 unfoldable pub count : Answer → ℕ
-count (Accepted n) = n
-count (Refused r p) = 0
+count (Ok n) = n
+count (Err e) = 0
 
 -- what a call promises of its answer: it is the one that is fixed for the call, and so are its number, its place and its count
 pub record AnswersAs (fixed r : Answer) : Type 0 where
@@ -79,5 +86,5 @@ module _ {A : Type 0} where
 
   -- the answer, with the count that a call gives of what it accepts
   unfoldable pub answer : (A → ℕ) → Outcome A → Answer
-  answer size (refused r p) = Refused r p
-  answer size (passed a) = Accepted (size a)
+  answer size (refused r p) = Err (refused_at r p)
+  answer size (passed a) = Ok (size a)

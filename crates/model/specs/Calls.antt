@@ -1,9 +1,8 @@
 -- The calls, as functions of their words and texts and of the lengths of scratch and buffer.
 use Rattle.std.specs.Prelude.{ℕ, ◌-◌, ◌/◌, ◌&&◌, List, [], ◌++◌, length, replicate, leb, pos}
-use Rattle.model.specs.declared.Answer.{Answer}
 use Rattle.model.specs.declared.Refusal.TheVariants.{Scratch, Room}
 use Rattle.model.specs.Words.{Words, place_words, policy_limit}
-use Rattle.model.specs.Answer.{Outcome, passed, refused, ask, answer, ◌>>=◌}
+use Rattle.model.specs.Answer.{Answer, Outcome, passed, refused, ask, answer, ◌>>=◌}
 use Rattle.model.specs.Table.{ask_table}
 use Rattle.model.specs.Log.{rows, row_count, ask_log}
 use Rattle.model.specs.Tree.{Tree, encode}

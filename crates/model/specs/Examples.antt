@@ -1,8 +1,7 @@
 -- The examples P1 to P16, as one list of cases and one claim about the list.
 use Rattle.std.specs.Prelude.{ℕ, zero, suc, ◌≡◌, refl, List, [], ◌∷◌, map, length, pos}
-use Rattle.model.specs.declared.Answer.{Answer}
 use Rattle.model.specs.Words.{Words}
-use Rattle.model.specs.Answer.{number, place, count}
+use Rattle.model.specs.Answer.{Answer, number, place, count}
 use Rattle.model.specs.Calls.{zeros, check_policy, reduce_call}
 use Rattle.model.specs.Words
 use Rattle.model.specs.Lists

@@ -1,10 +1,8 @@
 -- Runs of reduce calls over one log, and the claim about them.
-use Rattle.std.specs.Prelude.{ℕ, ◌≤◌, ◌≡◌, ◌↔◌, Bool, true, false, not, ◌&&◌, ◌||◌, List, [], ◌∷◌, ◌++◌, length, take, drop, eqb, ℤ}
-use Rattle.model.specs.declared.Answer.{Answer}
-use Rattle.model.specs.declared.Answer.TheVariants.{Accepted, Refused}
+use Rattle.std.specs.Prelude.{ℕ, ◌≤◌, ◌≡◌, ◌↔◌, Bool, true, false, not, ◌&&◌, ◌||◌, List, [], ◌∷◌, ◌++◌, length, take, drop, eqb, ℤ, Ok, Err}
 use Rattle.model.specs.Words.{Words, value, member}
 use Rattle.model.specs.Lists.{all}
-use Rattle.model.specs.Answer.{number, count, passed}
+use Rattle.model.specs.Answer.{Answer, number, count, passed}
 use Rattle.model.specs.Table.{complete}
 use Rattle.model.specs.Log.{rows, front, says_true}
 use Rattle.model.specs.Tree.{Tree, Trees, plain, atom, compare, join, quantifier, some, nil, cons}
@@ -45,8 +43,8 @@ module _ (table log : Words) where
 
   -- the policy held after a call that left a result: the words of its residual, or, if it was refused, the one before
   unfoldable pub next : Words → Answer → Words → Words
-  next policy (Accepted n) buffer = take n buffer
-  next policy (Refused r p) buffer = policy
+  next policy (Ok n) buffer = take n buffer
+  next policy (Err e) buffer = policy
 
   unfoldable pub after : Words → Call → Words
   after policy call = next policy (leaves policy call).answer (leaves policy call).buffer

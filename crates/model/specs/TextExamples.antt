@@ -1,10 +1,9 @@
 -- Examples of logs as text, as one list of cases and one claim about the list.
 use Rattle.std.specs.Prelude.{ℕ, zero, suc, ◌≡◌, refl, List, [], ◌∷◌, ◌++◌, map, length, replicate, negsuc}
 use Prim.Native.String as S
-use Rattle.model.specs.declared.Answer.{Answer}
 use Rattle.model.specs.Words.{Words}
 use Rattle.model.specs.Bytes.{Text, bytes}
-use Rattle.model.specs.Answer.{Outcome, passed, number, place, count}
+use Rattle.model.specs.Answer.{Answer, Outcome, passed, number, place, count}
 use Rattle.model.specs.CsvReading.{Records, read_csv}
 use Rattle.model.specs.Calls.{read_log_call, write_log_call}
 use Rattle.model.specs.Examples.{words, T, A, computing}

@@ -14,9 +14,9 @@ pub const ARGUMENTS_FROM: usize = 2;
 pub const POLICY_LIMIT: usize = 1048576;
 
 // The questions of the specification in the order of their numbers, each named for what it asks about.
-#[derive(Clone, Copy)]
+#[derive(Clone, Copy, PartialEq, Eq, Debug)]
 pub enum Refusal {
-    Table,
+    Table = 1,
     PolicyLength,
     Shape,
     Level,
@@ -33,34 +33,19 @@ pub enum Refusal {
     Tptp,
 }
 
-// Accepted, with the call's count; or refused, with the question and the place.
-#[derive(Clone, Copy)]
-pub enum Answer {
-    Accepted(usize),
-    Refused(Refusal, usize),
-}
+// A refusal: the question that was answered with no, and the place.
+#[derive(Clone, Copy, PartialEq, Eq, Debug)]
+pub struct Refused(pub Refusal, pub usize);
+
+// Accepted, with the call's count; or refused.
+pub type Answer = Result<usize, Refused>;
 
 // The number of the question that a refusal answers with no.
-#[tactic(auto, unfolding(crate::specs::Answer::question))]
-pub fn number(refusal: Refusal) -> u32
-    ensures { result ≡ question refusal }
-{
-    match refusal {
-        Refusal::Table => 1,
-        Refusal::PolicyLength => 2,
-        Refusal::Shape => 3,
-        Refusal::Level => 4,
-        Refusal::Predicate => 5,
-        Refusal::Variable => 6,
-        Refusal::Mode => 7,
-        Refusal::LogLength => 8,
-        Refusal::Row => 9,
-        Refusal::Repeat => 10,
-        Refusal::Scratch => 11,
-        Refusal::Room => 12,
-        Refusal::Csv => 13,
-        Refusal::Record => 14,
-        Refusal::Tptp => 15,
+impl From<Refusal> for u32 {
+    ghost from_gives = { λ refusal n. n ≡ question refusal };
+
+    fn from(refusal: Refusal) -> u32 {
+        refusal as u32
     }
 }
 

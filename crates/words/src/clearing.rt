@@ -7,11 +7,7 @@ pub fn clear(buffer: &mut [i32], from: usize)
     requires { from ≤ length buffer.old }
     ensures { buffer.new ≡ take from buffer.old ++ zeros (length buffer.old - from) }
 {
-    let mut i = from;
-    while i < buffer.len() {
-        buffer[i] = 0;
-        i += 1;
-    }
+    buffer[from..].fill(0);
 }
 
 // Bytes from an index on become zero.
@@ -19,9 +15,5 @@ pub fn clear_bytes(buffer: &mut [u8], from: usize)
     requires { from ≤ length buffer.old }
     ensures { buffer.new ≡ take from buffer.old ++ replicate (length buffer.old - from) 0 }
 {
-    let mut at = from;
-    while at < buffer.len() {
-        buffer[at] = 0;
-        at += 1;
-    }
+    buffer[from..].fill(0);
 }

@@ -7,9 +7,5 @@ pub fn copy_words(words: &[i32], from: usize, n: usize, out: &mut [i32], to: usi
     requires { (from + n ≤ length words.now) × (to + n ≤ length out.old) }
     ensures { out.new ≡ laid out.old to (take n (drop from words.now)) }
 {
-    let mut i = 0;
-    while i < n {
-        out[to + i] = words[from + i];
-        i += 1;
-    }
+    out[to..to + n].copy_from_slice(&words[from..from + n]);
 }

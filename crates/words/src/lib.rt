@@ -112,12 +112,5 @@ pub fn equal_words(a: &[i32], at: usize, b: &[i32], from: usize, n: usize) -> bo
     requires { (at + n ≤ length a.now) × (from + n ≤ length b.now) }
     ensures { result ≡ W.equal_all (take n (drop at a.now)) (take n (drop from b.now)) }
 {
-    let mut i = 0;
-    while i < n {
-        if a[at + i] != b[from + i] {
-            return false;
-        }
-        i += 1;
-    }
-    true
+    &a[at..at + n] == &b[from..from + n]
 }

@@ -7,11 +7,7 @@ pub fn left(out: &mut [i32], at: usize, n: usize)
     requires { at + 2 + n ≤ length out.old }
     ensures { out.new ≡ laid out.old at (take n (drop (at + 2) out.old)) }
 {
-    let mut i = 0;
-    while i < n {
-        out[at + i] = out[at + 2 + i];
-        i += 1;
-    }
+    out.copy_within(at + 2..at + 2 + n, at);
 }
 
 // The first n words move right by two, the last one first.
@@ -19,9 +15,5 @@ pub fn right(out: &mut [i32], n: usize)
     requires { n + 2 ≤ length out.old }
     ensures { out.new ≡ laid out.old 2 (take n out.old) }
 {
-    let mut i = n;
-    while 0 < i {
-        i -= 1;
-        out[i + 2] = out[i];
-    }
+    out.copy_within(0..n, 2);
 }
