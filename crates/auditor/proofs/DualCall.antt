@@ -7,12 +7,11 @@ use mathlib.Core.List.{◌++◌}
 use lib.ListN.{length, take}
 use lib.Dec.{leb}
 use borrow.Author.Tests.{le-leb, lt-leb}
-use Rattle.model.specs.declared.Answer.{Answer}
-use Rattle.model.specs.declared.Answer.TheVariants.{Accepted, Refused}
+use Rattle.std.specs.Prelude.{Ok, Err}
 use Rattle.model.specs.declared.Refusal.{Refusal}
 use Rattle.model.specs.declared.Refusal.TheVariants.{Room}
 use Rattle.model.specs.Words.{Words, policy_limit}
-use Rattle.model.specs.Answer.{AnswersAs, ask, answer, ◌>>=◌}
+use Rattle.model.specs.Answer.{Answer, AnswersAs, ask, answer, ◌>>=◌, refused_at}
 use Rattle.model.specs.Tree.{Tree, encode}
 use Rattle.model.specs.Mode.{size}
 use Rattle.model.specs.Dual.{dual}
@@ -37,11 +36,11 @@ module _ (table policy old buffer : Words) where
   all-zero : Cleared → buffer ≡ zeros (length old)
   all-zero e = e ∙ ap zeros (omega arith)
 
-  pub dual-refused : {r : Refusal} {p : ℕ} → Refused r p ≡ check_policy table policy → Cleared → Dualled (Refused r p)
+  pub dual-refused : {r : Refusal} {p : ℕ} → Err (refused_at r p) ≡ check_policy table policy → Cleared → Dualled (Err (refused_at r p))
   unfolding dual_call result answer filled ◌>>=◌
   dual-refused e z = rw (policy_was_refused table policy e) (answers refl, all-zero z)
 
-  module _ {k : ℕ} (e : Accepted k ≡ check_policy table policy) where
+  module _ {k : ℕ} (e : Ok k ≡ check_policy table policy) where
     accepted-tree : Accepts table policy
     accepted-tree = policy_was_passed table policy e
 
@@ -61,7 +60,7 @@ module _ (table policy old buffer : Words) where
     short : length policy ≤ policy_limit
     short = let (tree, is) = accepted-tree in (read_length table policy tree (accepted-asked table policy tree is).1).1
 
-    pub dual-no-room : length old < length policy → Cleared → Dualled (Refused Room 0)
+    pub dual-no-room : length old < length policy → Cleared → Dualled (Err (refused_at Room 0))
     unfolding dual_call result answer filled write ask ◌>>=◌
     dual-no-room h z =
         let no : leb (length (encode (dual accepted-tree.0))) (length old) ≡ false =
@@ -71,7 +70,7 @@ module _ (table policy old buffer : Words) where
     pub dual-written :
         length policy ≤ length old →
         ((tree : Tree) → Tupled tree → encode tree ≡ policy → buffer ≡ encode (dual tree) ++ zeros (length old - length policy)) →
-        Dualled (Accepted (length policy))
+        Dualled (Ok (length policy))
     unfolding dual_call result answer filled write ask ◌>>=◌
     dual-written h w =
         let ws = encode (dual accepted-tree.0) in
@@ -81,4 +80,4 @@ module _ (table policy old buffer : Words) where
         ap (λ (n : ℕ). leb n policy_limit) dual-length ∙ le-leb (length policy) policy_limit short in
         let (tupled, is) = accepted-written table policy accepted-tree.0 accepted-tree.1 in
         rw (accepted-tree.1, room, few)
-        (answers (ap Accepted (sym dual-length)), w accepted-tree.0 tupled is ∙ ap (λ (n : ℕ). ws ++ zeros (length old - n)) (sym dual-length))
+        (answers (ap Ok (sym dual-length)), w accepted-tree.0 tupled is ∙ ap (λ (n : ℕ). ws ++ zeros (length old - n)) (sym dual-length))

@@ -4,9 +4,8 @@ use native.Mathlib.Omega.{arith}
 use mathlib.Core.Path.{◌≡◌, ap, ◌∙◌}
 use mathlib.Core.List.{◌++◌}
 use lib.ListN.{length, take}
-use Rattle.model.specs.declared.Answer.{Answer}
 use Rattle.model.specs.Words.{Words}
-use Rattle.model.specs.Answer.{count}
+use Rattle.model.specs.Answer.{Answer, count}
 use Rattle.model.specs.Calls.{zeros, result, reduce_call}
 use Rattle.laws.specs.Answer.{answers}
 use Rattle.residuals.specs.Residual.{LeavesResidual}

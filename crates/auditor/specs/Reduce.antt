@@ -1,8 +1,7 @@
 -- The contract of the call reduce.
 use Rattle.std.specs.Prelude.{◌≡◌, length}
-use Rattle.model.specs.declared.Answer.{Answer}
 use Rattle.model.specs.Words.{Words}
-use Rattle.model.specs.Answer.{AnswersAs}
+use Rattle.model.specs.Answer.{Answer, AnswersAs}
 use Rattle.model.specs.Calls.{reduce_call}
 
 -- the contract of reduce: given these words and lent these, it answers, and leaves scratch and buffer, as the call is defined

@@ -1,10 +1,10 @@
 -- The run claim about the code: of every list of served calls of reduce. A served call is what a caller has in hand, and its
 -- only tie to the code is the contract of reduce.
+use Rattle.model.specs.Answer.{Answer}
 use Rattle.std.specs.Prelude.{ℕ, ◌≡◌, true, length}
 use Rattle.std.proofs.Math.Path.{refl, ap}
 use Rattle.std.proofs.Common.{◌∙◌, subst}
 use mathlib.Core.List.{List, [], ◌∷◌, ◌++◌, map}
-use Rattle.model.specs.declared.Answer.{Answer}
 use Rattle.model.specs.Words.{Words}
 use Rattle.model.specs.Log.{front}
 use Rattle.model.specs.Calls.{Result, check_policy, check_log}

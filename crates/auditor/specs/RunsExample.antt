@@ -1,8 +1,9 @@
 -- A run of three served calls that meets the premises of the theorem: one refused for scratch, one over the first two rows, one over
 -- the whole log. The log is log A and one more row. The theorem is applied to it in proofs/RunsExample.antt.
+use Rattle.model.specs.Answer.{refused_at}
 use Rattle.std.specs.Prelude.{ℕ, ◌≡◌, refl, true, replicate, pos}
 use mathlib.Core.List.{List, [], ◌∷◌, map}
-use Rattle.model.specs.declared.Answer.TheVariants.{Accepted, Refused}
+use Rattle.std.specs.Prelude.{Ok, Err}
 use Rattle.model.specs.declared.Refusal.TheVariants.{Scratch}
 use Rattle.model.specs.Words.{Words}
 use Rattle.model.specs.Calls.{zeros}
@@ -23,7 +24,7 @@ first =
       part = 3;
       scratch = dirt 33;
       buffer = dirt 4;
-      answer = Refused Scratch 0;
+      answer = Err (refused_at Scratch 0);
       scratch' = zeros 33;
       buffer' = zeros 4;
     }
@@ -35,7 +36,7 @@ second =
       part = 2;
       scratch = dirt 34;
       buffer = dirt 27;
-      answer = Accepted 27;
+      answer = Ok 27;
       scratch' = zeros 34;
       buffer' =
           words
@@ -49,7 +50,7 @@ third =
       part = 3;
       scratch = dirt 52;
       buffer = dirt 37;
-      answer = Accepted 35;
+      answer = Ok 35;
       scratch' = zeros 52;
       buffer' =
           words

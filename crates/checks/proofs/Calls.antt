@@ -2,10 +2,10 @@
 use Prim.Native.Nat.{ℕ}
 use mathlib.Core.Path.{◌≡◌, refl, sym, ap}
 use native.Mathlib.Omega.{arith}
-use Rattle.model.specs.declared.Answer.TheVariants.{Accepted, Refused}
+use Rattle.std.specs.Prelude.{Ok, Err}
 use Rattle.model.specs.declared.Refusal.{Refusal}
 use Rattle.model.specs.Words.{Words}
-use Rattle.model.specs.Answer.{Outcome, passed, refused, answer, ◌>>=◌}
+use Rattle.model.specs.Answer.{Outcome, passed, refused, answer, ◌>>=◌, refused_at}
 use Rattle.model.specs.Tree.{Tree}
 use Rattle.model.specs.Level.{formula, greatest}
 use Rattle.model.specs.Table.{ask_table}
@@ -19,10 +19,10 @@ use Rattle.policies.specs.declared.policy.Walked.TheVariants as walked
 use Rattle.checks.specs.Accepts.{Accepts}
 
 -- what an answer says of the questions
-pub was_refused : {A : Type 0} (count : A → ℕ) (o : Outcome A) {r : Refusal} {p : ℕ} → Refused r p ≡ answer count o → o ≡ refused r p
+pub was_refused : {A : Type 0} (count : A → ℕ) (o : Outcome A) {r : Refusal} {p : ℕ} → Err (refused_at r p) ≡ answer count o → o ≡ refused r p
 was_refused count o {r} {p} e = answer-refused count o r p (sym e)
 
-pub was_passed : {A : Type 0} (count : A → ℕ) (o : Outcome A) {k : ℕ} → Accepted k ≡ answer count o → (a : A) × (o ≡ passed a)
+pub was_passed : {A : Type 0} (count : A → ℕ) (o : Outcome A) {k : ℕ} → Ok k ≡ answer count o → (a : A) × (o ≡ passed a)
 was_passed count o {k} e = let (a, passes, size) = answer-accepted count o k (sym e) in (a, passes)
 
 -- what is told of a reading is what came of it
@@ -41,21 +41,21 @@ told-read policy (passed t) e = (t, refl, cc)
 
 module _ (table policy : Words) where
   -- what the check of a policy says of questions 1 to 7
-  pub policy_was_refused : {r : Refusal} {p : ℕ} → Refused r p ≡ check_policy table policy → ask_policy table policy ≡ refused r p
+  pub policy_was_refused : {r : Refusal} {p : ℕ} → Err (refused_at r p) ≡ check_policy table policy → ask_policy table policy ≡ refused r p
   unfolding check_policy
   policy_was_refused e = was_refused (λ tree. greatest tree formula 0) (ask_policy table policy) e
 
-  pub policy_was_passed : {k : ℕ} → Accepted k ≡ check_policy table policy → Accepts table policy
+  pub policy_was_passed : {k : ℕ} → Ok k ≡ check_policy table policy → Accepts table policy
   unfolding check_policy
   policy_was_passed e = was_passed (λ tree. greatest tree formula 0) (ask_policy table policy) e
 
-  pub policy-table-refused : {r : Refusal} {p : ℕ} → ask_table table ≡ refused r p → check_policy table policy ≡ Refused r p
+  pub policy-table-refused : {r : Refusal} {p : ℕ} → ask_table table ≡ refused r p → check_policy table policy ≡ Err (refused_at r p)
   unfolding check_policy ask_policy answer ◌>>=◌
   policy-table-refused e = rw e
 
   module _ (e : ask_table table ≡ passed tt) where
     pub policy-refused :
-        {r : Refusal} {p : ℕ} → walked.Refused r p ≡ told_policy policy (read_policy table policy) → check_policy table policy ≡ Refused r p
+        {r : Refusal} {p : ℕ} → walked.Refused r p ≡ told_policy policy (read_policy table policy) → check_policy table policy ≡ Err (refused_at r p)
     unfolding check_policy ask_policy answer ◌>>=◌
     policy-refused f = rw (e, told-refused policy (read_policy table policy) f)
 
@@ -64,23 +64,23 @@ module _ (table policy : Words) where
       pub tree-read : (tree : Tree) × (read_policy table policy ≡ passed tree) × (level ≡ greatest tree formula 0)
       tree-read = told-read policy (read_policy table policy) f
 
-      pub modes-refused : {r : Refusal} {p : ℕ} → refused r p ≡ ask_modes tree-read.0 table 0 0 → check_policy table policy ≡ Refused r p
+      pub modes-refused : {r : Refusal} {p : ℕ} → refused r p ≡ ask_modes tree-read.0 table 0 0 → check_policy table policy ≡ Err (refused_at r p)
       unfolding check_policy ask_policy answer ◌>>=◌
       modes-refused g = rw (e, tree-read.1, ← g)
 
-      pub policy-accepted : passed tt ≡ ask_modes tree-read.0 table 0 0 → check_policy table policy ≡ Accepted level
+      pub policy-accepted : passed tt ≡ ask_modes tree-read.0 table 0 0 → check_policy table policy ≡ Ok level
       unfolding check_policy ask_policy answer ◌>>=◌
-      policy-accepted g = rw (e, tree-read.1, ← g) (ap Accepted (sym tree-read.2))
+      policy-accepted g = rw (e, tree-read.1, ← g) (ap Ok (sym tree-read.2))
 
 module _ (table log : Words) where
-  pub log-table-refused : {r : Refusal} {p : ℕ} → ask_table table ≡ refused r p → check_log table log ≡ Refused r p
+  pub log-table-refused : {r : Refusal} {p : ℕ} → ask_table table ≡ refused r p → check_log table log ≡ Err (refused_at r p)
   unfolding check_log answer ◌>>=◌
   log-table-refused e = rw e
 
-  pub log-refused : {r : Refusal} {p : ℕ} → ask_table table ≡ passed tt → ask_log table log ≡ refused r p → check_log table log ≡ Refused r p
+  pub log-refused : {r : Refusal} {p : ℕ} → ask_table table ≡ passed tt → ask_log table log ≡ refused r p → check_log table log ≡ Err (refused_at r p)
   unfolding check_log answer ◌>>=◌
   log-refused e f = rw (e, f)
 
-  pub log-accepted : ask_table table ≡ passed tt → ask_log table log ≡ passed tt → check_log table log ≡ Accepted (row_count log)
+  pub log-accepted : ask_table table ≡ passed tt → ask_log table log ≡ passed tt → check_log table log ≡ Ok (row_count log)
   unfolding check_log answer ◌>>=◌
   log-accepted e f = rw (e, f)

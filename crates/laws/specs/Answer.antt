@@ -4,10 +4,11 @@ use Rattle.std.proofs.Math.Path.{◌≡◌, refl, ap}
 use Rattle.std.proofs.Common.{◌∙◌, arith}
 use mathlib.Core.List.{List, [], ◌∷◌, Memᴰ}
 use Rattle.model.specs.Lists.{span}
-use Rattle.model.specs.Answer.{number, place, count, AnswersAs, Outcome, refused, passed, ask, answer, ◌>>=◌, in_turn}
+use Rattle.model.specs.Answer.{Answer, number, place, count, AnswersAs, Outcome, refused, passed, ask, answer, ◌>>=◌, in_turn, refused_at}
 use Rattle.model.specs.declared.Refusal.{Refusal}
-use Rattle.model.specs.declared.Answer.{Answer}
-use Rattle.model.specs.declared.Answer.TheVariants.{Accepted, Refused}
+use Rattle.std.specs.Prelude.{Ok, Err}
+use Rattle.std.proofs.Common.{ap₂}
+use Rattle.model.specs.declared.Refused.{Refused}
 use Rattle.laws.specs.Lists.Span.{span-step, span_end}
 
 -- an answer that is the fixed one has its number, place and count
@@ -40,14 +41,15 @@ module _ {A : Type 0} where
   then_same (passed a) = refl
 
   -- an accepted answer is of questions that passed, a refused one of questions that were refused
-  pub answer-accepted : (size : A → ℕ) (o : Outcome A) (n : ℕ) → answer size o ≡ Accepted n → (a : A) × (o ≡ passed a) × (size a ≡ n)
+  pub answer-accepted : (size : A → ℕ) (o : Outcome A) (n : ℕ) → answer size o ≡ Ok n → (a : A) × (o ≡ passed a) × (size a ≡ n)
   unfolding answer
   answer-accepted size (refused r p) n e = absurd (let z : ◌≡◌ {A = ℕ} 0 1 = cc in omega arith)
   answer-accepted size (passed a) n e = (a, refl, cc)
 
-  pub answer-refused : (size : A → ℕ) (o : Outcome A) (r : Refusal) (p : ℕ) → answer size o ≡ Refused r p → o ≡ refused r p
+  pub answer-refused : (size : A → ℕ) (o : Outcome A) (r : Refusal) (p : ℕ) → answer size o ≡ Err (refused_at r p) → o ≡ refused r p
   unfolding answer
-  answer-refused size (refused r' p') r p e = cc
+  answer-refused size (refused r' p') r p e =
+      let same : refused_at r' p' ≡ refused_at r p = cc in ap₂ refused (ap (λ (q : Refused). q.0) same) (ap (λ (q : Refused). q.1) same)
   answer-refused size (passed a) r p e = cc
 
 module _ {A B : Type 0} where

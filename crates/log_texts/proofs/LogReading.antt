@@ -8,13 +8,12 @@ use mathlib.Core.List.{◌++◌}
 use lib.ListN.{length, take}
 use lib.Dec.{leb, eqb}
 use borrow.Author.Tests.{leb-true, le-leb, lt-leb}
-use Rattle.model.specs.declared.Answer.{Answer}
-use Rattle.model.specs.declared.Answer.TheVariants.{Accepted, Refused}
+use Rattle.std.specs.Prelude.{Ok, Err}
 use Rattle.model.specs.declared.Refusal.{Refusal}
 use Rattle.model.specs.declared.Refusal.TheVariants.{LogLength, Room}
 use Rattle.model.specs.Words.{Words}
 use Rattle.model.specs.Bytes.{Text}
-use Rattle.model.specs.Answer.{AnswersAs, Outcome, passed, refused, ask, answer, count, ◌>>=◌}
+use Rattle.model.specs.Answer.{Answer, AnswersAs, Outcome, passed, refused, ask, answer, count, ◌>>=◌, refused_at}
 use Rattle.model.specs.Table.{ask_table}
 use Rattle.model.specs.Log.{row_count, ask_log}
 use Rattle.model.specs.CsvReading.{Records, read_csv}
@@ -58,22 +57,22 @@ log-stands table text words n s log e h = s.stands h ∙ passed-same (sym s.aske
 
 -- questions 8 to 12 of the rows
 module _ (table : Words) (room : ℕ) (log : Words) where
-  pub settled-refused : {q : Refusal} {p : ℕ} → ask_log table log ≡ refused q p → Refused q p ≡ answer row_count (settled_log table room log)
+  pub settled-refused : {q : Refusal} {p : ℕ} → ask_log table log ≡ refused q p → Err (refused_at q p) ≡ answer row_count (settled_log table room log)
   unfolding settled_log answer ◌>>=◌
   settled-refused e = rw e
 
-  pub settled-many : (n : ℕ) → length log ≡ 8 * n → 4096 < n → Refused LogLength 0 ≡ answer row_count (settled_log table room log)
+  pub settled-many : (n : ℕ) → length log ≡ 8 * n → 4096 < n → Err (refused_at LogLength 0) ≡ answer row_count (settled_log table room log)
   unfolding ask_log row_count ask ◌>>=◌
   settled-many n l h =
       settled-refused (rw (and-false (eqb (length log % 8) 0) (lt-leb (length log / 8) 4096 (omega (arith, l, h)))))
 
-  pub settled-short : ask_log table log ≡ passed tt → room < length log → Refused Room 0 ≡ answer row_count (settled_log table room log)
+  pub settled-short : ask_log table log ≡ passed tt → room < length log → Err (refused_at Room 0) ≡ answer row_count (settled_log table room log)
   unfolding settled_log in_room ask answer ◌>>=◌
   settled-short e h = rw (e, lt-leb (length log) room h)
 
-  pub settled-passed : (n : ℕ) → length log ≡ 8 * n → ask_log table log ≡ passed tt → length log ≤ room → Accepted n ≡ answer row_count (settled_log table room log)
+  pub settled-passed : (n : ℕ) → length log ≡ 8 * n → ask_log table log ≡ passed tt → length log ≤ room → Ok n ≡ answer row_count (settled_log table room log)
   unfolding settled_log in_room ask answer ◌>>=◌ row_count
-  settled-passed n l e h = rw (e, le-leb (length log) room h) (ap Accepted (let z : n ≡ length log / 8 = omega (arith, l) in z))
+  settled-passed n l e h = rw (e, le-leb (length log) room h) (ap Ok (let z : n ≡ length log / 8 = omega (arith, l) in z))
 
   pub settled-cases :
       ((q : Refusal) × (p : ℕ) × (settled_log table room log ≡ refused q p))
@@ -135,11 +134,11 @@ module _ (table : Words) (text : Text) (room : ℕ) where
     wrote = rw e (ap zeros (let z : room - 8 * 0 ≡ room = omega arith in z));
   }
 
-  pub table-refused : (after : Words) {q : Refusal} {p : ℕ} → ask_table table ≡ refused q p → ReadsLog table text room after (Refused q p)
+  pub table-refused : (after : Words) {q : Refusal} {p : ℕ} → ask_table table ≡ refused q p → ReadsLog table text room after (Err (refused_at q p))
   unfolding answer
   table-refused after e = leaves-refused after (reading-table e)
 
-  pub text-refused : (after : Words) {q : Refusal} {p : ℕ} → ask_table table ≡ passed tt → ask_text table text ≡ refused q p → ReadsLog table text room after (Refused q p)
+  pub text-refused : (after : Words) {q : Refusal} {p : ℕ} → ask_table table ≡ passed tt → ask_text table text ≡ refused q p → ReadsLog table text room after (Err (refused_at q p))
   unfolding answer
   text-refused after e f = leaves-refused after (reading-text e f)
 

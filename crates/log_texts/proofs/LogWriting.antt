@@ -2,12 +2,11 @@
 use Prim.Native.Nat.{ℕ}
 use mathlib.Core.Path.{◌≡◌, refl, sym, ◌∙◌}
 use lib.ListN.{length}
-use Rattle.model.specs.declared.Answer.{Answer}
-use Rattle.model.specs.declared.Answer.TheVariants.{Accepted, Refused}
+use Rattle.std.specs.Prelude.{Ok, Err}
 use Rattle.model.specs.declared.Refusal.{Refusal}
 use Rattle.model.specs.Words.{Words}
 use Rattle.model.specs.Bytes.{Text}
-use Rattle.model.specs.Answer.{Outcome, passed, refused, ◌>>=◌}
+use Rattle.model.specs.Answer.{Answer, Outcome, passed, refused, ◌>>=◌, refused_at}
 use Rattle.model.specs.Table.{ask_table}
 use Rattle.model.specs.Log.{row_count, ask_log}
 use Rattle.model.specs.LogText.{log_text}
@@ -38,13 +37,13 @@ module _ (table log : Words) where
 -- what the check of a log answered
 module _ (table log : Words) {a : Answer} (same : a ≡ check_log table log) where
   -- the log is refused
-  pub log-refused : {room : ℕ} {after : Text} {q : Refusal} {p : ℕ} → a ≡ Refused q p → WritesLog table log room after a
+  pub log-refused : {room : ℕ} {after : Text} {q : Refusal} {p : ℕ} → a ≡ Err (refused_at q p) → WritesLog table log room after a
   unfolding check_log ◌>>=◌
   log-refused {room} {after} e =
       let was = was_refused (λ _. row_count log) (ask_table table >>= λ _. ask_log table log) (sym e ∙ same) in
       text-refused _ room after (checked-first table log room ∙ rw was) e
 
-  module _ {k : ℕ} (e : a ≡ Accepted k) where
+  module _ {k : ℕ} (e : a ≡ Ok k) where
     -- the log is accepted
     pub log-passed : (ask_table table ≡ passed tt) × (ask_log table log ≡ passed tt)
     unfolding check_log

@@ -1,9 +1,8 @@
 -- What the parts of the calls that read and write logs as text say on the way to them.
 use Rattle.std.specs.Prelude.{ℕ, ◌*◌, ◌-◌, ◌≤◌, ◌<◌, ◌≡◌, ◌++◌, length, take}
-use Rattle.model.specs.declared.Answer.{Answer}
 use Rattle.model.specs.Words.{Words}
 use Rattle.model.specs.Bytes.{Text}
-use Rattle.model.specs.Answer.{Outcome, passed, answer, count, ◌>>=◌}
+use Rattle.model.specs.Answer.{Answer, Outcome, passed, answer, count, ◌>>=◌}
 use Rattle.model.specs.Log.{row_count, ask_log}
 use Rattle.model.specs.Calls.{zeros, filled, in_room, ask_reading, ask_writing}
 use Rattle.tables.specs.declared.Checked.{Checked}

@@ -9,13 +9,12 @@ use lib.ListN.{length, take}
 use lib.Seq.{sets-eq, take-append_seam}
 use lib.Dec.{leb}
 use borrow.Author.Tests.{leb-true, leb-false, le-leb, lt-leb}
-use Rattle.model.specs.declared.Answer.{Answer}
-use Rattle.model.specs.declared.Answer.TheVariants.{Accepted, Refused}
+use Rattle.std.specs.Prelude.{Ok, Err}
 use Rattle.model.specs.declared.Refusal.{Refusal}
 use Rattle.model.specs.declared.Refusal.TheVariants.{PolicyLength, Room}
 use Rattle.model.specs.Words.{Words, policy_limit}
 use Rattle.model.specs.Bytes.{Text}
-use Rattle.model.specs.Answer.{AnswersAs, Outcome, passed, refused, ask, answer, count, ◌>>=◌}
+use Rattle.model.specs.Answer.{Answer, AnswersAs, Outcome, passed, refused, ask, answer, count, ◌>>=◌, refused_at}
 use Rattle.model.specs.Table.{ask_table}
 use Rattle.model.specs.Tree.{Tree, encode}
 use Rattle.model.specs.Level.{formula}
@@ -44,26 +43,26 @@ module _ (room : ℕ) (s : State) where
   abbrev Settles : Answer → Type 0
   Settles r = r ≡ answer (λ _. s.words) (settled_policy room s)
 
-  pub settle-long : policy_limit < s.words → Settles (Refused PolicyLength 0)
+  pub settle-long : policy_limit < s.words → Settles (Err (refused_at PolicyLength 0))
   unfolding settled_policy answer ask ◌>>=◌
   settle-long h = rw (lt-leb s.words policy_limit h)
 
   module _ (h : s.words ≤ policy_limit) where
-    pub settle-asked : {q : Refusal} {p : ℕ} → s.asked ≡ checked.Refused q p → Settles (Refused q p)
+    pub settle-asked : {q : Refusal} {p : ℕ} → s.asked ≡ checked.Refused q p → Settles (Err (refused_at q p))
     unfolding settled_policy answer ask ◌>>=◌
     settle-asked e = rw (le-leb s.words policy_limit h, e)
 
     module _ (e : s.asked ≡ checked.Passed) where
-      pub settle-moded : {q : Refusal} {p : ℕ} → s.moded ≡ checked.Refused q p → Settles (Refused q p)
+      pub settle-moded : {q : Refusal} {p : ℕ} → s.moded ≡ checked.Refused q p → Settles (Err (refused_at q p))
       unfolding settled_policy answer ask ◌>>=◌
       settle-moded f = rw (le-leb s.words policy_limit h, e, f)
 
       module _ (f : s.moded ≡ checked.Passed) where
-        pub settle-short : room < s.words → Settles (Refused Room 0)
+        pub settle-short : room < s.words → Settles (Err (refused_at Room 0))
         unfolding settled_policy answer ask ◌>>=◌
         settle-short l = rw (le-leb s.words policy_limit h, e, f, lt-leb s.words room l)
 
-        pub settle-passed : s.words ≤ room → Settles (Accepted s.words)
+        pub settle-passed : s.words ≤ room → Settles (Ok s.words)
         unfolding settled_policy answer ask ◌>>=◌
         settle-passed l = rw (le-leb s.words policy_limit h, e, f, le-leb s.words room l)
 
@@ -106,18 +105,18 @@ asked-alike checked.Passed m o u tree ws room e f = rw (sym e, sym (f refl)) (go
 module _ (table : Words) (text : Text) (room : ℕ) where
   -- a refusal
   leaves-refused :
-      (after : Words) {q : Refusal} {p : ℕ} → ask_policy_reading table text room ≡ refused q p → ReadsPolicy table text room after (Refused q p)
+      (after : Words) {q : Refusal} {p : ℕ} → ask_policy_reading table text room ≡ refused q p → ReadsPolicy table text room after (Err (refused_at q p))
   unfolding answer count filled
   leaves-refused after e =
       record { answered = rw e; fits = omega arith; wrote = rw e (ap zeros (let z : room - 0 ≡ room = omega arith in z)) }
 
-  pub table-refused : (after : Words) {q : Refusal} {p : ℕ} → ask_table table ≡ refused q p → ReadsPolicy table text room after (Refused q p)
+  pub table-refused : (after : Words) {q : Refusal} {p : ℕ} → ask_table table ≡ refused q p → ReadsPolicy table text room after (Err (refused_at q p))
   unfolding ask_policy_reading ◌>>=◌
   table-refused after e = leaves-refused after (rw e)
 
   module _ (e : ask_table table ≡ passed tt) where
     pub text-refused :
-        (after : Words) {q : Refusal} {p : ℕ} → read_whole 255 text 0 ≡ refused q p → ReadsPolicy table text room after (Refused q p)
+        (after : Words) {q : Refusal} {p : ℕ} → read_whole 255 text 0 ≡ refused q p → ReadsPolicy table text room after (Err (refused_at q p))
     unfolding ask_policy_reading read_text read_tptp tree_of ◌>>=◌
     text-refused after f = leaves-refused after (rw (e, f))
 
@@ -190,7 +189,7 @@ module _ (table : Words) (text : Text) (room : ℕ) where
 module _ (table : Words) (text : Text) (old after : Words) (e : ask_table table ≡ passed tt) where
   pub came_refused :
       (came : Came) → PolicyRead table text old after came → {q : Refusal} {p : ℕ} → came.end ≡ step.Refused q p →
-      ReadsPolicy table text (length old) after (Refused q p)
+      ReadsPolicy table text (length old) after (Err (refused_at q p))
   came_refused came r f =
       text-refused table text (length old) e after
       (subst (λ (s : Step). PolicyRead table text old after (record { end = s; state = came.state })) f r)

@@ -2,12 +2,11 @@
 use Prim.Native.Nat.{ℕ}
 use mathlib.Core.Path.{◌≡◌, sym, ◌∙◌}
 use lib.ListN.{length}
-use Rattle.model.specs.declared.Answer.{Answer}
-use Rattle.model.specs.declared.Answer.TheVariants.{Accepted, Refused}
+use Rattle.std.specs.Prelude.{Ok, Err}
 use Rattle.model.specs.declared.Refusal.{Refusal}
 use Rattle.model.specs.Words.{Words}
 use Rattle.model.specs.Bytes.{Text}
-use Rattle.model.specs.Answer.{passed, ◌>>=◌}
+use Rattle.model.specs.Answer.{Answer, passed, ◌>>=◌, refused_at}
 use Rattle.model.specs.Tree.{Tree}
 use Rattle.model.specs.Reading.{read_policy}
 use Rattle.model.specs.Tptp.{policy_text}
@@ -23,11 +22,11 @@ use Rattle.text.proofs.WrittenLaws.{text-refused, text-written}
 -- what the check of a policy answered
 module _ (table policy : Words) {a : Answer} (same : a ≡ check_policy table policy) where
   -- the policy is refused
-  pub policy-refused : {room : ℕ} {after : Text} {q : Refusal} {p : ℕ} → a ≡ Refused q p → WritesPolicy table policy room after a
+  pub policy-refused : {room : ℕ} {after : Text} {q : Refusal} {p : ℕ} → a ≡ Err (refused_at q p) → WritesPolicy table policy room after a
   unfolding ask_policy_writing ◌>>=◌
   policy-refused {room} {after} e = text-refused _ room after (rw (policy_was_refused table policy (sym e ∙ same))) e
 
-  module _ {k : ℕ} (e : a ≡ Accepted k) where
+  module _ {k : ℕ} (e : a ≡ Ok k) where
     -- the policy is accepted: it was read
     pub policy-read : (tree : Tree) × (read_policy table policy ≡ passed tree)
     policy-read =

@@ -1,10 +1,9 @@
 -- What the parts of the calls that read and write policies as text say on the way to them.
 use Rattle.std.specs.Prelude.{ℕ, ◌-◌, ◌≤◌, ◌≡◌, ◌++◌, length, take, leb}
-use Rattle.model.specs.declared.Answer.{Answer}
 use Rattle.model.specs.declared.Refusal.TheVariants.{PolicyLength, Room}
 use Rattle.model.specs.Words.{Words, policy_limit}
 use Rattle.model.specs.Bytes.{Text}
-use Rattle.model.specs.Answer.{Outcome, ask, answer, count, ◌>>=◌}
+use Rattle.model.specs.Answer.{Answer, Outcome, ask, answer, count, ◌>>=◌}
 use Rattle.model.specs.Calls.{zeros, filled, ask_policy_reading, ask_policy_writing}
 use Rattle.tables.specs.Checked.{outcome}
 use Rattle.tptp_state.specs.declared.state.State.{State}

@@ -3,11 +3,10 @@ use Prim.Native.Nat.{ℕ, ◌/◌}
 use mathlib.Core.Path.{◌≡◌, refl, sym, ◌∙◌, subst}
 use mathlib.Core.List.{List, []}
 use lib.ListN.{length}
-use Rattle.model.specs.declared.Answer.{Answer}
-use Rattle.model.specs.declared.Answer.TheVariants.{Accepted, Refused}
+use Rattle.std.specs.Prelude.{Ok, Err}
 use Rattle.model.specs.declared.Refusal.{Refusal}
 use Rattle.model.specs.Words.{Words, place_words}
-use Rattle.model.specs.Answer.{passed, refused, ◌>>=◌}
+use Rattle.model.specs.Answer.{Answer, passed, refused, ◌>>=◌, refused_at}
 use Rattle.model.specs.Level.{formula}
 use Rattle.model.specs.Log.{rows, ask_log}
 use Rattle.model.specs.Table.{ask_table}
@@ -31,14 +30,14 @@ module _ (table policy log : Words) (scratch buffer : ℕ) where
   pub policy-refused :
       (after : Words) {a : Answer} {r : Refusal} {p : ℕ} →
       a ≡ check_policy table policy →
-      a ≡ Refused r p →
+      a ≡ Err (refused_at r p) →
       LeavesResidual table policy log scratch buffer after a
   unfolding ask_reduction ◌>>=◌
   policy-refused after {a} {r} {p} e f =
       let was = policy_was_refused table policy (sym f ∙ e) in
       subst (LeavesResidual table policy log scratch buffer after) (sym f) (leaves-refused buffer after (rw was refl))
 
-  pub policy-accepted : {a : Answer} {n : ℕ} → a ≡ check_policy table policy → a ≡ Accepted n → Accepts table policy
+  pub policy-accepted : {a : Answer} {n : ℕ} → a ≡ check_policy table policy → a ≡ Ok n → Accepts table policy
   policy-accepted e f = policy_was_passed table policy (sym f ∙ e)
 
   module _ (accepts : Accepts table policy) where
@@ -50,7 +49,7 @@ module _ (table policy log : Words) (scratch buffer : ℕ) where
     root = read-node table policy accepts.0 tree-asked.1
 
     -- questions 8 to 10
-    pub log-refused : (after : Words) {r : Refusal} {p : ℕ} → ask_log table log ≡ refused r p → LeavesResidual table policy log scratch buffer after (Refused r p)
+    pub log-refused : (after : Words) {r : Refusal} {p : ℕ} → ask_log table log ≡ refused r p → LeavesResidual table policy log scratch buffer after (Err (refused_at r p))
     unfolding ask_reduction ◌>>=◌
     log-refused after e = leaves-refused buffer after (rw (accepts.1, e) refl)
 

@@ -8,12 +8,11 @@ use lib.ListN.{length, take, set}
 use lib.IntN.{ℤ, pos}
 use lib.Dec.{leb, ltb}
 use borrow.Author.Tests.{leb-true, le-leb, lt-leb, ltb-true, ltb-false}
-use Rattle.model.specs.declared.Answer.{Answer}
-use Rattle.model.specs.declared.Answer.TheVariants.{Accepted, Refused}
+use Rattle.std.specs.Prelude.{Ok, Err}
 use Rattle.model.specs.declared.Refusal.{Refusal}
 use Rattle.model.specs.declared.Refusal.TheVariants.{Scratch, Room}
 use Rattle.model.specs.Words.{Words, policy_limit}
-use Rattle.model.specs.Answer.{Outcome, passed, refused, ask, answer, count, ◌>>=◌}
+use Rattle.model.specs.Answer.{Answer, Outcome, passed, refused, ask, answer, count, ◌>>=◌, refused_at}
 use Rattle.model.specs.Tree.{Tree, plain, encode}
 use Rattle.model.specs.Calls.{zeros, filled, write}
 use Rattle.joining.specs.declared.answer.Reduced.TheVariants.{Short, Plain, Long, Part}
@@ -22,7 +21,7 @@ use Rattle.residuals.specs.Residual.{settled, Leaves, lendable, Walked}
 
 module _ (room : ℕ) (after : Words) where
   -- a refusal counts no word
-  pub leaves-refused : {o : Outcome Words} {r : Refusal} {p : ℕ} → o ≡ refused r p → Leaves o room after (Refused r p)
+  pub leaves-refused : {o : Outcome Words} {r : Refusal} {p : ℕ} → o ≡ refused r p → Leaves o room after (Err (refused_at r p))
   unfolding answer count filled
   leaves-refused e = rw e record { answered = refl; fits = omega arith; wrote = ap zeros (omega arith) }
 
@@ -32,11 +31,11 @@ module _ (room : ℕ) (after : Words) where
       n ≡ length ws →
       n ≤ room →
       take n after ≡ ws →
-      Leaves o room after (Accepted n)
+      Leaves o room after (Ok n)
   unfolding answer count filled
   leaves-written {o} {ws} {n} e k h w =
       rw e record {
-        answered = ap Accepted k;
+        answered = ap Ok k;
         fits = h;
         wrote = ap (λ (l : Words). l ++ zeros (room - n)) w ∙ ap (λ (m : ℕ). ws ++ zeros (room - m)) k;
       }
@@ -60,7 +59,7 @@ module _ (room : ℕ) (t : Tree) where
 
 -- a plain residual has one word
 module _ (value : Bool) (out : Words) where
-  pub plain-no-room : length out < 1 → Leaves (write (length out) (plain value)) (length out) out (Refused Room 0)
+  pub plain-no-room : length out < 1 → Leaves (write (length out) (plain value)) (length out) out (Err (refused_at Room 0))
   unfolding encode
   plain-no-room h = leaves-refused (length out) out (write-refused (length out) (plain value) (omega arith))
 
@@ -69,7 +68,7 @@ module _ (value : Bool) (out : Words) where
       z ≡ pos (cond value 1 0) →
       n ≡ 1 →
       1 ≤ length out →
-      Leaves (write (length out) (plain value)) (length out) (set out 0 z) (Accepted n)
+      Leaves (write (length out) (plain value)) (length out) (set out 0 z) (Ok n)
   unfolding encode
   plain-written z n e k h =
       rw k
@@ -86,7 +85,7 @@ module _ (places need : ℕ) (t : Tree) (out : Words) where
   unfolding settled ask ◌>>=◌
   enough e = rw (le-leb need places (ltb-false _ _ e)) refl
 
-  pub settle-short : Walked places need t out Short → Leaves (settled places need (length out) t) (length out) out (Refused Scratch 0)
+  pub settle-short : Walked places need t out Short → Leaves (settled places need (length out) t) (length out) out (Err (refused_at Scratch 0))
   unfolding settled ask ◌>>=◌
   settle-short w =
       let no : leb need places ≡ false = lt-leb need places (ltb-true _ _ (told-short places need (lendable (length out)) t w.is)) in
@@ -101,12 +100,12 @@ module _ (places need : ℕ) (t : Tree) (out : Words) where
       let (some, is) = told-plain places need (lendable (length out)) t value w.is in
       subst (λ (o : Outcome Words). Leaves o (length out) after r) (sym (enough some ∙ ap (write (length out)) is)) l
 
-  pub settle-long : Walked places need t out Long → Leaves (settled places need (length out) t) (length out) out (Refused Room 0)
+  pub settle-long : Walked places need t out Long → Leaves (settled places need (length out) t) (length out) out (Err (refused_at Room 0))
   settle-long w =
       let (some, more) = told-long places need (lendable (length out)) t w.is in
       leaves-refused (length out) out (enough some ∙ write-refused (length out) t more.1)
 
-  pub settle-part : (n : ℕ) → Walked places need t out (Part n) → Leaves (settled places need (length out) t) (length out) out (Accepted n)
+  pub settle-part : (n : ℕ) → Walked places need t out (Part n) → Leaves (settled places need (length out) t) (length out) out (Ok n)
   settle-part n w =
       let (some, more) = told_part places need (lendable (length out)) t n w.is in
       leaves-written (length out) out (enough some ∙ write-passed (length out) t (omega (arith, more.1, more.2))) more.1 (omega (arith, more.2)) (w.words n refl)

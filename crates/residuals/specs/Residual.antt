@@ -1,9 +1,8 @@
 -- What the parts of the call reduce say on the way to it.
 use Rattle.std.specs.Prelude.{ℕ, ◌-◌, ◌≤◌, min, ◌≡◌, [], ◌++◌, length, take, leb}
-use Rattle.model.specs.declared.Answer.{Answer}
 use Rattle.model.specs.declared.Refusal.TheVariants.{Scratch}
 use Rattle.model.specs.Words.{Words, policy_limit}
-use Rattle.model.specs.Answer.{Outcome, ask, answer, count, ◌>>=◌}
+use Rattle.model.specs.Answer.{Answer, Outcome, ask, answer, count, ◌>>=◌}
 use Rattle.model.specs.Tree.{Tree, encode}
 use Rattle.model.specs.Level.{formula}
 use Rattle.model.specs.Log.{rows}

@@ -8,12 +8,11 @@ use mathlib.Core.List.{◌++◌}
 use lib.ListN.{length, take, replicate}
 use lib.Dec.{leb}
 use borrow.Author.Tests.{leb-true}
-use Rattle.model.specs.declared.Answer.{Answer}
-use Rattle.model.specs.declared.Answer.TheVariants.{Refused}
+use Rattle.std.specs.Prelude.{Err}
 use Rattle.model.specs.declared.Refusal.{Refusal}
 use Rattle.model.specs.declared.Refusal.TheVariants.{Room}
 use Rattle.model.specs.Bytes.{Text}
-use Rattle.model.specs.Answer.{AnswersAs, Outcome, passed, refused, ask, answer, count, ◌>>=◌}
+use Rattle.model.specs.Answer.{Answer, AnswersAs, Outcome, passed, refused, ask, answer, count, ◌>>=◌, refused_at}
 use Rattle.model.specs.Calls.{in_room, filled_text, text_result}
 use Rattle.laws.specs.Answer.{answers}
 use Rattle.text.specs.declared.writing.Put.{Put}
@@ -24,7 +23,7 @@ use Rattle.text.specs.Written.{written, LeavesText}
 module _ (o : Outcome Text) where
   -- a question was refused
   pub text-refused :
-      (room : ℕ) (after : Text) {a : Answer} {q : Refusal} {p : ℕ} → o ≡ refused q p → a ≡ Refused q p → LeavesText o room after a
+      (room : ℕ) (after : Text) {a : Answer} {q : Refusal} {p : ℕ} → o ≡ refused q p → a ≡ Err (refused_at q p) → LeavesText o room after a
   unfolding answer count filled_text
   text-refused room after e f =
       subst (LeavesText o room after) (sym f)

@@ -1,18 +1,17 @@
 -- The answer of a call that writes a text, and what it leaves.
 use Rattle.std.specs.Prelude.{ℕ, ◌-◌, ◌≤◌, ◌≡◌, ◌++◌, length, take, replicate}
-use Rattle.model.specs.declared.Answer.{Answer}
-use Rattle.model.specs.declared.Answer.TheVariants.{Accepted, Refused}
+use Rattle.std.specs.Prelude.{Ok, Err}
 use Rattle.model.specs.declared.Refusal.TheVariants.{Room}
 use Rattle.model.specs.Bytes.{Text}
-use Rattle.model.specs.Answer.{Outcome, answer, count}
+use Rattle.model.specs.Answer.{Answer, Outcome, answer, count, refused_at}
 use Rattle.model.specs.Calls.{filled_text}
 use Rattle.text.specs.declared.writing.Put.{Put}
 use Rattle.text.specs.declared.writing.Put.TheVariants.{Full, At}
 
 -- the answer about a text that was written, or found too little room
 unfoldable pub written : Put → Answer
-written Full = Refused Room 0
-written (At n) = Accepted n
+written Full = Err (refused_at Room 0)
+written (At n) = Ok n
 
 -- an answer, and the bytes that it counts, at the front of so many, are what came of the questions
 pub record LeavesText (o : Outcome Text) (room : ℕ) (after : Text) (r : Answer) : Type 0 where

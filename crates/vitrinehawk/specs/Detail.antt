@@ -1,8 +1,8 @@
 -- The second number of an answer for other languages: the count, or the place if refused.
+use Rattle.model.specs.Answer.{Answer, refused_at}
 use Rattle.std.specs.Prelude.{ℕ}
-use Rattle.model.specs.declared.Answer.{Answer}
-use Rattle.model.specs.declared.Answer.TheVariants.{Accepted, Refused}
+use Rattle.std.specs.Prelude.{Ok, Err}
 
 unfoldable pub detailed : Answer → ℕ
-detailed (Accepted n) = n
-detailed (Refused r p) = p
+detailed (Ok n) = n
+detailed (Err (refused_at r p)) = p

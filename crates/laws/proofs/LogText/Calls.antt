@@ -1,7 +1,7 @@
 -- The two calls on texts: what is written is read back, and what is read, written and read again is the same.
 use Rattle.std.specs.Prelude.{ℕ, ◌*◌, ◌-◌, ◌≤◌, ◌≡◌, true, [], ◌++◌, length, take}
 use Rattle.std.proofs.Common.{arith, sym, ap, ◌∙◌, subst, take_at}
-use Rattle.model.specs.declared.Answer.TheVariants.{Accepted}
+use Rattle.std.specs.Prelude.{Ok}
 use Rattle.model.specs.Words.{Words, word_sized}
 use Rattle.model.specs.Lists.{all}
 use Rattle.model.specs.Answer.{Outcome, passed, answer}
@@ -70,14 +70,14 @@ reading-result :
     (table : Words) (text : Text) (buffer : ℕ) (log : Words) →
     ask_reading table text buffer ≡ passed log →
     read_log_call table text buffer
-    ≡ record { answer = Accepted (row_count log); buffer = log ++ zeros (buffer - length log); scratch = [] }
+    ≡ record { answer = Ok (row_count log); buffer = log ++ zeros (buffer - length log); scratch = [] }
 unfolding read_log_call answer filled
 reading-result table text buffer log e = rw e
 
 -- the text that an accepted writing leaves
 writing_text :
     (table log : Words) (room n : ℕ) →
-    (write_log_call table log room).answer ≡ Accepted n →
+    (write_log_call table log room).answer ≡ Ok n →
     WrittenText table log (take n (write_log_call table log room).buffer)
 unfolding text_result write_log_call filled_text
 writing_text table log room n e =
@@ -89,10 +89,10 @@ writing_text table log room n e =
 pub write_read :
     (table log : Words) (room buffer n : ℕ) →
     all word_sized log ≡ true →
-    (write_log_call table log room).answer ≡ Accepted n →
+    (write_log_call table log room).answer ≡ Ok n →
     length log ≤ buffer →
     read_log_call table (take n (write_log_call table log room).buffer) buffer
-    ≡ record { answer = Accepted (row_count log); buffer = log ++ zeros (buffer - length log); scratch = [] }
+    ≡ record { answer = Ok (row_count log); buffer = log ++ zeros (buffer - length log); scratch = [] }
 write_read table log room buffer n sized e l =
     let w = writing_text table log room n e in
     rw (← w.is)
@@ -104,7 +104,7 @@ pub write-accepted :
     ask_table table ≡ passed tt →
     ask_log table log ≡ passed tt →
     length (log_text table log) ≤ room →
-    (write_log_call table log room).answer ≡ Accepted (length (log_text table log))
+    (write_log_call table log room).answer ≡ Ok (length (log_text table log))
 unfolding text_result write_log_call ask_writing answer
 write-accepted table log room ok e l =
     ap (answer length) (pass_then _ ok (pass_then _ e (fit_pass room (log_text table log) l)))
@@ -112,7 +112,7 @@ write-accepted table log room ok e l =
 -- the log that an accepted reading leaves
 reading-log :
     (table : Words) (text : Text) (buffer n : ℕ) →
-    (read_log_call table text buffer).answer ≡ Accepted n →
+    (read_log_call table text buffer).answer ≡ Ok n →
     (log : Words)
     × (ask_reading table text buffer ≡ passed log)
     × (take (8 * n) (read_log_call table text buffer).buffer ≡ log)
@@ -126,10 +126,10 @@ reading-log table text buffer n e =
 -- a log that is read is written, in room enough for its text
 pub read-write :
     (table : Words) (text : Text) (buffer room n : ℕ) →
-    (read_log_call table text buffer).answer ≡ Accepted n →
+    (read_log_call table text buffer).answer ≡ Ok n →
     let log = take (8 * n) (read_log_call table text buffer).buffer in
     length (log_text table log) ≤ room →
-    (write_log_call table log room).answer ≡ Accepted (length (log_text table log))
+    (write_log_call table log room).answer ≡ Ok (length (log_text table log))
 read-write table text buffer room n e l =
     let (log, passes, is) = reading-log table text buffer n e in
     let h = reading-passed table text buffer log passes in
@@ -138,9 +138,9 @@ read-write table text buffer room n e l =
 -- what is read, written and read again gives the same result
 pub read-write-read :
     (table : Words) (text : Text) (buffer room n k : ℕ) →
-    (read_log_call table text buffer).answer ≡ Accepted n →
+    (read_log_call table text buffer).answer ≡ Ok n →
     let log = take (8 * n) (read_log_call table text buffer).buffer in
-    (write_log_call table log room).answer ≡ Accepted k →
+    (write_log_call table log room).answer ≡ Ok k →
     read_log_call table (take k (write_log_call table log room).buffer) buffer ≡ read_log_call table text buffer
 read-write-read table text buffer room n k e w =
     let (log, passes, is) = reading-log table text buffer n e in

@@ -2,12 +2,12 @@
 use Rattle.std.specs.Prelude.{ℕ, suc, ◌+◌, ◌≤◌, ◌<◌, max, ◌≡◌, refl, ◌≢◌, Bool, true, false, length}
 use Rattle.std.proofs.Common.{arith, subst}
 use mathlib.Core.List.{List, [], ◌∷◌, Memᴰ}
-use Rattle.model.specs.declared.Answer.TheVariants.{Refused}
+use Rattle.std.specs.Prelude.{Err}
 use Rattle.model.specs.declared.Refusal.{Refusal}
 use Rattle.model.specs.declared.Refusal.TheVariants.{Table, LogLength, Row, Repeat, Room, Record}
 use Rattle.model.specs.Words.{Words}
 use Rattle.model.specs.Lists.{span}
-use Rattle.model.specs.Answer.{Outcome, question, refused, passed, ask, answer, in_turn, ◌>>=◌}
+use Rattle.model.specs.Answer.{Outcome, question, refused, passed, ask, answer, in_turn, ◌>>=◌, refused_at}
 use Rattle.model.specs.Table.{predicates, good_record, ask_table}
 use Rattle.model.specs.Log.{row_count, row_at, good_row, ask_log}
 use Rattle.model.specs.Bytes.{Text}
@@ -52,7 +52,7 @@ asking-within table text buffer =
 -- the place of a refused reading is at most the row limit or the text's length
 pub reading-within :
     (table : Words) (text : Text) (buffer : ℕ) (r : Refusal) (p : ℕ) →
-    (read_log_call table text buffer).answer ≡ Refused r p →
+    (read_log_call table text buffer).answer ≡ Err (refused_at r p) →
     p ≤ max 4096 (length text)
 unfolding read_log_call
 reading-within table text buffer r p e =
@@ -134,7 +134,7 @@ asking-other table text buffer =
     other-fit buffer log
 
 -- a reading is never refused by question 9: 14 has asked it
-pub never-row : (table : Words) (text : Text) (buffer p : ℕ) → (read_log_call table text buffer).answer ≡ Refused Row p → ⊥
+pub never-row : (table : Words) (text : Text) (buffer p : ℕ) → (read_log_call table text buffer).answer ≡ Err (refused_at Row p) → ⊥
 unfolding read_log_call question
 never-row table text buffer p e =
     subst Other (answer-refused row_count (ask_reading table text buffer) Row p e) (asking-other table text buffer) refl

@@ -6,7 +6,7 @@ use Rattle.std.proofs.Math.Path.{refl, ap}
 use Rattle.std.proofs.Math.Logic.{⊎_elim}
 use Rattle.std.proofs.Math.Logic.Iff
 use mathlib.Core.List.{List, [], ◌∷◌, ◌++◌}
-use Rattle.model.specs.declared.Answer.TheVariants.{Accepted}
+use Rattle.std.specs.Prelude.{Ok}
 use Rattle.model.specs.Words.{Words}
 use Rattle.model.specs.Answer.{passed, number, count}
 use Rattle.model.specs.Table.{ask_table}
@@ -111,7 +111,7 @@ module _ (table log : Words) (logged : ask_log table log ≡ passed tt) where
         (calls : List Call) →
         (later : Tree)
         × (ask_policy table (held table log first calls) ≡ passed later)
-        × (check_policy table (held table log first calls) ≡ Accepted (greatest later formula 0))
+        × (check_policy table (held table log first calls) ≡ Ok (greatest later formula 0))
         × (greatest later formula 0 ≤ greatest tree formula 0)
     held-checked calls =
         let (t, is, less) = held-tree calls first tree e in

@@ -5,7 +5,7 @@ use Rattle.std.proofs.Common.{◌∙◌, take_at}
 use Rattle.std.proofs.Math.Path.{refl, ap}
 use Rattle.std.proofs.lemmas.Bool.{false≢true}
 use mathlib.Core.List.{[]}
-use Rattle.model.specs.declared.Answer.TheVariants.{Accepted}
+use Rattle.std.specs.Prelude.{Ok}
 use Rattle.model.specs.declared.Refusal.{Refusal}
 use Rattle.model.specs.declared.Refusal.TheVariants.{Table, PolicyLength, Shape, Level, Predicate, Variable, Mode, LogLength, Row, Repeat}
 use Rattle.model.specs.declared.Refusal.TheVariants.{Scratch, Room, Csv, Record, Tptp}
@@ -50,7 +50,7 @@ accepted-passed size (refused r p) e = clash e (asked r)
 accepted-passed size (passed a) e = (a, refl)
 
 -- a policy that passed is accepted, and its count is its greatest level
-pub checked : (table policy : Words) (tree : Tree) → ask_policy table policy ≡ passed tree → check_policy table policy ≡ Accepted (greatest tree formula 0)
+pub checked : (table policy : Words) (tree : Tree) → ask_policy table policy ≡ passed tree → check_policy table policy ≡ Ok (greatest tree formula 0)
 unfolding check_policy answer
 checked table policy tree e = rw e
 

@@ -1,7 +1,7 @@
 -- The two calls on the texts of policies: what is written is read back, and what is read, written and read again is the same.
 use Rattle.std.specs.Prelude.{ℕ, ◌-◌, ◌≤◌, ◌≡◌, true, [], ◌++◌, length, take}
 use Rattle.std.proofs.Common.{sym, ap, ◌∙◌, subst, take_at}
-use Rattle.model.specs.declared.Answer.TheVariants.{Accepted}
+use Rattle.std.specs.Prelude.{Ok}
 use Rattle.model.specs.declared.Refusal.TheVariants.{PolicyLength}
 use Rattle.model.specs.Words.{Words, word_sized}
 use Rattle.model.specs.Lists.{all}
@@ -40,7 +40,7 @@ writing_passed table policy room t e =
 -- the text that an accepted writing leaves
 writing_text :
     (table policy : Words) (room n : ℕ) →
-    (write_policy_call table policy room).answer ≡ Accepted n →
+    (write_policy_call table policy room).answer ≡ Ok n →
     Written table policy (take n (write_policy_call table policy room).buffer)
 unfolding text_result write_policy_call filled_text
 writing_text table policy room n e =
@@ -68,7 +68,7 @@ reading-result :
     (table : Words) (text : Text) (buffer : ℕ) (policy : Words) →
     ask_policy_reading table text buffer ≡ passed policy →
     read_policy_call table text buffer
-    ≡ record { answer = Accepted (length policy); buffer = policy ++ zeros (buffer - length policy); scratch = [] }
+    ≡ record { answer = Ok (length policy); buffer = policy ++ zeros (buffer - length policy); scratch = [] }
 unfolding read_policy_call result answer filled zeros
 reading-result table text buffer policy e = rw e
 
@@ -76,10 +76,10 @@ reading-result table text buffer policy e = rw e
 pub write_read :
     (table policy : Words) (room buffer n : ℕ) →
     all word_sized policy ≡ true →
-    (write_policy_call table policy room).answer ≡ Accepted n →
+    (write_policy_call table policy room).answer ≡ Ok n →
     length policy ≤ buffer →
     read_policy_call table (take n (write_policy_call table policy room).buffer) buffer
-    ≡ record { answer = Accepted (length policy); buffer = policy ++ zeros (buffer - length policy); scratch = [] }
+    ≡ record { answer = Ok (length policy); buffer = policy ++ zeros (buffer - length policy); scratch = [] }
 write_read table policy room buffer n sized e l =
     let (tree, accepted, is) = writing_text table policy room n e in
     rw (← is)
@@ -90,7 +90,7 @@ pub write-accepted :
     (table policy : Words) (tree : Tree) (room : ℕ) →
     ask_policy table policy ≡ passed tree →
     length (policy_text tree) ≤ room →
-    (write_policy_call table policy room).answer ≡ Accepted (length (policy_text tree))
+    (write_policy_call table policy room).answer ≡ Ok (length (policy_text tree))
 unfolding text_result write_policy_call ask_policy_writing answer
 write-accepted table policy tree room e l = ap (answer length) (pass_then _ e (fit_pass room (policy_text tree) l))
 
@@ -139,7 +139,7 @@ reading-passed table text buffer policy e =
 -- the policy that an accepted reading leaves
 reading-policy :
     (table : Words) (text : Text) (buffer n : ℕ) →
-    (read_policy_call table text buffer).answer ≡ Accepted n →
+    (read_policy_call table text buffer).answer ≡ Ok n →
     (policy : Words)
     × (ask_policy_reading table text buffer ≡ passed policy)
     × (take n (read_policy_call table text buffer).buffer ≡ policy)
@@ -151,12 +151,12 @@ reading-policy table text buffer n e =
 -- a policy that is read is accepted, its tree being the one that the text spells, and is written, in room enough for its text
 pub read-write :
     (table : Words) (text : Text) (buffer room n : ℕ) →
-    (read_policy_call table text buffer).answer ≡ Accepted n →
+    (read_policy_call table text buffer).answer ≡ Ok n →
     let policy = take n (read_policy_call table text buffer).buffer in
     (tree : Tree)
     × (read_text text ≡ passed tree)
     × (ask_policy table policy ≡ passed tree)
-    × (length (policy_text tree) ≤ room → (write_policy_call table policy room).answer ≡ Accepted (length (policy_text tree)))
+    × (length (policy_text tree) ≤ room → (write_policy_call table policy room).answer ≡ Ok (length (policy_text tree)))
 read-write table text buffer room n e =
     let (policy, passes, is) = reading-policy table text buffer n e in
     let h = reading-passed table text buffer policy passes in
@@ -165,9 +165,9 @@ read-write table text buffer room n e =
 -- what is read, written and read again gives the same result
 pub read-write-read :
     (table : Words) (text : Text) (buffer room n k : ℕ) →
-    (read_policy_call table text buffer).answer ≡ Accepted n →
+    (read_policy_call table text buffer).answer ≡ Ok n →
     let policy = take n (read_policy_call table text buffer).buffer in
-    (write_policy_call table policy room).answer ≡ Accepted k →
+    (write_policy_call table policy room).answer ≡ Ok k →
     read_policy_call table (take k (write_policy_call table policy room).buffer) buffer ≡ read_policy_call table text buffer
 read-write-read table text buffer room n k e w =
     let (policy, passes, is) = reading-policy table text buffer n e in

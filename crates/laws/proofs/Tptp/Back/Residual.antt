@@ -1,7 +1,7 @@
 -- A residual that is written as text is read back: its words have 32 bits, since those of the policy and of the log have.
 use Rattle.std.specs.Prelude.{ℕ, ◌*◌, ◌-◌, ◌/◌, ◌≤◌, ◌≡◌, true, [], ◌++◌, length, take, drop, leb}
 use Rattle.std.proofs.Common.{sym, ap, ◌∙◌, take_at}
-use Rattle.model.specs.declared.Answer.TheVariants.{Accepted}
+use Rattle.std.specs.Prelude.{Ok}
 use Rattle.model.specs.declared.Refusal.TheVariants.{Scratch}
 use Rattle.model.specs.Words.{Words, word_sized, place_words, row_words}
 use Rattle.model.specs.Lists.{span, all}
@@ -36,7 +36,7 @@ record Left (table policy log residual : Words) (n : ℕ) : Type 0 where
 
 reduction_left :
     (table policy log : Words) (scratch buffer n : ℕ) →
-    (reduce_call table policy log scratch buffer).answer ≡ Accepted n →
+    (reduce_call table policy log scratch buffer).answer ≡ Ok n →
     Left table policy log (take n (reduce_call table policy log scratch buffer).buffer) n
 unfolding reduce_call ask_reduction ask_residual result filled
 reduction_left table policy log scratch buffer n e =
@@ -59,11 +59,11 @@ reduction_left table policy log scratch buffer n e =
 -- a residual is accepted as a policy, and is written, in room enough for its text
 pub residual-written :
     (table policy log : Words) (scratch buffer room n : ℕ) →
-    (reduce_call table policy log scratch buffer).answer ≡ Accepted n →
+    (reduce_call table policy log scratch buffer).answer ≡ Ok n →
     let residual = take n (reduce_call table policy log scratch buffer).buffer in
     (tree : Tree)
     × (ask_policy table residual ≡ passed tree)
-    × (length (policy_text tree) ≤ room → (write_policy_call table residual room).answer ≡ Accepted (length (policy_text tree)))
+    × (length (policy_text tree) ≤ room → (write_policy_call table residual room).answer ≡ Ok (length (policy_text tree)))
 residual-written table policy log scratch buffer room n e =
     let h = reduction_left table policy log scratch buffer n e in
     (h.tree, h.accepted, write-accepted table _ h.tree room h.accepted)
@@ -73,12 +73,12 @@ pub residual_back :
     (table policy log : Words) (scratch buffer room again n k : ℕ) →
     all word_sized policy ≡ true →
     all word_sized log ≡ true →
-    (reduce_call table policy log scratch buffer).answer ≡ Accepted n →
+    (reduce_call table policy log scratch buffer).answer ≡ Ok n →
     let residual = take n (reduce_call table policy log scratch buffer).buffer in
-    (write_policy_call table residual room).answer ≡ Accepted k →
+    (write_policy_call table residual room).answer ≡ Ok k →
     n ≤ again →
     read_policy_call table (take k (write_policy_call table residual room).buffer) again
-    ≡ record { answer = Accepted n; buffer = residual ++ zeros (again - n); scratch = [] }
+    ≡ record { answer = Ok n; buffer = residual ++ zeros (again - n); scratch = [] }
 residual_back table policy log scratch buffer room again n k words rowed e w l =
     let residual = take n (reduce_call table policy log scratch buffer).buffer in
     let h = reduction_left table policy log scratch buffer n e in

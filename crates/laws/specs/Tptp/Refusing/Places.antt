@@ -1,10 +1,10 @@
 -- Places of a refused reading of a policy's text: a byte's, or a word's of the policy.
 use Rattle.std.specs.Prelude.{ℕ, ◌≤◌, max, ◌≡◌, refl, length}
 use Rattle.std.proofs.Common.{arith, subst, ⊎_elim}
-use Rattle.model.specs.declared.Answer.TheVariants.{Refused}
+use Rattle.std.specs.Prelude.{Err}
 use Rattle.model.specs.declared.Refusal.{Refusal}
 use Rattle.model.specs.Words.{Words, policy_limit}
-use Rattle.model.specs.Answer.{Outcome, refused, passed}
+use Rattle.model.specs.Answer.{Outcome, refused, passed, refused_at}
 use Rattle.model.specs.Table.{ask_table}
 use Rattle.model.specs.Tree.{Tree, encode}
 use Rattle.model.specs.Bytes.{Text}
@@ -44,7 +44,7 @@ asking-within table text buffer =
 -- the place of a refused reading is at most the limit of a policy's words or the text's length
 pub reading-within :
     (table : Words) (text : Text) (buffer : ℕ) (r : Refusal) (p : ℕ) →
-    (read_policy_call table text buffer).answer ≡ Refused r p →
+    (read_policy_call table text buffer).answer ≡ Err (refused_at r p) →
     p ≤ max policy_limit (length text)
 unfolding read_policy_call result
 reading-within table text buffer r p e =
