@@ -4,8 +4,7 @@ ghost use Rattle.model.specs.Words as W;
 ghost use Rattle.model.specs.Table as T;
 ghost use Rattle.tables.specs.Checked.{outcome};
 
-use crate::Checked;
-use model::Refusal;
+use model::{Refusal, Refused};
 
 // The words of a record.
 const RECORD_WORDS: usize = 3;
@@ -76,25 +75,23 @@ fn good_record(table: &[i32], p: usize) -> bool
 }
 
 // Question 1.
-pub fn check_table(table: &[i32]) -> Checked
+pub fn check_table(table: &[i32]) -> Result<(), Refused>
     ensures { outcome result ≡ T.ask_table table.now }
 {
     let n = table.len() / RECORD_WORDS;
     if table.len() % RECORD_WORDS != 0 {
-        return Checked::Refused(Refusal::Table, 0);
+        return Err(Refused(Refusal::Table, 0));
     }
     if n < 1 {
-        return Checked::Refused(Refusal::Table, 0);
+        return Err(Refused(Refusal::Table, 0));
     }
     if PREDICATE_LIMIT < n {
-        return Checked::Refused(Refusal::Table, 0);
+        return Err(Refused(Refusal::Table, 0));
     }
-    let mut p = 0;
-    while p < n {
+    for p in 0..n {
         if !good_record(table, p) {
-            return Checked::Refused(Refusal::Table, p);
+            return Err(Refused(Refusal::Table, p));
         }
-        p += 1;
     }
-    Checked::Passed
+    Ok(())
 }

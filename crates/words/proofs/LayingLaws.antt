@@ -1,13 +1,15 @@
 -- Laws of words laid over others, and a buffer that is filled so part by part.
-use Prim.Native.Nat.{ℕ, ◌+◌, ◌≤◌, ◌<◌}
+use Prim.Native.Nat.{ℕ, ◌+◌, ◌-◌, ◌≤◌, ◌<◌}
 use native.Mathlib.Omega.{arith}
 use native.Mathlib.Numerals.{add-one}
 use mathlib.Core.Path.{◌≡◌, refl, sym, ap, ap₂, ◌∙◌}
 use mathlib.Core.List.{[], ◌∷◌, ◌++◌, append_assoc, append-nil}
-use lib.ListN.{length, take, drop, set, length-append}
-use lib.Seq.{take_at, drop_at, drop-drop, take-length, length-take-le, length-paste, paste-zero, append_snoc, set_split}
+use lib.ListN.{length, take, drop, set, length-append, length-drop}
+use lib.Seq.{paste, take_at, drop_at, drop-drop, take-length, length-take-le, length-paste, paste-zero, append_snoc, set_split}
+use borrow.Rule.Slice.PartMut.{put_mid}
 use lib.IntN.{ℤ}
 use Rattle.model.specs.Words.{Words}
+use Rattle.std.specs.List.{copy_within}
 use Rattle.words.specs.Laying.{laid}
 
 -- the length stays
@@ -43,6 +45,22 @@ laid-laid old to a b h =
     let both : to + length (a ++ b) ≡ n + m = omega (arith, length-append a b) in
     ap₂ (λ (l r : Words). l ++ b ++ r) (take_at front (drop n old) n long) behind
     ∙ ap₂ (λ (l : Words) (k : ℕ). l ++ drop k old) (append_assoc (take to old) a b) (sym both)
+
+-- a range of the old words written over: as the part of a slice, and by others of the old words
+pub laid-part : (old : Words) (to k : ℕ) (part : Words) → k ≡ length part → put_mid to k old part ≡ laid old to part
+unfolding laid
+laid-part old to k part e =
+    ap (λ (l : Words). take to old ++ (part ++ l)) (drop-drop k to old)
+    ∙ sym (append_assoc (take to old) part (drop (to + k) old))
+    ∙ ap (λ (n : ℕ). take to old ++ part ++ drop (to + n) old) e
+
+pub laid-copied :
+    (old : Words) (from end n to : ℕ) → end ≡ from + n → end ≤ length old → copy_within old from end to ≡ laid old to (take n (drop from old))
+unfolding laid
+laid-copied old from end n to e h =
+    let k : end - from ≡ n = omega arith in
+    let long : length (take n (drop from old)) ≡ n = length-take-le n (drop from old) (omega (arith, length-drop from old)) in
+    ap (paste old to (drop from old)) k ∙ ap (λ (m : ℕ). take to old ++ take n (drop from old) ++ drop (to + m) old) (sym long)
 
 -- a word stored
 pub laid_word : (old : Words) (i : ℕ) (z : ℤ) → i < length old → set old i z ≡ laid old i (z ∷ [])

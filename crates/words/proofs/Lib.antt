@@ -2,6 +2,5 @@
 pub mod Signed
 pub mod PartLaws
 pub mod LayingLaws
-pub mod CopyingLaws
 pub mod MovingLaws
 pub mod ClearingLaws

@@ -1,6 +1,6 @@
 -- `tables::table::check_table` meets its contract. The loop's invariant: the records passed are good, so question 1 comes to
 -- the questions at those left. The measure is their number.
-use Prim.Native.Nat.{ℕ, ◌-◌, ◌/◌, ◌%◌}
+use Prim.Native.Nat.{ℕ, ◌/◌, ◌%◌}
 use native.Mathlib.Nat.{sub-zero}
 use native.Mathlib.Omega.{arith}
 use mathlib.Core.Path.{◌≡◌, sym, ap, ◌∙◌}

@@ -15,6 +15,3 @@ record_question table p = ask (good_record table p) Table p
 
 abbrev pub invariant-loop-p : goal.invariant-loop-p
 invariant-loop-p l = (l.n ≤ 256) × (l.p ≤ l.n) × (ask_table l.table ≡ in_turn (record_question l.table) (span l.p (l.n - l.p)))
-
-abbrev pub decreases-loop-p : goal.decreases-loop-p
-decreases-loop-p l = l.n - l.p
