@@ -81,14 +81,6 @@ module _ (table words log : Words) (above scope n at : ℕ) (room : Room) (befor
           W.any_next table words log above scope n at room before roomy i next handed scratch inv long h after m child moved is
 
       -- no child is left
-      pub join-numbers : (every : Bool) → Passes every → (handed.used ≤ handed.limit) × (room.base ≤ handed.base)
-      join-numbers true inv =
-          let (ts, end, e, s) = here in
-          let (es, k) = holds in
-          let far = (inv es k ts end s e).3 in
-          (far.fits, far.base)
-      join-numbers false inv = W.any-numbers table words log above scope n at room before roomy i next handed scratch inv long here holds
-
       pub join_close :
           (every : Bool) → Passes every → n ≤ i → 1 ≤ n → i ≤ n → (r : Option Made) → Closes every room handed next r →
           (es : List Environment) → Holding room before es → MakesJoin every table words log above scope n at es room before scratch r

@@ -13,7 +13,7 @@ use Rattle.listing.specs.declared.restriction.Made.{Made}
 use Rattle.std.specs.Prelude.{Option, None}
 use Rattle.environments.specs.Lists.{Released}
 use Rattle.environments.proofs.ListsLaws.{outside-front}
-use Rattle.listing.specs.Restrictions.{Stands, Roomy, Holding, ListStands, MakesTree, counted}
+use Rattle.listing.specs.Restrictions.{Stands, Holding, ListStands, MakesTree, counted}
 
 module _ (table log : Words) (scope : ℕ) (c : Tree) (es : List Environment) (room : Room) (before after : Words) (next : ℕ) where
   abbrev made : List Environment
@@ -34,17 +34,6 @@ module _ (table log : Words) (scope : ℕ) (c : Tree) (es : List Environment) (r
   module _ (to : Room) (x : ℕ) (m : MakesTree table log c (scope + 1) next es room before after (Stands to x)) where
     stood : ListStands made cost next room after to x
     stood = m.tells
-
-    -- the child's list is within scratch
-    pub some-inside : Roomy room before → (to.from + to.count ≤ to.limit) × (to.limit ≡ room.limit) × (to.used ≤ to.limit)
-    some-inside roomy =
-        let b = roomy.counted in
-        let c1 = stood.counted in
-        let c2 = stood.free in
-        let c3 = stood.high in
-        let c4 = stood.fits in
-        let c5 = stood.limit in
-        (omega arith, c5, omega arith)
 
     pub some_holds : Holding to after made
     some_holds = stood.holds

@@ -115,10 +115,6 @@ module _ (table words log : Words) (above scope : ℕ) where
           let (none, ends) = none_left table words above scope next rest end s' (omega arith) in
           all_end table log scope ts es room before roomy rest i to scratch far long none (omega arith) fits e (sym ends)
 
-      -- the numbers of the room
-      pub all-numbers : HereAll table words restriction above scope n at → (es : List Environment) × Holding room before es → to.used ≤ to.limit
-      all-numbers (ts, end, e, s) (es, k) = (inv es k ts end s e).3.fits
-
     pub any-first : AnySoFar n at room before 0 at room before
     any-first es h ts end s e = (ts, s, omega arith, any-start table log scope ts es room before roomy h)
 
@@ -165,14 +161,6 @@ module _ (table words log : Words) (above scope : ℕ) where
           let (t, us, b, q, node, s'', l) = next_child next n i rest end left h s' in
           any-short table log scope ts es room before roomy k rest branch scratch far long t us q b after
           (child es (any-holds table log scope ts es room before roomy k rest branch scratch far long) t b node) end
-
-      pub any-numbers :
-          HereAll table words restriction above scope n at → (es : List Environment) × Holding room before es →
-          (branch.used ≤ branch.limit) × (room.base ≤ branch.base)
-      any-numbers (ts, end, e, s) (es, k) =
-          let far = (inv es k ts end s e).3 in
-          let b = far.base in
-          (far.fits, omega arith)
 
       pub any-more :
           n ≤ i → branch.limit - branch.used < branch.base - room.base →

@@ -80,7 +80,7 @@ impl Room {
     }
 }
 
-// The room with the list that a node made, and the index behind the node.
+// The room with the list that a node made, and the index behind the node. Where the places ran out there is none.
 #[derive(Clone, Copy)]
 pub struct Made {
     pub room: Room,
@@ -270,7 +270,7 @@ fn list_some(
         R.Holding room scratch.old es →
         R.MakesSome table.now words.now log.now above scope at es room scratch.old scratch.new result }
 {
-    let child = list(
+    let Made { room: to, next } = list(
         table,
         words,
         log,
@@ -281,14 +281,13 @@ fn list_some(
         scope + 1,
         at + 1,
     )?;
-    let to = child.room;
     lists::release_all(scratch, to.from, to.count, scope);
     if to.limit - to.used < to.count {
         return None;
     }
     Some(Made {
         room: to.counted(),
-        next: child.next,
+        next,
     })
 }
 

@@ -165,22 +165,22 @@ list_join-returns t c =
     a.scratch.now c.requires.5 c.requires.4 c.requires.6 l.counter l.next l.handed l.scratch
     l.auto.scratch a.every l.invariant c.loop-test.false c.requires.3 (omega arith) _ c.close.ensures
 
-pub list_some-returns-in_err-child : goal.list_some-returns-in_err-child
-list_some-returns-in_err-child t c = λ es h d next node.
+pub list_some-returns-in_err-to : goal.list_some-returns-in_err-to
+list_some-returns-in_err-to t c = λ es h d next node.
     let a = c.args in
-    some-short a.table.now a.log.now a.scope d es a.room a.scratch.now _ next (c.in_err-child.ensures es h d next node) c.from_residual.ensures
+    some-short a.table.now a.log.now a.scope d es a.room a.scratch.now _ next (c.in_err-to.ensures es h d next node) c.from_residual.ensures
 
 pub list_some-returns-then-to : goal.list_some-returns-then-to
 list_some-returns-then-to t c = λ es h d next node.
     let a = c.args in
-    let m = c.in_ok-child.ensures es h d next node in
+    let m = c.in_ok-to.ensures es h d next node in
     let made = some_holds a.table.now a.log.now a.scope d es a.room a.scratch.now _ next _ _ m in
     some-full a.table.now a.log.now a.scope d es a.room a.scratch.now _ next _ _ m _ (c.release_all.ensures _ made.listed made.long) c.if-to.true
 
 pub list_some-returns : goal.list_some-returns
 list_some-returns t c = λ es h d next node.
     let a = c.args in
-    let m = c.in_ok-child.ensures es h d next node in
+    let m = c.in_ok-to.ensures es h d next node in
     let made = some_holds a.table.now a.log.now a.scope d es a.room a.scratch.now _ next _ _ m in
     some_end a.table.now a.log.now a.scope d es a.room a.scratch.now _ next _ _ m _ (c.release_all.ensures _ made.listed made.long)
     c.if-to.false c.counted.ensures
