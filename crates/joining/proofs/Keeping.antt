@@ -7,7 +7,8 @@ use mathlib.Core.List.{◌∷◌, ◌++◌}
 use lib.ListN.{length, take, drop, get_or, length-append, length-drop}
 use lib.Seq.{take_at, drop_at, take-add, drop-drop, get_or-take, get_or-drop, length-take-le}
 use lib.Dec.{ltb}
-use denote.Enum.Bare.{sameb}
+use denote.Enum.Bare.{sameb, differs_false}
+use borrow.Author.Rules.{rules}
 use borrow.Author.Tests.{ltb-false}
 use lib.IntN.{ℤ, pos, nat_abs}
 use Rattle.model.specs.Words.{Words, word, value, equal}
@@ -19,7 +20,7 @@ use Rattle.joining.specs.declared.answer.Reduced.TheVariants.{Part}
 use Rattle.joining.specs.declared.join.Join.{Join}
 use Rattle.joining.specs.contracts.join.State.{the_type}
 use Rattle.joining.specs.declared.join.State.{State}
-use Rattle.joining.specs.declared.join.State.TheVariants.{Open, Long, Decided, Short}
+use Rattle.joining.specs.declared.join.State.TheVariants.{Open}
 use Rattle.joining.specs.Join.{Stand, Adding, added}
 use Rattle.joining.proofs.Parts as P
 use Rattle.joining.proofs.Telling.{told_part}
@@ -56,15 +57,9 @@ laid-front old to n part h e =
 pub few : (ps : Trees) (out : Words) (j : Join) → Stand ps out j → j.parts ≤ j.words
 few ps out j s = omega (arith, s.size, s.number, count-few ps)
 
--- a state that is not `Open`, as a test of the code says it
-pub no_longer_open : (s : State) → not (sameb the_type s Open) ≡ true → s ≡ Open → ⊥
-no_longer_open s e o = true≢false (sym e ∙ ap (λ (x : State). not (sameb the_type x Open)) o)
-
+-- the test of a state says that it is `Open`
 pub still_open : (s : State) → not (sameb the_type s Open) ≡ false → s ≡ Open
-still_open Open e = refl
-still_open Long e = absurd (true≢false e)
-still_open Decided e = absurd (true≢false e)
-still_open Short e = absurd (true≢false e)
+still_open s e = differs_false the_type (search rules) s Open e
 
 module _ {out : Words} {j : Join} {k : ℕ} (a : Adding out j (Part k)) where
   told_so : (ltb a.places a.n ≡ false) × (P.Solid a.t × (k ≡ length (encode a.t)) × (k ≤ length out - j.words))

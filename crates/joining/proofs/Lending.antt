@@ -1,8 +1,8 @@
 -- A child of a join is lent the words behind those of the parts: what the state says stays, since the parts are before them,
 -- and the child's answer is one that can be added.
-use Prim.Native.Nat.{ℕ, ◌-◌, ◌≤◌}
+use Prim.Native.Nat.{ℕ, ◌-◌, ◌≤◌, ◌<◌}
 use native.Mathlib.Omega.{arith}
-use mathlib.Core.Path.{◌≡◌, sym, ap, ◌∙◌}
+use mathlib.Core.Path.{◌≡◌, refl, sym, ap, ◌∙◌, subst}
 use mathlib.Core.Bool.{Bool}
 use mathlib.Core.List.{◌++◌, append-nil}
 use lib.ListN.{length, take, drop, length-append, length-drop}
@@ -66,6 +66,20 @@ joining_on {b} {ts} {need} {places} {out} {j} after l f s =
     go Long w = (w.0, w.1, record { more = omega (arith, l, w.2.more); present = w.2.present })
     go Decided w = w
     go Short w = w
+
+-- the places ran out exactly if the state says so
+module _ {b : Bool} {ts : Trees} {need places : ℕ} {out : Words} {j : Join} (s : Joining b ts need places out j) where
+  pub short-few : j.state ≡ Short → places < need
+  short-few e = subst (Tells b ts need places out j) e s.tells
+
+  pub few-short : places < need → j.state ≡ Short
+  few-short h = go j.state s.tells
+    where
+      go : (state : State) → Tells b ts need places out j state → state ≡ Short
+      go Open w = let few = w.0 in absurd (omega arith)
+      go Long w = let few = w.0 in absurd (omega arith)
+      go Decided w = let few = w.0 in absurd (omega arith)
+      go Short w = refl
 
 -- the child's answer, to be added
 abbrev pub adding :

@@ -2,11 +2,13 @@
 -- makes of the state is said in Keeping.
 use native.Mathlib.Omega.{arith}
 use mathlib.Core.Path.{sym, ◌∙◌}
+use Rattle.joining.specs.contracts.join.State.{the_type}
+use denote.Enum.Bare.{differs_true}
 use Rattle.joining.proofs.Keeping as K
 use Rattle.joining.proofs.join.Join.keep.Goals as goal
 
 pub returns-then-ne : goal.returns-then-ne
-returns-then-ne c = λ a. K.keep-closed a (K.no_longer_open c.args.self.state (sym c.ne.ensures ∙ c.if-ne.true))
+returns-then-ne c = λ a. K.keep-closed a (differs_true the_type _ _ (sym c.ne.ensures ∙ c.if-ne.true))
 
 pub overflow_sub-k : goal.overflow_sub-k
 overflow_sub-k c = K.header-there c.requires.1 (K.still_open _ (sym c.ne.ensures ∙ c.if-ne.false)) (sym c.is_join.ensures ∙ c.if-is_join.true)
