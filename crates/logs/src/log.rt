@@ -8,7 +8,6 @@ ghost use Rattle.tables.specs.Checked.{outcome};
 ghost use Rattle.logs.specs.Log.{ask_rows, repeats_at, unused_from, Checks};
 
 use chains::key::Kind;
-use chains::search::Found;
 use chains::{chain, search};
 use model::{ARGUMENTS_FROM, ROW_WORDS, Refusal};
 use tables::{Checked, table};
@@ -66,8 +65,8 @@ fn repeats(log: &[i32], keys: &[u16], links: &[u16], row: usize) -> bool
         &log[at + ARGUMENTS_FROM..at + ROW_WORDS],
     );
     match found {
-        Found::At(first) => first < row,
-        Found::Nothing => false,
+        Some(first) => first < row,
+        None => false,
     }
 }
 
