@@ -79,7 +79,10 @@ pub fn prepare(
     }
     environment.store(scratch, 0);
     let m = words::value(words, at + 2);
-    let made = restriction::list(
+    let Made {
+        room: to,
+        next: body,
+    } = restriction::list(
         table,
         words,
         log,
@@ -89,10 +92,7 @@ pub fn prepare(
         level,
         scope + v,
         at + 3 + v * m,
-    );
-    let Made::List(to, body) = made else {
-        return None;
-    };
+    )?;
     let count = choosing::instances(words, at + 3, m, v, scope, scratch, to.from, to.count);
     Some(Placed {
         from: to.from,
