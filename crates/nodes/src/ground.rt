@@ -78,10 +78,7 @@ pub fn instance(
 {
     let from = Environment::WORDS * place + scope;
     let mut bound = environment;
-    for i in 0..v {
-        let x = scope + i;
-        bound.numbers[x] = scratch[from + i];
-        bound.marks[x] = true;
-    }
+    bound.numbers[scope..scope + v].copy_from_slice(&scratch[from..from + v]);
+    bound.marks[scope..scope + v].fill(true);
     bound
 }
