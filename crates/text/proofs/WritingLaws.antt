@@ -1,6 +1,6 @@
 -- Laws for the writing of numbers: how many digits there are, and the digits one after another, from the last to the first.
-use Prim.Native.Nat.{ℕ, zero, suc, ◌+◌, ◌-◌, ◌/◌, ◌%◌, ◌^◌, ◌≤◌, ◌<◌}
-use native.Mathlib.Nat.{one-le-pow}
+use Prim.Native.Nat.{ℕ, zero, suc, min, max, ◌+◌, ◌-◌, ◌*◌, ◌/◌, ◌%◌, ◌^◌, ◌≤◌, ◌<◌}
+use native.Mathlib.Nat.{one-le-pow, pow-le-pow_right}
 use native.Mathlib.Numerals.{add-one}
 use native.Mathlib.Omega.{arith}
 use mathlib.Core.Path.{◌≡◌, refl, sym, ap, ap₂, ◌∙◌}
@@ -39,9 +39,22 @@ last-all (suc k) (suc r) n h low high =
     (ap (λ (t : Text). t ++ (nought + n % 10) ∷ [])
     (last-all k r (n / 10) (omega arith) (λ _. omega arith) (λ l. omega (arith, high (omega arith)))))
 
--- so a test for each power of ten finds how many there are
-pub width_of : (r n : ℕ) → r < 10 → (1 ≤ r → 10 ^ r ≤ n) → (suc r < 10 → n < 10 ^ suc r) → Width n (suc r)
-width_of r n h low high = record { some = omega arith; few = h; is = last-all 10 r n h low high }
+-- so the logarithm to 10, which is that of 1 for 0, tells how many there are
+pub width_log : (n m q r : ℕ) → m ≡ max n 1 → r ≡ min q 9 → 10 ^ q ≤ m → m < 10 * 10 ^ q → Width n (1 + r)
+width_log n m q r d e low high = record {
+  some = omega arith;
+  few = omega arith;
+  is =
+      last-all 10 r n (omega arith) (least r (omega arith)) most
+      ∙ ap (λ (k : ℕ). last_digits k n) (let k : suc r ≡ 1 + r = omega arith in k);
+}
+  where
+    least : (r : ℕ) → r ≤ q → 1 ≤ r → 10 ^ r ≤ n
+    least zero h k = absurd (omega arith)
+    least (suc r) h k = omega (arith, d, low, pow-le-pow_right {n = 10} (omega arith) h, one-le-pow r 10 (omega arith))
+
+    most : suc r < 10 → n < 10 ^ suc r
+    most h = let same : r ≡ q = omega (arith, e, h) in rw same (omega (arith, d, high))
 
 length_last : (k n : ℕ) → length (last_digits k n) ≡ k
 unfolding last_digits
