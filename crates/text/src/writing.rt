@@ -19,11 +19,16 @@ pub fn written(put: Option<usize>) -> Answer
     put.ok_or(Refused(Refusal::Room, 0))
 }
 
+// The powers of ten that a number of more than one digit reaches, as far as ten digits are written.
+const POWERS: [usize; 9] = [
+    10, 100, 1000, 10000, 100000, 1000000, 10000000, 100000000, 1000000000,
+];
+
 // How many digits a number has, of at most ten.
 fn width(n: usize) -> usize
     ensures { N.Width n result }
 {
-    1 + n.max(1).ilog10().min(9) as usize
+    1 + POWERS.iter().take_while(|power| **power <= n).count()
 }
 
 // The last digits of a number, from one index up to another: the last of them first.
