@@ -1,20 +1,19 @@
 -- Ground atoms and comparisons under the environment that binds the outer variables alone: the numbers of their terms, what
 -- the code asks of their words in any role, and their answers. The environment with one outer variable more is a bound one.
-use Prim.Native.Nat.{ℕ, ◌+◌, ◌*◌, ◌-◌, ◌^◌, ◌≤◌, ◌<◌}
+use Prim.Native.Nat.{ℕ, ◌+◌, ◌*◌, ◌^◌, ◌≤◌, ◌<◌}
 use native.Mathlib.Omega.{arith}
 use native.Mathlib.Numerals.{add-one}
-use native.Mathlib.Nat.{add-zero}
 use mathlib.Core.Path.{◌≡◌, refl, sym, ap, ◌∙◌, fun_ext, subst}
 use mathlib.Core.Logic.{⊎_elim}
-use mathlib.Core.Bool.{Bool, true, false, not}
-use mathlib.Core.List.{List, [], ◌∷◌, ◌++◌, map, append_assoc, append-nil}
+use mathlib.Core.Bool.{Bool, true}
+use mathlib.Core.List.{List, [], ◌∷◌, ◌++◌, map, append_assoc}
 use lib.ListN.{length, get_or, take, drop, length-append, length-drop, get_or-append, get_or-eq_default}
 use lib.Seq.{ext_get_or, get_or-take, get_or-drop, get_or_at, take-suc, take_at, length-take-le}
 use lib.IntN.{ℤ, pos, nat_abs}
 use Rattle.model.specs.Words.{Words, word, value, same, predicate_limit}
 use Rattle.model.specs.Lists.{all}
 use Rattle.model.specs.Table.{predicates}
-use Rattle.model.specs.Log.{Value, known, rows, value_in}
+use Rattle.model.specs.Log.{Value, rows, value_in}
 use Rattle.model.specs.Tree.{Term, constant, variable, Tree, plain, atom, compare, encode}
 use Rattle.model.specs.Level.{Role, restriction, greatest}
 use Rattle.model.specs.Reading.{places, term_at, in_scope}
@@ -31,8 +30,7 @@ use Rattle.laws.specs.Reading.Formed.{Formed}
 use Rattle.laws.specs.Reading.Nodes.{Node}
 use Rattle.laws.specs.Reading.Parts.{root, root_tag, compare-parts}
 use Rattle.laws.specs.Words.Standing.{stands_taken, three_stand}
-use Rattle.logs.specs.declared.value.Value.{Value as Found}
-use Rattle.logs.specs.declared.value.Value.TheVariants.{True, False, Open}
+use Rattle.std.specs.Prelude.{Option, Some, None}
 use Rattle.logs.specs.Value.{as_value}
 use Rattle.policies.specs.Standing.{HereAtom}
 use Rattle.policies.proofs.Standing.{here-atom, here-compare}
@@ -50,15 +48,6 @@ use Rattle.joining.specs.Answer.{Answers}
 use Rattle.nodes.specs.Ground.{Outer, HereLiteral, GrownAtom, HereCompare, Stays, ReducesAtom, ReducesCompare}
 use Rattle.joining.proofs.Parts.{Solid}
 use Rattle.joining.proofs.Answering.{answers-plain, answers-long, answers-part}
-
--- an atom that is known to be true, or false
-same_true : (b : Bool) → same true b ≡ b
-same_true true = refl
-same_true false = refl
-
-same_false : (b : Bool) → same false b ≡ not b
-same_false true = refl
-same_false false = refl
 
 -- the number of an outer variable, 0 past the outer ones
 outer-number : (ρ : List ℤ) (x : ℕ) → number_in (outer ρ x) ≡ get_or ρ x (pos 0)
@@ -126,11 +115,6 @@ outer-more {held} {after} {scope} ρ k x is more o = (
 abbrev pub Binding : (scratch : Words) (from scope : ℕ) (start held : Held) (i : ℕ) → Type 0
 Binding scratch from scope start held i =
     (ρ : List ℤ) → Outer start scope ρ → Outer held (scope + i) (ρ ++ take i (drop from scratch))
-
-pub binding-none : (scratch : Words) (from scope : ℕ) (start : Held) → Binding scratch from scope start start 0
-binding-none scratch from scope start ρ o =
-    subst (λ (n : ℕ). Outer start n (ρ ++ [])) (sym (add-zero scope))
-    (subst (λ (σ : List ℤ). Outer start scope σ) (sym (append-nil ρ)) o)
 
 pub binding-more :
     (scratch : Words) (from scope : ℕ) (start held after : Held) (i : ℕ) (k : ℤ) →
@@ -274,7 +258,7 @@ module _ (words : Words) (at n : ℕ) (is : n ≡ value words (at + 2)) where
 
 -- the reduction of an atom, by its value
 module _
-    (table words log : Words) (held : Held) (scope : ℕ) (b : Bool) (at : ℕ) (found : Found)
+    (table words log : Words) (held : Held) (scope : ℕ) (b : Bool) (at : ℕ) (found : Option Bool)
     (values : Values table words log held at found) where
   outer-value :
       (ρ : List ℤ) →
@@ -285,23 +269,17 @@ module _
   outer-value ρ o role above p ts next node =
       values (outer ρ) o.0 role above scope b p ts next node ∙ ap (value_in table (rows log) p) (terms-numbers ρ ts)
 
-  reduces_known :
-      (v r : Bool) → as_value found ≡ known v → same v b ≡ r → (out : Words) → ReducesAtom table words log held scope b at out out (Plain r)
+  pub reduces_known :
+      (v : Bool) → found ≡ Some v → (out : Words) → ReducesAtom table words log held scope b at out out (Plain (same v b))
   unfolding reduce settle
-  reduces_known v r is e out ρ o role above p ts next node places =
+  reduces_known v is out ρ o role above p ts next node places =
       let told = outer-value ρ o role above p ts next node in
-      let tree : reduce table (rows log) (atom b p ts) ρ ≡ plain r
-      = ap (λ (x : Value). settle x b (put (atom b p ts) ρ)) (sym told ∙ is) ∙ ap plain e in
-      subst (λ (t : Tree). Answers places 0 t out out (Plain r)) (sym tree) (answers-plain r out places)
-
-  pub reduces_true : found ≡ True → (out : Words) → ReducesAtom table words log held scope b at out out (Plain b)
-  reduces_true is = reduces_known true b (ap as_value is) (same_true b)
-
-  pub reduces_false : found ≡ False → (out : Words) → ReducesAtom table words log held scope b at out out (Plain (not b))
-  reduces_false is = reduces_known false (not b) (ap as_value is) (same_false b)
+      let tree : reduce table (rows log) (atom b p ts) ρ ≡ plain (same v b)
+      = ap (λ (x : Value). settle x b (put (atom b p ts) ρ)) (sym told ∙ ap as_value is) in
+      subst (λ (t : Tree). Answers places 0 t out out (Plain (same v b))) (sym tree) (answers-plain (same v b) out places)
 
   pub reduces_open :
-      found ≡ Open →
+      found ≡ None →
       (before after : Words) (r : Reduced) →
       Stays words held scope at before after r →
       ReducesAtom table words log held scope b at before after r

@@ -6,7 +6,6 @@ ghost use Rattle.nodes.specs.Ground.{Outer, HereLiteral, GrownAtom, HereCompare,
 use environments::environment::Environment;
 use environments::terms;
 use joining::answer::Reduced;
-use logs::value::Value;
 use matching::lookup;
 use trees::putting;
 use words::copying;
@@ -54,9 +53,8 @@ pub fn atom(
 {
     let found = lookup::value_at(table, words, log, links, environment, at);
     match found {
-        Value::True => Reduced::Plain(holds),
-        Value::False => Reduced::Plain(!holds),
-        Value::Open => stay(words, environment, scope, at, out),
+        Some(value) => Reduced::Plain(value == holds),
+        None => stay(words, environment, scope, at, out),
     }
 }
 
@@ -83,12 +81,10 @@ pub fn instance(
 {
     let from = Environment::WORDS * place + scope;
     let mut bound = environment;
-    let mut i = 0;
-    while i < v {
+    for i in 0..v {
         let x = scope + i;
         bound.numbers[x] = scratch[from + i];
         bound.marks[x] = true;
-        i += 1;
     }
     bound
 }

@@ -1,6 +1,6 @@
 -- `nodes::ground::atom` meets its contract, by the value found.
 use native.Mathlib.Omega.{arith}
-use Rattle.nodes.proofs.GroundLaws.{atom_asks, atom_grown, reduces_true, reduces_false, reduces_open}
+use Rattle.nodes.proofs.GroundLaws.{atom_asks, atom_grown, reduces_known, reduces_open}
 use Rattle.nodes.proofs.ground.atom.Goals as goal
 
 pub value_at-found-requires : goal.value_at-found-requires
@@ -17,21 +17,15 @@ stay-requires c =
     let a = c.args in
     (c.requires.1, atom_grown a.table.now a.words.now a.scope a.holds a.at c.requires.2)
 
-pub returns-in-True : goal.returns-in-True
-returns-in-True c =
+pub returns-in-Some : goal.returns-in-Some
+returns-in-Some c =
     let a = c.args in
-    reduces_true a.table.now a.words.now a.log.now a.environment a.scope a.holds a.at
-    c.value_at-found.result c.value_at-found.ensures c.in-True.is a.out.now
+    reduces_known a.table.now a.words.now a.log.now a.environment a.scope a.holds a.at
+    c.value_at-found.result c.value_at-found.ensures c.in-Some.value c.in-Some.is a.out.now
 
-pub returns-in-False : goal.returns-in-False
-returns-in-False c =
-    let a = c.args in
-    reduces_false a.table.now a.words.now a.log.now a.environment a.scope a.holds a.at
-    c.value_at-found.result c.value_at-found.ensures c.in-False.is a.out.now
-
-pub returns-in-Open : goal.returns-in-Open
-returns-in-Open c =
+pub returns-in-None : goal.returns-in-None
+returns-in-None c =
     let a = c.args in
     reduces_open a.table.now a.words.now a.log.now a.environment a.scope a.holds a.at
-    c.value_at-found.result c.value_at-found.ensures c.in-Open.is a.out.now _ c.stay.result
+    c.value_at-found.result c.value_at-found.ensures c.in-None.is a.out.now _ c.stay.result
     c.stay.ensures
