@@ -1,5 +1,5 @@
--- `csv_writing::write_rows` meets its contract. The loop's invariant: the lines of the rows passed stand, and those of the others are left of
--- the text. The measure is the number of rows left.
+-- `csv_writing::write_rows` meets its contract. The loop's invariant: the lines of the rows passed stand, and those of the others are left
+-- of the text.
 use Prim.Native.Nat.{◌/◌}
 use native.Mathlib.Omega.{arith}
 use lib.ListN.{length}

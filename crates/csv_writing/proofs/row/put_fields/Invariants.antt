@@ -1,5 +1,5 @@
 -- `csv_writing::row::put_fields` meets its contract: the first field, and those behind it. The loop's invariant: the fields behind the
--- first stand up to the word reached. The measure is the number of words left.
+-- first stand up to the word reached.
 use Rattle.text.proofs.PutLaws.{Part}
 use Rattle.csv_writing.proofs.RowLaws.{behind}
 use Rattle.csv_writing.proofs.row.put_fields.Given as goal

@@ -1,5 +1,5 @@
--- `tptp_putting::tokens::put_terms` meets its contract: the first term, and those behind it. The loop's invariant: the terms
--- behind the first stand up to the one reached. The measure is the number of those left.
+-- `tptp_putting::tokens::put_terms` meets its contract: the first term, and those behind it. The loop's invariant: the terms behind the
+-- first stand up to the one reached.
 use Rattle.tptp_putting.proofs.AddLaws.{Left}
 use Rattle.tptp_putting.proofs.TextLaws.{runs, next_term}
 use Rattle.tptp_putting.proofs.tokens.put_terms.Given as goal

@@ -1,5 +1,5 @@
--- `tptp_putting::tuples::put_each` meets its contract. The loop's invariant: the tuples stand up to the index reached, whatever
--- tuples they are. The measure is the number of words left.
+-- `tptp_putting::tuples::put_each` meets its contract. The loop's invariant: the tuples stand up to the index reached, whatever tuples
+-- they are.
 use Prim.Native.Nat.{◌+◌, ◌≤◌}
 use native.Mathlib.Omega.{arith}
 use Rattle.tptp_putting.proofs.AddLaws.{behind-fits}

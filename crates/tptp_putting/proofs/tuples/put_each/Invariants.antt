@@ -1,5 +1,5 @@
--- `tptp_putting::tuples::put_each` meets its contract. The loop's invariant: the tuples stand up to the index reached, whatever
--- tuples they are. The measure is the number of words left.
+-- `tptp_putting::tuples::put_each` meets its contract. The loop's invariant: the tuples stand up to the index reached, whatever tuples
+-- they are.
 use Rattle.tptp_putting.specs.Texts.{Tuples}
 use Rattle.tptp_putting.proofs.TupleLaws.{Each}
 use Rattle.tptp_putting.proofs.tuples.put_each.Given as goal

@@ -1,5 +1,5 @@
--- `tptp_putting::tuples::put_unequals` meets its contract: the first variable, and those behind it. The loop's invariant: the
--- variables behind the first stand up to the word reached. The measure is the number of words left.
+-- `tptp_putting::tuples::put_unequals` meets its contract: the first variable, and those behind it. The loop's invariant: the variables
+-- behind the first stand up to the word reached.
 use Prim.Native.Nat.{◌+◌, ◌≤◌}
 use Rattle.tptp_putting.proofs.AddLaws.{Left}
 use Rattle.tptp_putting.proofs.TextLaws.{unequals_rest}

@@ -1,5 +1,5 @@
 -- `tptp_putting::tuples::put_variables` meets its contract: the first number, and those behind it. The loop's invariant: the numbers
--- behind the first stand up to the one reached. The measure is the number of those left.
+-- behind the first stand up to the one reached.
 use Prim.Native.Nat.{◌+◌}
 use Rattle.tptp_putting.proofs.AddLaws.{Left}
 use Rattle.tptp_putting.proofs.TextLaws.{runs, next_variable}
