@@ -6,9 +6,7 @@ use Prim.Native.Nat.{ℕ, ◌+◌, ◌-◌, ◌/◌}
 use native.Mathlib.Omega.{arith}
 use mathlib.Core.Path.{◌≡◌, refl, sym, ap, ◌∙◌, subst}
 use mathlib.Core.Bool.{Bool, true}
-use mathlib.Core.List.{List}
 use lib.ListN.{length}
-use lib.IntN.{ℤ}
 use Rattle.model.specs.Level as L
 use Rattle.model.specs.Reading.{is_formula}
 use Rattle.policies.specs.Node.{as_tag, as_role}
@@ -31,13 +29,8 @@ use Rattle.reduction.proofs.WalkInstances.{kept_lent, instance_some, instances_a
 use Rattle.reduction.proofs.WalkInstances.{instances-short, instances-within, instances_end, instances-none, instances-tree}
 use Rattle.reduction.proofs.WalkQuantifier.{quantifier-short, quantifier-whole, concluding, body-here, restriction-here}
 use Rattle.reduction.proofs.WalkQuantifier.{variables-few, first-within}
-use Rattle.model.specs.Tree.{Tree}
 use Rattle.laws.specs.Reading.Nodes.{Node}
-use Rattle.nodes.specs.Ground.{Outer}
-use Rattle.nodes.specs.Prepare as PS
-use Rattle.nodes.specs.Conclude.{Quantified}
-use Rattle.reduction.specs.Walk.{Works}
-use Rattle.reduction.proofs.WalkQuantifier.{found, body_at, prepared_short, prepared_stood}
+use Rattle.reduction.proofs.WalkQuantifier.{found, prepared_short, prepared_stood, worked_out}
 use Rattle.reduction.proofs.walk.+children_formula_instances_quantifier.Goals as goal
 
 -- an operand is a formula
@@ -394,27 +387,13 @@ quantifier-returns-in_default t c =
     (prepared_short a.log.now.table.now a.words.now a.log.now.rows.now a.kind a.level a.scope a.at
     c.value-v.result c.value-v.ensures v excluded d f next q a.environment ρ o (length a.scratch.now / 17)
     c.prepare-prepared.new.scratch c.prepare-prepared.result c.in_default.is
-    (c.prepare-prepared.ensures ρ d _ o
-    (restriction-here a.log.now.table.now a.words.now a.log.now.rows.now a.kind a.level a.scope a.at
-    c.value-v.result c.value-v.ensures v excluded d f next q))) refl refl
+    c.prepare-prepared.ensures) refl refl
 
 pub quantifier-instances-worked-requires : goal.quantifier-instances-worked-requires
 quantifier-instances-worked-requires t c =
-    let stood : let a = c.args in (ρ : List ℤ) (v : ℕ) (excluded : List (List ℤ)) (d f : Tree) (next : ℕ) (o : Outer a.environment a.scope ρ) (q :
-    Quantified a.log.now.table.now a.words.now a.kind a.level a.scope a.at v excluded d f next) → PS.InstancesStand a.log.now.table.now a.words.now a.log.now.rows.now
-    a.scope c.value-v.result a.at d ρ (body_at a.log.now.table.now a.words.now a.log.now.rows.now a.kind a.level a.scope a.at c.value-v.result c.value-v.ensures v
-    excluded d f next q) (length a.scratch.now / 17) c.prepare-prepared.new.scratch c.in-Some.placed = let a = c.args in
-    λ ρ v excluded d f next o q.
-    (prepared_stood a.log.now.table.now a.words.now a.log.now.rows.now a.kind a.level a.scope a.at
-    c.value-v.result c.value-v.ensures v excluded d f next q a.environment ρ o (length a.scratch.now / 17)
-    c.prepare-prepared.new.scratch c.prepare-prepared.result c.in-Some.placed c.in-Some.is
-    (c.prepare-prepared.ensures ρ d _ o
-    (restriction-here a.log.now.table.now a.words.now a.log.now.rows.now a.kind a.level a.scope a.at
-    c.value-v.result c.value-v.ensures v excluded d f next q))) in
     let a = c.args in
     let s =
-    (stood c.requires.4.0 c.requires.3.0 c.requires.3.1 c.requires.3.2
-    c.requires.3.3 c.requires.3.4 c.requires.4.1 c.requires.3.5) in (
+    prepared_stood _ _ a.log.now.rows.now _ _ _ _ _ c.value-v.ensures _ _ _ _ _ c.requires.3.5 _ c.requires.4.0 c.requires.4.1 _ _ _ _ c.in-Some.is c.prepare-prepared.ensures in (
       omega (arith, c.decreases, c.requires.0),
       (
         c.requires.0,
@@ -447,39 +426,13 @@ quantifier-instances-worked-requires t c =
 
 pub quantifier-returns-then-eq : goal.quantifier-returns-then-eq
 quantifier-returns-then-eq t c =
-    let stood : let a = c.args in (ρ : List ℤ) (v : ℕ) (excluded : List (List ℤ)) (d f : Tree) (next : ℕ) (o : Outer a.environment a.scope ρ) (q :
-    Quantified a.log.now.table.now a.words.now a.kind a.level a.scope a.at v excluded d f next) → PS.InstancesStand a.log.now.table.now a.words.now a.log.now.rows.now
-    a.scope c.value-v.result a.at d ρ (body_at a.log.now.table.now a.words.now a.log.now.rows.now a.kind a.level a.scope a.at c.value-v.result c.value-v.ensures v
-    excluded d f next q) (length a.scratch.now / 17) c.prepare-prepared.new.scratch c.in-Some.placed = let a = c.args in
-    λ ρ v excluded d f next o q.
-    (prepared_stood a.log.now.table.now a.words.now a.log.now.rows.now a.kind a.level a.scope a.at
-    c.value-v.result c.value-v.ensures v excluded d f next q a.environment ρ o (length a.scratch.now / 17)
-    c.prepare-prepared.new.scratch c.prepare-prepared.result c.in-Some.placed c.in-Some.is
-    (c.prepare-prepared.ensures ρ d _ o
-    (restriction-here a.log.now.table.now a.words.now a.log.now.rows.now a.kind a.level a.scope a.at
-    c.value-v.result c.value-v.ensures v excluded d f next q))) in
-    let worked : let a = c.args in (ρ : List ℤ) (v : ℕ) (excluded : List (List ℤ)) (d f : Tree) (next : ℕ) (o : Outer a.environment a.scope ρ) (q :
-    Quantified a.log.now.table.now a.words.now a.kind a.level a.scope a.at v excluded d f next) → Works a.kind a.log.now.table.now a.log.now.rows.now f ρ (found
-    a.log.now.table.now a.words.now a.log.now.rows.now a.kind a.level a.scope a.at c.value-v.result c.value-v.ensures v excluded d f next q a.environment ρ o)
-    (length c.prepare-prepared.new.scratch / 17 - c.in-Some.placed.used) next c.instances-worked.new.out c.instances-worked.result = let a =
-    c.args in
-    λ ρ v excluded d f next o q.
-    (c.instances-worked.ensures.works ρ
-    (found a.log.now.table.now a.words.now a.log.now.rows.now a.kind a.level a.scope a.at c.value-v.result
-    c.value-v.ensures v excluded d f next q a.environment ρ o) f next o
-    (stood ρ v excluded d f next o q).found
-    (subst
-    (λ (n : ℕ). Node a.log.now.table.now a.words.now L.Role.formula a.level (a.scope + c.value-v.result) n f next)
-    (sym (stood ρ v excluded d f next o q).behind)
-    (body-here a.log.now.table.now a.words.now a.log.now.rows.now a.kind a.level a.scope a.at c.value-v.result
-    c.value-v.ensures v excluded d f next q))) in
     let a = c.args in
-    λ ρ v excluded d f next o q. let s = (stood ρ v excluded d f next o q) in quantifier-short a.log.now.table.now
+    λ ρ v excluded d f next o q. let s = prepared_stood _ _ a.log.now.rows.now _ _ _ _ _ c.value-v.ensures _ _ _ _ _ q _ ρ o _ _ _ _ c.in-Some.is c.prepare-prepared.ensures in quantifier-short a.log.now.table.now
     a.words.now a.log.now.rows.now a.kind a.level a.scope a.at c.value-v.result c.value-v.ensures v excluded
     d f next q a.environment ρ o (length a.scratch.now / 17) _
     (omega (
       arith,
-      (worked ρ v excluded d f next o q).short (same_true the_type (search rules) _ _ (sym c.eq.ensures ∙ c.if-eq.true)),
+      (worked_out _ _ a.log.now.rows.now _ _ _ _ _ c.value-v.ensures _ _ _ _ _ q _ ρ o _ _ _ _ _ _ s c.instances-worked.ensures.works).short (same_true the_type (search rules) _ _ (sym c.eq.ensures ∙ c.if-eq.true)),
       s.counted,
       s.fits,
       c.prepare-prepared.auto.scratch,
@@ -487,36 +440,9 @@ quantifier-returns-then-eq t c =
 
 pub quantifier-conclude-answer-requires : goal.quantifier-conclude-answer-requires
 quantifier-conclude-answer-requires t c =
-    let stood : let a = c.args in (ρ : List ℤ) (v : ℕ) (excluded : List (List ℤ)) (d f : Tree) (next : ℕ) (o : Outer a.environment a.scope ρ) (q :
-    Quantified a.log.now.table.now a.words.now a.kind a.level a.scope a.at v excluded d f next) → PS.InstancesStand a.log.now.table.now a.words.now a.log.now.rows.now
-    a.scope c.value-v.result a.at d ρ (body_at a.log.now.table.now a.words.now a.log.now.rows.now a.kind a.level a.scope a.at c.value-v.result c.value-v.ensures v
-    excluded d f next q) (length a.scratch.now / 17) c.prepare-prepared.new.scratch c.in-Some.placed = let a = c.args in
-    λ ρ v excluded d f next o q.
-    (prepared_stood a.log.now.table.now a.words.now a.log.now.rows.now a.kind a.level a.scope a.at
-    c.value-v.result c.value-v.ensures v excluded d f next q a.environment ρ o (length a.scratch.now / 17)
-    c.prepare-prepared.new.scratch c.prepare-prepared.result c.in-Some.placed c.in-Some.is
-    (c.prepare-prepared.ensures ρ d _ o
-    (restriction-here a.log.now.table.now a.words.now a.log.now.rows.now a.kind a.level a.scope a.at
-    c.value-v.result c.value-v.ensures v excluded d f next q))) in
-    let worked : let a = c.args in (ρ : List ℤ) (v : ℕ) (excluded : List (List ℤ)) (d f : Tree) (next : ℕ) (o : Outer a.environment a.scope ρ) (q :
-    Quantified a.log.now.table.now a.words.now a.kind a.level a.scope a.at v excluded d f next) → Works a.kind a.log.now.table.now a.log.now.rows.now f ρ (found
-    a.log.now.table.now a.words.now a.log.now.rows.now a.kind a.level a.scope a.at c.value-v.result c.value-v.ensures v excluded d f next q a.environment ρ o)
-    (length c.prepare-prepared.new.scratch / 17 - c.in-Some.placed.used) next c.instances-worked.new.out c.instances-worked.result = let a =
-    c.args in
-    λ ρ v excluded d f next o q.
-    (c.instances-worked.ensures.works ρ
-    (found a.log.now.table.now a.words.now a.log.now.rows.now a.kind a.level a.scope a.at c.value-v.result
-    c.value-v.ensures v excluded d f next q a.environment ρ o) f next o
-    (stood ρ v excluded d f next o q).found
-    (subst
-    (λ (n : ℕ). Node a.log.now.table.now a.words.now L.Role.formula a.level (a.scope + c.value-v.result) n f next)
-    (sym (stood ρ v excluded d f next o q).behind)
-    (body-here a.log.now.table.now a.words.now a.log.now.rows.now a.kind a.level a.scope a.at c.value-v.result
-    c.value-v.ensures v excluded d f next q))) in
     let a = c.args in
     let s =
-    (stood c.requires.4.0 c.requires.3.0 c.requires.3.1 c.requires.3.2
-    c.requires.3.3 c.requires.3.4 c.requires.4.1 c.requires.3.5) in (
+    prepared_stood _ _ a.log.now.rows.now _ _ _ _ _ c.value-v.ensures _ _ _ _ _ c.requires.3.5 _ c.requires.4.0 c.requires.4.1 _ _ _ _ c.in-Some.is c.prepare-prepared.ensures in (
       omega (arith, c.instances-worked.auto.out, c.requires.2),
       omega
           (arith, s.below, s.fits, c.prepare-prepared.auto.scratch, c.instances-worked.auto.scratch),
@@ -527,41 +453,14 @@ quantifier-conclude-answer-requires t c =
           c.in-Some.placed.from c.in-Some.placed.count c.in-Some.placed.used
           (length c.prepare-prepared.new.scratch / 17 - c.in-Some.placed.used) c.in-Some.placed.body
           c.instances-worked.result s.below c.instances-worked.ensures.scratch_unchanged s.found s.behind
-          (worked c.requires.4.0 c.requires.3.0 c.requires.3.1 c.requires.3.2
-          c.requires.3.3 c.requires.3.4 c.requires.4.1 c.requires.3.5) (same_false the_type _ _ (sym c.eq.ensures ∙ c.if-eq.false))),
+          (worked_out _ _ a.log.now.rows.now _ _ _ _ _ c.value-v.ensures _ _ _ _ _ c.requires.3.5 _ c.requires.4.0 c.requires.4.1 _ _ _ _ _ _ s c.instances-worked.ensures.works) (same_false the_type _ _ (sym c.eq.ensures ∙ c.if-eq.false))),
     )
 
 pub quantifier-returns : goal.quantifier-returns
 quantifier-returns t c =
-    let stood : let a = c.args in (ρ : List ℤ) (v : ℕ) (excluded : List (List ℤ)) (d f : Tree) (next : ℕ) (o : Outer a.environment a.scope ρ) (q :
-    Quantified a.log.now.table.now a.words.now a.kind a.level a.scope a.at v excluded d f next) → PS.InstancesStand a.log.now.table.now a.words.now a.log.now.rows.now
-    a.scope c.value-v.result a.at d ρ (body_at a.log.now.table.now a.words.now a.log.now.rows.now a.kind a.level a.scope a.at c.value-v.result c.value-v.ensures v
-    excluded d f next q) (length a.scratch.now / 17) c.prepare-prepared.new.scratch c.in-Some.placed = let a = c.args in
-    λ ρ v excluded d f next o q.
-    (prepared_stood a.log.now.table.now a.words.now a.log.now.rows.now a.kind a.level a.scope a.at
-    c.value-v.result c.value-v.ensures v excluded d f next q a.environment ρ o (length a.scratch.now / 17)
-    c.prepare-prepared.new.scratch c.prepare-prepared.result c.in-Some.placed c.in-Some.is
-    (c.prepare-prepared.ensures ρ d _ o
-    (restriction-here a.log.now.table.now a.words.now a.log.now.rows.now a.kind a.level a.scope a.at
-    c.value-v.result c.value-v.ensures v excluded d f next q))) in
-    let worked : let a = c.args in (ρ : List ℤ) (v : ℕ) (excluded : List (List ℤ)) (d f : Tree) (next : ℕ) (o : Outer a.environment a.scope ρ) (q :
-    Quantified a.log.now.table.now a.words.now a.kind a.level a.scope a.at v excluded d f next) → Works a.kind a.log.now.table.now a.log.now.rows.now f ρ (found
-    a.log.now.table.now a.words.now a.log.now.rows.now a.kind a.level a.scope a.at c.value-v.result c.value-v.ensures v excluded d f next q a.environment ρ o)
-    (length c.prepare-prepared.new.scratch / 17 - c.in-Some.placed.used) next c.instances-worked.new.out c.instances-worked.result = let a =
-    c.args in
-    λ ρ v excluded d f next o q.
-    (c.instances-worked.ensures.works ρ
-    (found a.log.now.table.now a.words.now a.log.now.rows.now a.kind a.level a.scope a.at c.value-v.result
-    c.value-v.ensures v excluded d f next q a.environment ρ o) f next o
-    (stood ρ v excluded d f next o q).found
-    (subst
-    (λ (n : ℕ). Node a.log.now.table.now a.words.now L.Role.formula a.level (a.scope + c.value-v.result) n f next)
-    (sym (stood ρ v excluded d f next o q).behind)
-    (body-here a.log.now.table.now a.words.now a.log.now.rows.now a.kind a.level a.scope a.at c.value-v.result
-    c.value-v.ensures v excluded d f next q))) in
     let a = c.args in
     let the-length = length c.prepare-prepared.new.scratch / 17 - c.in-Some.placed.used in
-    λ ρ v excluded d f next o q. let s = (stood ρ v excluded d f next o q) in quantifier-whole a.log.now.table.now
+    λ ρ v excluded d f next o q. let s = prepared_stood _ _ a.log.now.rows.now _ _ _ _ _ c.value-v.ensures _ _ _ _ _ q _ ρ o _ _ _ _ c.in-Some.is c.prepare-prepared.ensures in quantifier-whole a.log.now.table.now
     a.words.now a.log.now.rows.now a.kind a.level a.scope a.at c.value-v.result c.value-v.ensures v excluded
     d f next q a.environment ρ o (length a.scratch.now / 17) c.in-Some.placed.used the-length _ _
     (ap (λ (n : ℕ). n / 17 - c.in-Some.placed.used) c.prepare-prepared.auto.scratch) s.counted s.fits
@@ -572,8 +471,8 @@ quantifier-returns t c =
     c.instances-worked.new.scratch c.instances-worked.new.out c.in-Some.placed.from
     c.in-Some.placed.count c.in-Some.placed.used the-length c.in-Some.placed.body
     c.instances-worked.result s.below c.instances-worked.ensures.scratch_unchanged s.found s.behind
-    (worked ρ v excluded d f next o q) (same_false the_type _ _ (sym c.eq.ensures ∙ c.if-eq.false))))
-    ((worked ρ v excluded d f next o q).behind (same_false the_type _ _ (sym c.eq.ensures ∙ c.if-eq.false)))
+    (worked_out _ _ a.log.now.rows.now _ _ _ _ _ c.value-v.ensures _ _ _ _ _ q _ ρ o _ _ _ _ _ _ s c.instances-worked.ensures.works) (same_false the_type _ _ (sym c.eq.ensures ∙ c.if-eq.false))))
+    ((worked_out _ _ a.log.now.rows.now _ _ _ _ _ c.value-v.ensures _ _ _ _ _ q _ ρ o _ _ _ _ _ _ s c.instances-worked.ensures.works).behind (same_false the_type _ _ (sym c.eq.ensures ∙ c.if-eq.false)))
 
 pub instances-returns-in-Short : goal.instances-returns-in-Short
 instances-returns-in-Short t c =
