@@ -3,7 +3,7 @@ use Prim.Native.Nat.{ℕ, zero, suc, ◌+◌, ◌≤◌, ◌<◌}
 use native.Mathlib.Numerals.{add-one}
 use native.Mathlib.Nat.{eq-or-lt_of_le}
 use native.Mathlib.Omega.{arith}
-use mathlib.Core.Path.{◌≡◌, refl, sym, ap, ap₂, ◌∙◌}
+use mathlib.Core.Path.{◌≡◌, refl, sym, ap, ap₂, ◌∙◌, subst}
 use mathlib.Core.Logic.{⊎_elim}
 use mathlib.Core.Bool.{true, false}
 use mathlib.Core.List.{[], ◌∷◌, ◌++◌}
@@ -19,6 +19,7 @@ use Rattle.model.specs.Csv.{text_data, quotable}
 use Rattle.model.specs.CsvReading.{Records, State, start, field, inside, quoting, closing, ending, move_behind, move_bare, move_first, move}
 use Rattle.model.specs.CsvReading.{add_byte, add_record, at_end, follow, read_from}
 use Rattle.laws.specs.Words.Tests.{clash, and_left, and_right, or_left}
+use Rattle.laws.specs.Lists.Span.{side}
 use Rattle.laws.specs.Csv.Complete.{data_quote}
 use Rattle.csv_reading.specs.declared.field.End.TheVariants.{Comma, Line}
 use Rattle.std.specs.Prelude.{Ok, Err}
@@ -161,20 +162,22 @@ module _ (text : Text) (i : ℕ) where
     unfolding move_behind follow
     behind_return e = behind-at h ∙ rw e
 
-    pub ends-early : get_or text i 0 ≡ cr → length text ≤ i + 1 → EndsAt text i (Err (bad_at (i + 1)))
-    unfolding at_end
-    ends-early e k = behind_return e ∙ read_end text ending (i + 1) k
+    -- no LF behind the CR
+    pub ends-early : get_or text i 0 ≡ cr → (i + 1 < length text → get_or text (i + 1) 0 ≡ lf → ⊥) → EndsAt text i (Err (bad_at (i + 1)))
+    unfolding at_end move follow
+    ends-early e f =
+        behind_return e
+        ∙ ⊎_elim
+        (λ (k : i + 1 < length text). read_at text ending (i + 1) k ∙ rw (ne_eqb _ lf (f k)))
+        (λ (k : length text ≤ i + 1). read_end text ending (i + 1) k)
+        (side (length text) (i + 1))
 
-    pub ends-other : get_or text i 0 ≡ cr → i + 1 < length text → (get_or text (i + 1) 0 ≡ lf → ⊥) → EndsAt text i (Err (bad_at (i + 1)))
-    unfolding move follow
-    ends-other e k f = behind_return e ∙ read_at text ending (i + 1) k ∙ rw (ne_eqb _ lf f)
-
-    pub ends-line : get_or text i 0 ≡ cr → i + 1 < length text → get_or text (i + 1) 0 ≡ lf → EndsAt text i (Ok (Line (i + 1 + 1)))
+    pub ends-line : get_or text i 0 ≡ cr → i + 1 < length text → get_or text (i + 1) 0 ≡ lf → EndsAt text i (Ok (Line (i + 2)))
     unfolding goes_on move follow
-    ends-line e k f = record {
-      reads = behind_return e ∙ read_at text ending (i + 1) k ∙ rw f;
-      onward = omega arith;
-    }
+    ends-line e k f =
+        let same : i + 1 + 1 ≡ i + 2 = omega arith in
+        subst (λ (n : ℕ). EndsAt text i (Ok (Line n))) same
+        (record { reads = behind_return e ∙ read_at text ending (i + 1) k ∙ rw f; onward = omega arith })
 
 -- bare bytes, one more
 pub bare-none : (text : Text) (i : ℕ) → all text_data (slice i i text) ≡ true

@@ -84,24 +84,17 @@ fn ending(text: &[u8], at: usize) -> Result<End, BadByte>
     requires { at ≤ length text.now }
     ensures { F.EndsAt text.now at result }
 {
-    if text.len() <= at {
-        return Ok(End::Line(at));
+    match text.get(at) {
+        None => Ok(End::Line(at)),
+        Some(&bytes::COMMA) => Ok(End::Comma(at + 1)),
+        Some(&bytes::CR) => {
+            if text.get(at + 1) != Some(&bytes::LF) {
+                return Err(BadByte(at + 1));
+            }
+            Ok(End::Line(at + 2))
+        }
+        Some(_) => Err(BadByte(at)),
     }
-    let b = text[at];
-    let next = at + 1;
-    if b == bytes::COMMA {
-        return Ok(End::Comma(next));
-    }
-    if b != bytes::CR {
-        return Err(BadByte(at));
-    }
-    if text.len() <= next {
-        return Err(BadByte(next));
-    }
-    if text[next] != bytes::LF {
-        return Err(BadByte(next));
-    }
-    Ok(End::Line(next + 1))
 }
 
 // A field in quotes, the first of which stands before the index.
