@@ -10,9 +10,7 @@ pub fn then_expect(text: &[u8], before: Step, c: u8) -> Step
     requires { Within text.now before }
     ensures { Behind (Steps (R.token (c ∷ [])) text.now) before result × Within text.now result }
 {
-    let Step::At(at) = before else {
-        return before;
-    };
+    let at = before?;
     expect(text, at, c)
 }
 
@@ -21,9 +19,7 @@ pub fn then_token(text: &[u8], before: Step, word: &[u8]) -> Step
     requires { Within text.now before }
     ensures { Behind (Steps (R.token word.now) text.now) before result × Within text.now result }
 {
-    let Step::At(at) = before else {
-        return before;
-    };
+    let at = before?;
     token(text, at, word)
 }
 
@@ -32,8 +28,6 @@ pub fn then_opening(text: &[u8], before: Step, room: usize) -> Step
     requires { Within text.now before }
     ensures { Behind (Steps (R.opening room) text.now) before result × Within text.now result }
 {
-    let Step::At(at) = before else {
-        return before;
-    };
+    let at = before?;
     opening(text, at, room)
 }
