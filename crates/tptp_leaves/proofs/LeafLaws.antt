@@ -17,12 +17,11 @@ use Rattle.model.specs.TptpReading.{stop, peek, look, literal, token, opening, n
 use Rattle.model.specs.TptpReading.{read_atom, read_compare, read_dollar, read_negated}
 use Rattle.model.specs.declared.Refusal.TheVariants.{Tptp}
 use Rattle.laws.specs.Putting.Modes.{terms-length}
-use Rattle.tptp_tokens.specs.Steps.{from, got, Skips, Steps, Valued, Within, Behind}
+use Rattle.tptp_tokens.specs.Steps.{Step, from, got, Skips, Steps, Valued, Within, Behind}
 use Rattle.tptp_leaves.specs.Terms.{TermStands, TermsStand}
 use Rattle.tptp_tokens.specs.Laying.{Stored}
 use Rattle.tptp_leaves.specs.Leaves.{SecondNatural, LeafStands, read_plain, behind_dollar, behind_negation, read_leaf}
-use Rattle.tptp_tokens.specs.declared.tokens.Step.{Step}
-use Rattle.tptp_tokens.specs.declared.tokens.Step.TheVariants.{At, Refused}
+use Rattle.std.specs.Prelude.{Ok, Err}
 use Rattle.tptp_tokens.proofs.TokenLaws.{here, over, skip_stop, onward, halt, look-here, look-over, token-here}
 use Rattle.tptp_leaves.proofs.TermLaws.{two-words}
 use Rattle.tptp_tokens.proofs.BehindLaws.{falls, valued_from, token_then}
@@ -57,7 +56,7 @@ module _ (text : Text) (at room : ℕ) (b : Bool) (own own₁ own₂ own₃ : Wo
   unfolding read_atom bytes
   atom-read r₁ r₂ r₃ r₄ r₅ h s₁ s₂ s₃ s₄ s₅ =
       let w = read_atom room b in
-      let g₁ = going_token w text at _ (token (112 ∷ [])) _ (At at) r₁ (going_start w text at h) s₁ in
+      let g₁ = going_token w text at _ (token (112 ∷ [])) _ (Ok at) r₁ (going_start w text at h) s₁ in
       let g₂ = going_value w text at _ natural (SecondNatural own₁ own₂) _ r₁ r₂ g₁ s₂ in
       let g₃ = going_token w text at _ (opening room) _ r₂ r₃ g₂ s₃ in
       let g₄ = going_value w text at _ terms (TermsStand own₂ own₃) _ r₃ r₄ g₃ s₄ in
@@ -107,9 +106,9 @@ module _ (text : Text) (room : ℕ) (b : Bool) (own own₁ own₂ own₃ own₄ 
       Behind (Steps (token (41 ∷ [])) text) r₉ r →
       Behind (Valued (read_compare room b) (LeafStands own₄) text) r₀ r
   unfolding read_compare bytes
-  compare-read (At at) r₁ r₂ r₃ r₄ r₅ r₆ r₇ r₈ r₉ r n h e s₁ s₂ s₃ s₄ s₅ s₆ s₇ s₈ s₉ s =
+  compare-read (Ok at) r₁ r₂ r₃ r₄ r₅ r₆ r₇ r₈ r₉ r n h e s₁ s₂ s₃ s₄ s₅ s₆ s₇ s₈ s₉ s =
       let w = read_compare room b in
-      let g₁ = going_token w text at _ (opening room) _ (At at) r₁ (going_start w text at h) s₁ in
+      let g₁ = going_token w text at _ (opening room) _ (Ok at) r₁ (going_start w text at h) s₁ in
       let g₂ = going_token w text at _ (token (bytes "$sum")) _ r₁ r₂ g₁ s₂ in
       let s₃' = subst (λ (k : ℕ). Behind (Steps (opening k) text) r₂ r₃) e s₃ in
       let g₃ = going_token w text at _ (opening (room - 1)) _ r₂ r₃ g₂ s₃' in
@@ -124,7 +123,7 @@ module _ (text : Text) (room : ℕ) (b : Bool) (own own₁ own₂ own₃ own₄ 
       (λ y f. compare-stands y.0.1 y.0.0.1 y.1 f.0.0.1 f.0.1 f.1)
       r
       g
-  compare-read (Refused q p) r₁ r₂ r₃ r₄ r₅ r₆ r₇ r₈ r₉ r n h e s₁ s₂ s₃ s₄ s₅ s₆ s₇ s₈ s₉ s =
+  compare-read (Err q) r₁ r₂ r₃ r₄ r₅ r₆ r₇ r₈ r₉ r n h e s₁ s₂ s₃ s₄ s₅ s₆ s₇ s₈ s₉ s =
       falls _ s (falls _ s₉ (falls _ s₈ (falls _ s₇ (falls _ s₆ (falls _ s₅ (falls _ s₄ (falls _ s₃ (falls _ s₂ s₁))))))))
 
 -- plain true or false
@@ -136,7 +135,7 @@ pub plain-read :
 unfolding encode
 plain-read text word at b own own₁ long tag h r s =
     let w = read_plain word b in
-    let g = going_token w text at _ (literal word) _ (At at) r (going_start w text at h) s in
+    let g = going_token w text at _ (literal word) _ (Ok at) r (going_start w text at h) s in
     going_end w text at _ (λ _. plain b) (LeafStands own₁) (λ _ _. stands own long tag) r g
   where
     stands : (own : Words) → 15 ≤ length own → own₁ ≡ set own 0 (pos (cond b 1 0)) → LeafStands own₁ (plain b)
@@ -253,8 +252,3 @@ module _ (text : Text) (at room : ℕ) (h : at < length text) (n : blank (get_or
             (onward (token (126 ∷ [])) (λ _. behind_negation room) text at tt (at + 1) (token-here text at at self 126 h e).reads))
             (omega arith)
             r
-
--- one of two small numbers is a word
-pub small : (n : ℕ) (b : Bool) (x y : ℕ) → n ≡ cond b x y → x ≤ 5 → y ≤ 5 → n ≤ 2147483647
-small n true x y e h k = omega arith
-small n false x y e h k = omega arith

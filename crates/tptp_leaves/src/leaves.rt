@@ -7,26 +7,20 @@ ghost use Rattle.tptp_leaves.specs.Leaves as L;
 ghost use Rattle.tptp_tokens.specs.Steps.{Valued, Within, Behind};
 
 use crate::terms::{then_term, then_terms};
-use model::Refusal;
+use model::{Refusal, Refused};
 use text::bytes;
 use text::word::put;
 use tptp_tokens::behind::{then_expect, then_opening, then_token};
 use tptp_tokens::laying::then_integer;
-use tptp_tokens::numbers::{Digits, natural};
+use tptp_tokens::numbers::natural;
 use tptp_tokens::tokens::{Step, expect, literal, opening, skip, token};
 
 // One of two numbers.
+// A function of its own: an `if` at each call would leave its two ways to be joined in the proof of the straight line.
 pub fn either(b: bool, x: usize, y: usize) -> usize
     ensures { result ≡ cond b x y }
 {
     if b { x } else { y }
-}
-
-// One less, but not below 0.
-pub fn less(n: usize) -> usize
-    ensures { result ≡ n - 1 }
-{
-    if n == 0 { 0 } else { n - 1 }
 }
 
 // The number of a predicate, which is the second word.
@@ -34,17 +28,10 @@ fn predicate(text: &[u8], before: Step, own: &mut [i32]) -> Step
     requires { Within text.now before × (15 ≤ length own.old) }
     ensures { Behind (Valued R.natural (L.SecondNatural own.old own.new) text.now) before result × Within text.now result }
 {
-    let Step::At(at) = before else {
-        return before;
-    };
-    let found = natural(text, at);
-    match found {
-        Digits::Refused(q, p) => Step::Refused(q, p),
-        Digits::Read(next, p) => {
-            put(own, 1, p, false);
-            Step::At(next)
-        }
-    }
+    let at = before?;
+    let found = natural(text, at)?;
+    put(own, 1, found.number, false);
+    Ok(found.next)
 }
 
 // An atom that holds, or fails.
@@ -68,7 +55,7 @@ fn compare(text: &[u8], before: Step, room: usize, holds: bool, own: &mut [i32])
     put(own, 0, either(holds, 4, 5), false);
     let open = then_opening(text, before, room);
     let name = then_token(text, open, b"$sum");
-    let inner = then_opening(text, name, less(room));
+    let inner = then_opening(text, name, room.saturating_sub(1));
     let first = then_term(text, inner, own, 2);
     let comma = then_expect(text, first, bytes::COMMA);
     let number = then_integer(text, comma, own, 1);
@@ -93,7 +80,7 @@ fn dollar(text: &[u8], at: usize, room: usize, own: &mut [i32]) -> Step
     ensures { Valued (L.behind_dollar room) (L.LeafStands own.new) text.now at result }
 {
     if text.len() <= at {
-        return Step::Refused(Refusal::Tptp, at);
+        return Err(Refused(Refusal::Tptp, at));
     }
     let b = text[at];
     if b == 116 {
@@ -113,7 +100,7 @@ fn negated(text: &[u8], at: usize, room: usize, own: &mut [i32]) -> Step
 {
     let i = skip(text, at);
     if text.len() <= i {
-        return Step::Refused(Refusal::Tptp, i);
+        return Err(Refused(Refusal::Tptp, i));
     }
     if text[i] == 112 {
         return atom(text, i, room, false, own);
@@ -137,5 +124,5 @@ pub fn leaf(text: &[u8], at: usize, room: usize, own: &mut [i32]) -> Step
     if b == 126 {
         return negated(text, at + 1, room, own);
     }
-    Step::Refused(Refusal::Tptp, at)
+    Err(Refused(Refusal::Tptp, at))
 }
