@@ -40,3 +40,10 @@ token_then first second facts text at (Ok n) r a b =
     valued_from (first >>= λ _. second) second facts text at n (onward first (λ _. second) text at tt n a.reads) a.low r b
 token_then first second facts text at (Err e) r a b =
     subst (Valued (first >>= λ _. second) facts text at) (sym b) (halt first (λ _. second) text at e.0 e.1 a)
+
+pub steps_from :
+    (whole reader : Reader (Unit {0})) (text : Text) (at j : ℕ) → from whole text at ≡ from reader text j → at ≤ j → (r : Step) →
+    Steps reader text j r →
+    Steps whole text at r
+steps_from whole reader text at j e l (Ok next) s = record { low = omega (arith, s.low); high = s.high; reads = e ∙ s.reads }
+steps_from whole reader text at j e l (Err r) s = e ∙ s

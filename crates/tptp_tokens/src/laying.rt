@@ -2,7 +2,7 @@
 ghost use Rattle.std.specs.Prelude.{◌≡◌, Bool, ◌+◌, ◌*◌, ◌≤◌, ◌<◌, min, length, set, pos};
 ghost use Rattle.model.specs.TptpReading as R;
 ghost use Rattle.text.specs.Reading.{signed, Sized};
-ghost use Rattle.tptp_tokens.specs.Steps.{Valued, Within, Behind};
+ghost use Rattle.tptp_tokens.specs.Steps.{Valued};
 ghost use Rattle.tptp_tokens.specs.Laying as L;
 
 use crate::numbers::integer;
@@ -57,12 +57,11 @@ pub fn lay_three(out: &mut [i32], w: usize, tag: usize, v: usize, m: usize)
     lay(out, w + 2, m);
 }
 
-// A number, behind something else, which becomes the word at an index.
-pub fn then_integer(text: &[u8], before: Step, out: &mut [i32], w: usize) -> Step
-    requires { Within text.now before }
-    ensures { Behind (Valued R.integer (L.Stored w out.old out.new) text.now) before result × Within text.now result }
+// A number, which becomes the word at an index.
+pub fn lay_integer(text: &[u8], at: usize, out: &mut [i32], w: usize) -> Step
+    requires { at ≤ length text.now }
+    ensures { Valued R.integer (L.Stored w out.old out.new) text.now at result }
 {
-    let at = before?;
     let found = integer(text, at)?;
     lay_signed(out, w, found.magnitude, found.negative);
     Ok(found.next)
