@@ -2,7 +2,7 @@
 ghost use Rattle.std.specs.Prelude.{◌≡◌, ◌+◌, ◌≤◌, pos, length, set};
 ghost use Rattle.text.specs.Reading.{signed, Sized};
 ghost use Rattle.model.specs.TptpReading as R;
-ghost use Rattle.tptp_tokens.specs.Steps.{Valued, Within, Behind};
+ghost use Rattle.tptp_tokens.specs.Steps.{Valued};
 ghost use Rattle.tptp_leaves.specs.Terms as T;
 
 use model::{Refusal, Refused};
@@ -75,22 +75,4 @@ pub fn terms(text: &[u8], at: usize, own: &mut [i32]) -> Step
         put(own, 2, n + 1, false);
     }
     Ok(next)
-}
-
-// A term, whose words go to an index.
-pub fn then_term(text: &[u8], before: Step, own: &mut [i32], k: usize) -> Step
-    requires { Within text.now before × (k + 2 ≤ length own.old) }
-    ensures { Behind (Valued R.term (T.TermStands k own.old own.new) text.now) before result × Within text.now result }
-{
-    let at = before?;
-    term(text, at, own, k)
-}
-
-// The terms of an atom.
-pub fn then_terms(text: &[u8], before: Step, own: &mut [i32]) -> Step
-    requires { Within text.now before × (15 ≤ length own.old) }
-    ensures { Behind (Valued R.terms (T.TermsStand own.old own.new) text.now) before result × Within text.now result }
-{
-    let at = before?;
-    terms(text, at, own)
 }

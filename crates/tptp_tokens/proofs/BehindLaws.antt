@@ -1,21 +1,13 @@
--- Laws for what is read behind something else: indices stay within the text, and a refusal is passed on to the end.
+-- Laws for what is read behind something else.
 use Prim.Native.Nat.{ℕ, ◌≤◌}
 use native.Mathlib.Omega.{arith}
 use mathlib.Core.Path.{◌≡◌, sym, subst, ◌∙◌}
 use Rattle.model.specs.Bytes.{Text}
-use Rattle.model.specs.TptpReading.{Reader, ◌>>=◌}
+use Rattle.model.specs.TptpReading.{Reader, give, ◌>>=◌}
 use Rattle.std.specs.Prelude.{Ok, Err}
 use Rattle.model.specs.declared.Refused.{Refused}
-use Rattle.tptp_tokens.specs.Steps.{Step, from, Steps, Valued, Behind}
+use Rattle.tptp_tokens.specs.Steps.{Step, from, Steps, Valued}
 use Rattle.tptp_tokens.proofs.TokenLaws.{onward, halt}
-
--- behind a refusal comes the same
-pub falls : (next : ℕ → Step → Type 0) {s r : Step} {e : Refused} → Behind next s r → s ≡ Err e → r ≡ Err e
-falls next {r = r} b e = subst (λ (x : Step). Behind next x r) e b
-
--- a call behind an index, and the refusal that is passed on by it
-pub behind-read : (next : ℕ → Step → Type 0) {s r : Step} {n : ℕ} → s ≡ Ok n → next n r → Behind next s r
-behind-read next {r = r} e b = subst (λ (x : Step). Behind next x r) (sym e) b
 
 -- what is read from a later index on by another reader
 pub valued_from :
@@ -30,20 +22,23 @@ valued_from whole reader facts text at j e l (Ok next) v = record {
 }
 valued_from whole reader facts text at j e l (Err r) v = e ∙ v
 
--- a token, and something behind it
-pub token_then :
-    {A : Type 0} (first : Reader (Unit {0})) (second : Reader A) (facts : A → Type 0) (text : Text) (at : ℕ) (s r : Step) →
-    Steps first text at s →
-    Behind (Valued second facts text) s r →
-    Valued (first >>= λ _. second) facts text at r
-token_then first second facts text at (Ok n) r a b =
-    valued_from (first >>= λ _. second) second facts text at n (onward first (λ _. second) text at tt n a.reads) a.low r b
-token_then first second facts text at (Err e) r a b =
-    subst (Valued (first >>= λ _. second) facts text at) (sym b) (halt first (λ _. second) text at e.0 e.1 a)
-
 pub steps_from :
     (whole reader : Reader (Unit {0})) (text : Text) (at j : ℕ) → from whole text at ≡ from reader text j → at ≤ j → (r : Step) →
     Steps reader text j r →
     Steps whole text at r
 steps_from whole reader text at j e l (Ok next) s = record { low = omega (arith, s.low); high = s.high; reads = e ∙ s.reads }
 steps_from whole reader text at j e l (Err r) s = e ∙ s
+
+-- what was read is given when the last token was
+pub closed_from :
+    {A : Type 0} (whole : Reader A) (last : Reader (Unit {0})) (a : A) (facts : A → Type 0) (text : Text) (at j : ℕ) →
+    from whole text at ≡ from (last >>= λ _. give a) text j → at ≤ j → facts a → (r : Step) →
+    Steps last text j r →
+    Valued whole facts text at r
+unfolding give
+closed_from whole last a facts text at j e l h (Ok next) s = record {
+  what = a;
+  reads = record { low = omega (arith, s.low); high = s.high; reads = e ∙ onward last (λ _. give a) text j tt next s.reads };
+  holds = h;
+}
+closed_from whole last a facts text at j e l h (Err r) s = e ∙ halt last (λ _. give a) text j r.0 r.1 s

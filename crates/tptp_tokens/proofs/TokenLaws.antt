@@ -161,8 +161,3 @@ module _ (text : Text) (at i : ℕ) (s : Skips text at i) where
   unfolding opening bytes
   opening-over zero h = halt look _ text at Tptp i (look-over h)
   opening-over (suc room) h = token-over 40 h
-
--- a refusal that is passed on
-pub stays :
-    (C D : Step → Type 0) → ((e : Refused) → C (Err e) → D (Err e)) → {r : Step} {e : Refused} → r ≡ Err e → C r → D r
-stays C D f e c = subst D (sym e) (f _ (subst C e c))

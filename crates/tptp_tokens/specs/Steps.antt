@@ -43,12 +43,3 @@ pub record Value {A : Type 0} (reader : Reader A) (facts : A → Type 0) (text :
 abbrev pub Valued : {A : Type 0} (reader : Reader A) (facts : A → Type 0) (text : Text) (at : ℕ) (step : Step) → Type 0
 Valued reader facts text at (Ok next) = Value reader facts text at next
 Valued reader facts text at (Err e) = from reader text at ≡ refused e.0 e.1
-
--- an index is one of the text; what was read is followed by something else, unless it was refused
-abbrev pub Within : (text : Text) (step : Step) → Type 0
-Within text (Ok n) = n ≤ length text
-Within text (Err e) = Unit {0}
-
-abbrev pub Behind : (next : ℕ → Step → Type 0) (step r : Step) → Type 0
-Behind next (Ok n) r = next n r
-Behind next (Err e) r = r ≡ Err e

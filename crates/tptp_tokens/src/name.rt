@@ -2,7 +2,7 @@
 ghost use Rattle.std.specs.Prelude.{◌≡◌, ◌≤◌, length};
 ghost use Rattle.model.specs.Bytes.{small, word_byte};
 ghost use Rattle.model.specs.TptpReading as R;
-ghost use Rattle.tptp_tokens.specs.Steps.{Reads, Steps, Within, Behind};
+ghost use Rattle.tptp_tokens.specs.Steps.{Reads, Steps};
 
 use crate::tokens::{Step, skip};
 use model::{Refusal, Refused};
@@ -37,7 +37,7 @@ fn word_end(text: &[u8], at: usize) -> usize
 }
 
 // A name.
-fn name(text: &[u8], at: usize) -> Step
+pub fn name(text: &[u8], at: usize) -> Step
     requires { at ≤ length text.now }
     ensures { Steps R.name text.now at result }
 {
@@ -50,13 +50,4 @@ fn name(text: &[u8], at: usize) -> Step
         return Err(Refused(Refusal::Tptp, i));
     }
     Ok(word_end(text, i))
-}
-
-// A name, behind what was read before.
-pub fn then_name(text: &[u8], before: Step) -> Step
-    requires { Within text.now before }
-    ensures { Behind (Steps R.name text.now) before result × Within text.now result }
-{
-    let at = before?;
-    name(text, at)
 }
