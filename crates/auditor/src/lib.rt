@@ -6,9 +6,9 @@ ghost use Rattle.model.specs.Answer.{count, AnswersAs};
 ghost use Rattle.model.specs.Calls as C;
 ghost use Rattle.auditor.specs.Reduce.{Reduces};
 
-use model::{Answer, ROW_WORDS, Refusal};
+use model::{Answer, ROW_WORDS, Refusal, Refused};
 use residuals::residual::residual;
-use words::clearing::{clear, clear_bytes};
+use words::clearing::clear;
 
 // Check a policy over a table: questions 1 to 7. Accepted, the count is the greatest level.
 pub fn check_policy(table: &[i32], policy: &[i32]) -> Answer
@@ -29,27 +29,23 @@ pub fn dual(table: &[i32], policy: &[i32], buffer: &mut [i32]) -> Answer
     ensures answers_as { AnswersAs (C.dual_call table.now policy.now (length buffer.old)).answer result }
     ensures buffer_after { buffer.new ≡ (C.dual_call table.now policy.now (length buffer.old)).buffer }
 {
-    let asked = checks::check_policy(table, policy);
-    if let Answer::Refused(refusal, place) = asked {
-        clear(buffer, 0);
-        return Answer::Refused(refusal, place);
+    if let Err(refused) = checks::check_policy(table, policy) {
+        clear(buffer, 0, 0);
+        return Err(refused);
     }
     if buffer.len() < policy.len() {
-        clear(buffer, 0);
-        return Answer::Refused(Refusal::Room, 0);
+        clear(buffer, 0, 0);
+        return Err(Refused(Refusal::Room, 0));
     }
     duals::dual_words::write_dual(policy, buffer);
-    Answer::Accepted(policy.len())
+    Ok(policy.len())
 }
 
 // How many words of a buffer an answer counts: none, if it is a refusal.
 fn counted(answer: Answer) -> usize
     ensures { result ≡ count answer }
 {
-    match answer {
-        Answer::Accepted(n) => n,
-        Answer::Refused(_, _) => 0,
-    }
+    answer.unwrap_or(0)
 }
 
 // Write the residual of a policy over a log: questions 1 to 12. Accepted, the count is its length.
@@ -63,8 +59,8 @@ pub fn reduce(
     ensures { Reduces table.now policy.now log.now scratch.old buffer.old result scratch.new buffer.new }
 {
     let answer = residual(table, policy, log, scratch, buffer);
-    clear(scratch, 0);
-    clear(buffer, counted(answer));
+    clear(scratch, 0, 0);
+    clear(buffer, counted(answer), 0);
     answer
 }
 
@@ -74,7 +70,7 @@ pub fn read_log(table: &[i32], text: &[u8], buffer: &mut [i32]) -> Answer
     ensures buffer_after { buffer.new ≡ (C.read_log_call table.now text.now (length buffer.old)).buffer }
 {
     let answer = log_texts::read(table, text, buffer);
-    clear(buffer, ROW_WORDS * counted(answer));
+    clear(buffer, ROW_WORDS * counted(answer), 0);
     answer
 }
 
@@ -83,9 +79,9 @@ pub fn write_log(table: &[i32], log: &[i32], buffer: &mut [u8]) -> Answer
     ensures answers_as { AnswersAs (C.write_log_call table.now log.now (length buffer.old)).answer result }
     ensures buffer_after { buffer.new ≡ (C.write_log_call table.now log.now (length buffer.old)).buffer }
 {
-    let answer = log_texts::write(table, log, buffer);
-    clear_bytes(buffer, counted(answer));
-    answer
+    let text = log_texts::write(table, log, buffer);
+    clear(buffer, counted(text), 0);
+    text
 }
 
 // Read a policy from text in the TPTP typed form over a table: questions 1, 15 (or 4, of parentheses), 2 to 7 of the words that it
@@ -95,7 +91,7 @@ pub fn read_policy(table: &[i32], text: &[u8], buffer: &mut [i32]) -> Answer
     ensures buffer_after { buffer.new ≡ (C.read_policy_call table.now text.now (length buffer.old)).buffer }
 {
     let answer = policy_texts::read(table, text, buffer);
-    clear(buffer, counted(answer));
+    clear(buffer, counted(answer), 0);
     answer
 }
 
@@ -105,6 +101,6 @@ pub fn write_policy(table: &[i32], policy: &[i32], buffer: &mut [u8]) -> Answer
     ensures buffer_after { buffer.new ≡ (C.write_policy_call table.now policy.now (length buffer.old)).buffer }
 {
     let answer = policy_texts::write(table, policy, buffer);
-    clear_bytes(buffer, counted(answer));
+    clear(buffer, counted(answer), 0);
     answer
 }

@@ -99,133 +99,109 @@ module _ (key : ℕ → ℕ) (k i rows x : ℕ) (e : x ≡ link rows (chain key 
       (chain_first key k i rows)
 
 -- keys and links while they are filled: the rows from `from` on are linked, and their keys kept
-pub record Filling (key : ℕ → ℕ) (heads rows from : ℕ) (keys₀ keys links₀ links : List ℕ) : Type 0 where
-  pub keys-long : length keys ≡ length keys₀
-  pub long : length links ≡ length links₀
+pub record Filling (key : ℕ → ℕ) (heads rows from : ℕ) (keys links : List ℕ) : Type 0 where
+  pub keys-long : rows ≤ length keys
+  pub long : heads + rows ≤ length links
   pub kept : (r : ℕ) → from ≤ r → r < rows → get_or keys r 0 ≡ key r
   pub first : (k : ℕ) → k < heads → get_or links k 0 ≡ link rows (chain key k from rows)
   pub nexts : (r : ℕ) → from ≤ r → r < rows → get_or links (heads + r) 0 ≡ link rows (chain key (key r) (r + 1) rows)
 
-pub filling_from :
-    {key : ℕ → ℕ} {heads rows from : ℕ} {keys₀ keys links₀ links : List ℕ} (other : ℕ) → from ≡ other →
-    Filling key heads rows from keys₀ keys links₀ links → Filling key heads rows other keys₀ keys links₀ links
-filling_from {key} {heads} {rows} {from} {keys₀} {keys} {links₀} {links} other e f =
-    subst (λ (n : ℕ). Filling key heads rows n keys₀ keys links₀ links) e f
+module _ (key : ℕ → ℕ) (heads rows : ℕ) where
+  -- at first no row is linked
+  pub fill_start : (from : ℕ) (keys links : List ℕ) → rows ≤ from → rows ≤ length keys → Empty heads rows links → Filling key heads rows from keys links
+  fill_start from keys links l room start = record {
+    keys-long = room;
+    long = start.within;
+    kept = λ r h i. absurd (omega arith);
+    first = λ k h. start.none k h ∙ sym (link-none rows (chain_end key k from rows l));
+    nexts = λ r h i. absurd (omega arith);
+  }
 
--- the keys are below the number of heads, and there is room for those of the rows
-module _
-    (key : ℕ → ℕ) (heads rows : ℕ) (keys₀ links₀ : List ℕ)
-    (small : (r : ℕ) → key r < heads)
-    (room : rows ≤ length keys₀)
-    (start : Empty heads rows links₀)
-  where
-    -- at first no row is linked
-    pub fill_start : Filling key heads rows rows keys₀ keys₀ links₀ links₀
-    fill_start = record {
-      keys-long = refl;
-      long = refl;
-      kept = λ r h l. absurd (omega arith);
-      first = λ k h. start.none k h ∙ sym (link-none rows (chain_end key k rows rows (omega arith)));
-      nexts = λ r h l. absurd (omega arith);
-    }
+  -- at the end all are
+  pub fill_end : (keys links : List ℕ) (from : ℕ) → from ≡ 0 → Filling key heads rows from keys links → Chained key heads rows links
+  fill_end keys links from z f = record {
+    within = f.long;
+    heads = λ k h. f.first k h ∙ ap (λ (i : ℕ). link rows (chain key k i rows)) z;
+    nexts = λ r h. f.nexts r (omega arith) h;
+  }
 
-    module _
-        (row from x k : ℕ) (keys links : List ℕ) (inside : row < rows) (next : from ≡ row + 1)
-        (f : Filling key heads rows from keys₀ keys links₀ links) (is : x ≡ rows - row) (found : k ≡ key row)
-      where
-        -- the key of the row to be linked
-        pub key-within : k < heads
-        key-within = omega (arith, small row)
+  -- one row more: its key is below the number of heads
+  module _
+      (row from x k : ℕ) (keys links : List ℕ) (small : k < heads) (inside : row < rows) (next : from ≡ row + 1)
+      (f : Filling key heads rows from keys links) (is : x ≡ rows - row) (found : k ≡ key row)
+    where
+      -- the keys with one more, and the links with one row more in front of its chain
+      abbrev more-keys : List ℕ
+      more-keys = set keys row k
 
-        pub key_fits : k < length links
-        key_fits = let l = f.long in let w = start.within in omega (arith, key-within)
+      abbrev half : List ℕ
+      half = set links (heads + row) (get_or links k 0)
 
-        pub row_fits : heads + row < length links
-        row_fits = let l = f.long in let w = start.within in omega arith
+      abbrev more : List ℕ
+      more = set half k x
 
-        pub keys-fit : row < length keys
-        keys-fit = let l = f.keys-long in omega arith
+      -- what stands at the row, at its key, and elsewhere
+      at_row : get_or more (heads + row) 0 ≡ get_or links k 0
+      at_row =
+          get_or-set_other half k (heads + row) x 0 (λ q. omega arith)
+          ∙ get_or-set_same links (heads + row) (get_or links k 0) 0 (let l = f.long in omega arith)
 
-        -- the keys with one more, and the links with one row more in front of its chain
-        abbrev more-keys : List ℕ
-        more-keys = set keys row k
+      at_key : get_or more k 0 ≡ x
+      at_key = get_or-set_same half k x 0 (let l = f.long in rw length-set (omega arith))
 
-        abbrev half : List ℕ
-        half = set links (heads + row) (get_or links k 0)
+      elsewhere : (j : ℕ) → (k ≡ j → ⊥) → (heads + row ≡ j → ⊥) → get_or more j 0 ≡ get_or links j 0
+      elsewhere j n m =
+          get_or-set_other half k j x 0 (λ q. n (sym q))
+          ∙ get_or-set_other links (heads + row) j (get_or links k 0) 0 (λ q. m (sym q))
 
-        abbrev more : List ℕ
-        more = set half k x
+      first_more : (j : ℕ) → j < heads → get_or more j 0 ≡ link rows (chain key j row rows)
+      first_more j h =
+          ⊎_elim
+          (λ e.
+          let same : k ≡ j = eqb-true _ _ e in
+          ap (λ (i : ℕ). get_or more i 0) (sym same)
+          ∙ at_key
+          ∙ is
+          ∙ sym (link-some rows row _ (chain-here key j row rows inside (sym found ∙ same))))
+          (λ e.
+          let other : k ≡ j → ⊥ = eqb-false _ _ e in
+          elsewhere j other (λ q. omega arith)
+          ∙ f.first j h
+          ∙ ap (λ (i : ℕ). link rows (chain key j i rows)) next
+          ∙ ap (link rows) (sym (chain_past key j row rows inside (λ q. other (found ∙ q)))))
+          (decide (eqb k j))
 
-        -- what stands at the row, at its key, and elsewhere
-        at_row : get_or more (heads + row) 0 ≡ get_or links k 0
-        at_row =
-            get_or-set_other half k (heads + row) x 0 (λ q. let s = key-within in omega arith)
-            ∙ get_or-set_same links (heads + row) (get_or links k 0) 0 row_fits
+      -- of the rows from this one on: this one, or a later one
+      this_or_later : (P : ℕ → Type 0) (r : ℕ) → row ≤ r → P row → ((row ≡ r → ⊥) → from ≤ r → P r) → P r
+      this_or_later P r l here later =
+          ⊎_elim
+          (λ e. subst P (eqb-true row r e) here)
+          (λ e.
+          let other : row ≡ r → ⊥ = eqb-false _ _ e in
+          later other (⊎_elim (λ q. absurd (other (omega arith))) (λ q. omega arith) (side (row + 1) r)))
+          (decide (eqb row r))
 
-        at_key : get_or more k 0 ≡ x
-        at_key = get_or-set_same half k x 0 (rw length-set key_fits)
+      kept_more : (r : ℕ) → row ≤ r → r < rows → get_or more-keys r 0 ≡ key r
+      kept_more r l h =
+          this_or_later (λ q. get_or more-keys q 0 ≡ key q) r l
+          (get_or-set_same keys row k 0 (let l = f.keys-long in omega arith) ∙ found)
+          (λ other later. get_or-set_other keys row r k 0 (λ z. other (sym z)) ∙ f.kept r later h)
 
-        elsewhere : (j : ℕ) → (k ≡ j → ⊥) → (heads + row ≡ j → ⊥) → get_or more j 0 ≡ get_or links j 0
-        elsewhere j n m =
-            get_or-set_other half k j x 0 (λ q. n (sym q))
-            ∙ get_or-set_other links (heads + row) j (get_or links k 0) 0 (λ q. m (sym q))
+      next_more : (r : ℕ) → row ≤ r → r < rows → get_or more (heads + r) 0 ≡ link rows (chain key (key r) (r + 1) rows)
+      next_more r l h =
+          this_or_later (λ q. get_or more (heads + q) 0 ≡ link rows (chain key (key q) (q + 1) rows)) r l
+          (at_row
+          ∙ f.first k small
+          ∙ ap₂ (λ (j i : ℕ). link rows (chain key j i rows)) found next)
+          (λ other later.
+          elsewhere (heads + r) (λ q. omega arith) (λ q. other (omega arith))
+          ∙ f.nexts r later h)
 
-        first_more : (j : ℕ) → j < heads → get_or more j 0 ≡ link rows (chain key j row rows)
-        first_more j h =
-            ⊎_elim
-            (λ e.
-            let same : k ≡ j = eqb-true _ _ e in
-            ap (λ (i : ℕ). get_or more i 0) (sym same)
-            ∙ at_key
-            ∙ is
-            ∙ sym (link-some rows row _ (chain-here key j row rows inside (sym found ∙ same))))
-            (λ e.
-            let other : k ≡ j → ⊥ = eqb-false _ _ e in
-            elsewhere j other (λ q. omega arith)
-            ∙ f.first j h
-            ∙ ap (λ (i : ℕ). link rows (chain key j i rows)) next
-            ∙ ap (link rows) (sym (chain_past key j row rows inside (λ q. other (found ∙ q)))))
-            (decide (eqb k j))
-
-        -- of the rows from this one on: this one, or a later one
-        this_or_later : (P : ℕ → Type 0) (r : ℕ) → row ≤ r → P row → ((row ≡ r → ⊥) → from ≤ r → P r) → P r
-        this_or_later P r l here later =
-            ⊎_elim
-            (λ e. subst P (eqb-true row r e) here)
-            (λ e.
-            let other : row ≡ r → ⊥ = eqb-false _ _ e in
-            later other (⊎_elim (λ q. absurd (other (omega arith))) (λ q. omega arith) (side (row + 1) r)))
-            (decide (eqb row r))
-
-        kept_more : (r : ℕ) → row ≤ r → r < rows → get_or more-keys r 0 ≡ key r
-        kept_more r l h =
-            this_or_later (λ q. get_or more-keys q 0 ≡ key q) r l
-            (get_or-set_same keys row k 0 keys-fit ∙ found)
-            (λ other later. get_or-set_other keys row r k 0 (λ z. other (sym z)) ∙ f.kept r later h)
-
-        next_more : (r : ℕ) → row ≤ r → r < rows → get_or more (heads + r) 0 ≡ link rows (chain key (key r) (r + 1) rows)
-        next_more r l h =
-            this_or_later (λ q. get_or more (heads + q) 0 ≡ link rows (chain key (key q) (q + 1) rows)) r l
-            (at_row
-            ∙ f.first k key-within
-            ∙ ap₂ (λ (j i : ℕ). link rows (chain key j i rows)) found next)
-            (λ other later.
-            elsewhere (heads + r) (λ q. let s = key-within in omega arith) (λ q. other (omega arith))
-            ∙ f.nexts r later h)
-
-        pub fill_step : Filling key heads rows row keys₀ more-keys links₀ more
-        fill_step = record {
-          keys-long = simp length-set f.keys-long;
-          long = simp length-set f.long;
-          kept = kept_more;
-          first = first_more;
-          nexts = next_more;
-        }
-
-    -- at the end all are
-    pub fill_end : (keys links : List ℕ) (from : ℕ) → from ≡ 0 → Filling key heads rows from keys₀ keys links₀ links → Chained key heads rows links
-    fill_end keys links from z f = record {
-      within = let l = f.long in let w = start.within in omega arith;
-      heads = λ k h. f.first k h ∙ ap (λ (i : ℕ). link rows (chain key k i rows)) z;
-      nexts = λ r h. f.nexts r (omega arith) h;
-    }
+      pub fill_step : Filling key heads rows row more-keys more
+      fill_step = record {
+        keys-long = simp length-set f.keys-long;
+        long = simp length-set f.long;
+        kept = kept_more;
+        first = first_more;
+        nexts = next_more;
+      }

@@ -15,7 +15,7 @@ use Rattle.model.specs.Lists.{span, keep}
 use Rattle.model.specs.Log.{row_at, holds}
 use Rattle.laws.specs.Words.Tests.{clash}
 use Rattle.laws.specs.Lists.Span.{span_mem}
-use Rattle.chains.specs.declared.search.Found.TheVariants.{At, Nothing}
+use Rattle.std.specs.Prelude.{Some, None}
 use Rattle.chains.specs.Search.{first_row}
 use Rattle.chains.specs.Chain.{chain, link, Chained}
 use Rattle.chains.specs.Key.{atom_key, row_key}
@@ -37,7 +37,7 @@ module _ (log : Words) (p : ℕ) (ns : List ℤ) where
       go :
           (a b : Bool) → (a ≡ true → b ≡ true) → a ≡ holds p ns (row_at log r) →
           first_row log p ns rs ≡ first_row log p ns (keep test rs) →
-          cond a (At r) (first_row log p ns rs) ≡ first_row log p ns (cond b (r ∷ keep test rs) (keep test rs))
+          cond a (Some r) (first_row log p ns rs) ≡ first_row log p ns (cond b (r ∷ keep test rs) (keep test rs))
       go true true t e ih = rw (sym e)
       go true false t e ih = clash (t refl) refl
       go false true t e ih = rw (sym e) ih
@@ -60,44 +60,44 @@ module _ (log : Words) (p : ℕ) (ns : List ℤ) where
     pub linked : x ≡ link rows (chain (row_key log) k from rows)
     pub left : first_row log p ns (span 0 rows) ≡ first_row log p ns (chain (row_key log) k from rows)
 
-  module _ (k rows from x : ℕ) (s : Searching k rows from x) where
-    -- no link: the chain has ended
-    pub search_none : x ≡ 0 → Nothing ≡ first_row log p ns (span 0 rows)
+module _ {log : Words} {p : ℕ} {ns : List ℤ} {k rows from x : ℕ} (s : Searching log p ns k rows from x) where
+  -- no link: the chain has ended
+  pub search_none : x ≡ 0 → None ≡ first_row log p ns (span 0 rows)
+  unfolding first_row
+  search_none z = sym (s.left ∙ ap (first_row log p ns) (walk_end (row_key log) k from rows x s.linked z))
+
+  module _ (some : x ≡ 0 → ⊥) where
+    -- the link is a row's
+    pub search_row : First (row_key log) k from rows (rows - x) × (x ≤ rows)
+    search_row = walk_step (row_key log) k from rows x s.linked some
+
+    -- it holds the atom, or the search goes on behind it
+    pub search_found : holds p ns (row_at log (rows - x)) ≡ true → Some (rows - x) ≡ first_row log p ns (span 0 rows)
     unfolding first_row
-    search_none z = sym (s.left ∙ ap (first_row log p ns) (walk_end (row_key log) k from rows x s.linked z))
+    search_found h = sym (s.left ∙ ap (first_row log p ns) search_row.0.rest ∙ rw h)
 
-    module _ (some : x ≡ 0 → ⊥) where
-      -- the link is a row's
-      pub search_row : First (row_key log) k from rows (rows - x) × (x ≤ rows)
-      search_row = walk_step (row_key log) k from rows x s.linked some
+    -- a row that holds the atom and is the first of the key is the row found
+    pub search_first : (row : ℕ) → rows - x ≡ row → holds p ns (row_at log row) ≡ true → Some row ≡ first_row log p ns (span 0 rows)
+    search_first row e h =
+        ap Some (sym e) ∙ search_found (ap (λ (r : ℕ). holds p ns (row_at log r)) e ∙ h)
 
-      -- it holds the atom, or the search goes on behind it
-      pub search_found : holds p ns (row_at log (rows - x)) ≡ true → At (rows - x) ≡ first_row log p ns (span 0 rows)
+    module _ {links : List ℕ} {keys y : ℕ} (c : Chained (row_key log) keys rows links) (e : y ≡ get_or links (keys + (rows - x)) 0) where
+      next-link : y ≡ link rows (chain (row_key log) k (rows - x + 1) rows)
+      next-link =
+          e
+          ∙ c.nexts (rows - x) search_row.0.inside
+          ∙ ap (λ (j : ℕ). link rows (chain (row_key log) j (rows - x + 1) rows)) search_row.0.same
+
+      pub search_next : holds p ns (row_at log (rows - x)) ≡ false → Searching log p ns k rows (rows - x + 1) y
       unfolding first_row
-      search_found h = sym (s.left ∙ ap (first_row log p ns) search_row.0.rest ∙ rw h)
+      search_next h = record {
+        linked = next-link;
+        left = s.left ∙ ap (first_row log p ns) search_row.0.rest ∙ rw h;
+      }
 
-      -- a row that holds the atom and is the first of the key is the row found
-      pub search_first : (row : ℕ) → rows - x ≡ row → holds p ns (row_at log row) ≡ true → At row ≡ first_row log p ns (span 0 rows)
-      search_first row e h =
-          ap At (sym e) ∙ search_found (ap (λ (r : ℕ). holds p ns (row_at log r)) e ∙ h)
-
-      module _ (links : List ℕ) (keys y : ℕ) (c : Chained (row_key log) keys rows links) (e : y ≡ get_or links (keys + (rows - x)) 0) where
-        next-link : y ≡ link rows (chain (row_key log) k (rows - x + 1) rows)
-        next-link =
-            e
-            ∙ c.nexts (rows - x) search_row.0.inside
-            ∙ ap (λ (j : ℕ). link rows (chain (row_key log) j (rows - x + 1) rows)) search_row.0.same
-
-        pub search_next : holds p ns (row_at log (rows - x)) ≡ false → Searching k rows (rows - x + 1) y
-        unfolding first_row
-        search_next h = record {
-          linked = next-link;
-          left = s.left ∙ ap (first_row log p ns) search_row.0.rest ∙ rw h;
-        }
-
-        pub search_less : y < x
-        search_less =
-            let small = link-small (row_key log) k (rows - x + 1) rows y next-link in
-            let b = search_row.0.inside in
-            let w = search_row.1 in
-            omega arith
+      pub search_less : y < x
+      search_less =
+          let small = link-small (row_key log) k (rows - x + 1) rows y next-link in
+          let b = search_row.0.inside in
+          let w = search_row.1 in
+          omega arith

@@ -20,13 +20,10 @@ pub fn fill(kind: Kind, log: &[i32], keys: &mut [u16], links: &mut [u16])
 {
     let rows = log.len() / ROW_WORDS;
     let heads = key::heads(kind);
-    let mut link = 1;
-    while link <= rows {
-        let row = rows - link;
+    for row in (0..rows).rev() {
         let key = key::of(kind, log, row);
         keys[row] = key as u16;
         links[heads + row] = links[key];
-        links[key] = link as u16;
-        link += 1;
+        links[key] = (rows - row) as u16;
     }
 }

@@ -9,13 +9,6 @@ ghost use Rattle.chains.specs.Search.{first_row};
 use crate::key;
 use model::{ARGUMENTS_FROM, ROW_WORDS};
 
-// The row that a search finds.
-#[derive(Clone, Copy)]
-pub enum Found {
-    At(usize),
-    Nothing,
-}
-
 // The first row of a log that holds the atom of a predicate at six arguments, the unused ones 0, from the atom's key on.
 pub fn search(
     log: &[i32],
@@ -23,7 +16,7 @@ pub fn search(
     start: usize,
     predicate: usize,
     arguments: &[i32],
-) -> Found
+) -> Option<usize>
     requires { Chained (row_key log.now) atom_keys (row_count log.now) links.now
         × (length arguments.now ≡ 6)
         × (start ≡ atom_key predicate arguments.now 0) }
@@ -31,23 +24,20 @@ pub fn search(
 {
     let rows = log.len() / ROW_WORDS;
     let mut link = links[start] as usize;
-    let found = 'rows: loop {
+    'rows: loop {
         if link == 0 {
-            break 'rows Found::Nothing;
+            break 'rows None;
         }
         let row = rows - link;
         link = links[key::ATOM_KEYS + row] as usize;
         if !words::is(log, ROW_WORDS * row, predicate) {
             continue 'rows;
         }
-        let mut i = 0;
-        while i < 6 {
+        for i in 0..6 {
             if !words::same(log, ROW_WORDS * row + ARGUMENTS_FROM + i, arguments, i) {
                 continue 'rows;
             }
-            i += 1;
         }
-        break 'rows Found::At(row);
-    };
-    found
+        break 'rows Some(row);
+    }
 }

@@ -1,6 +1,7 @@
 -- The calls, outcome by outcome.
 use Prim.Native.Nat.{ℕ}
-use mathlib.Core.Path.{◌≡◌, refl, sym, ap}
+use mathlib.Core.Path.{◌≡◌, refl, sym, ap, ap₂}
+use lib.ListN.{length}
 use native.Mathlib.Omega.{arith}
 use Rattle.std.specs.Prelude.{Ok, Err}
 use Rattle.model.specs.declared.Refusal.{Refusal}
@@ -14,8 +15,9 @@ use Rattle.model.specs.Mode.{ask_modes}
 use Rattle.model.specs.Log.{row_count, ask_log}
 use Rattle.model.specs.Calls.{ask_policy, check_policy, check_log}
 use Rattle.laws.specs.Answer.{answer-accepted, answer-refused}
-use Rattle.policies.specs.Policy.{told_policy}
-use Rattle.policies.specs.declared.policy.Walked.TheVariants as walked
+use Rattle.policies.specs.Policy.{walked, told_policy}
+use Rattle.policies.specs.declared.policy.Walked.{Walked}
+use Rattle.model.specs.declared.Refused.{Refused}
 use Rattle.checks.specs.Accepts.{Accepts}
 
 -- what an answer says of the questions
@@ -27,17 +29,20 @@ was_passed count o {k} e = let (a, passes, size) = answer-accepted count o k (sy
 
 -- what is told of a reading is what came of it
 told-refused :
-    (policy : Words) (o : Outcome Tree) {r : Refusal} {p : ℕ} → walked.Refused r p ≡ told_policy policy o → o ≡ refused r p
+    (policy : Words) (o : Outcome Tree) {r : Refusal} {p : ℕ} → Err (refused_at r p) ≡ told_policy policy o → o ≡ refused r p
 unfolding told_policy
-told-refused policy (refused r p) e = cc
+told-refused policy (refused r' p') {r} {p} e =
+    let same : refused_at r p ≡ refused_at r' p' = cc in sym (ap₂ refused (ap (λ (f : Refused). f.0) same) (ap (λ (f : Refused). f.1) same))
 told-refused policy (passed t) e = cc
 
 told-read :
-    (policy : Words) (o : Outcome Tree) {n level : ℕ} → walked.Read n level ≡ told_policy policy o →
+    (policy : Words) (o : Outcome Tree) {n level : ℕ} → walked n level ≡ told_policy policy o →
     (tree : Tree) × (o ≡ passed tree) × (level ≡ greatest tree formula 0)
 unfolding told_policy
 told-read policy (refused r p) e = absurd (let z : ◌≡◌ {A = ℕ} 0 1 = cc in omega arith)
-told-read policy (passed t) e = (t, refl, cc)
+told-read policy (passed t) {n} {level} e =
+    let same : ◌≡◌ {A = Walked} (record { next = n; level = level }) (record { next = length policy; level = greatest t formula 0 }) = cc in
+    (t, refl, ap (λ (w : Walked). w.level) same)
 
 module _ (table policy : Words) where
   -- what the check of a policy says of questions 1 to 7
@@ -55,12 +60,12 @@ module _ (table policy : Words) where
 
   module _ (e : ask_table table ≡ passed tt) where
     pub policy-refused :
-        {r : Refusal} {p : ℕ} → walked.Refused r p ≡ told_policy policy (read_policy table policy) → check_policy table policy ≡ Err (refused_at r p)
+        {r : Refusal} {p : ℕ} → Err (refused_at r p) ≡ told_policy policy (read_policy table policy) → check_policy table policy ≡ Err (refused_at r p)
     unfolding check_policy ask_policy answer ◌>>=◌
     policy-refused f = rw (e, told-refused policy (read_policy table policy) f)
 
     -- the policy was read
-    module _ {n level : ℕ} (f : walked.Read n level ≡ told_policy policy (read_policy table policy)) where
+    module _ {n level : ℕ} (f : walked n level ≡ told_policy policy (read_policy table policy)) where
       pub tree-read : (tree : Tree) × (read_policy table policy ≡ passed tree) × (level ≡ greatest tree formula 0)
       tree-read = told-read policy (read_policy table policy) f
 

@@ -84,6 +84,7 @@ fn swap(words: &[i32], buffer: &mut [i32])
 }
 
 // The dual of the policy that the words are, then zeros.
+#[tactic(auto, unfolding(model::specs::Calls::zeros))]
 pub fn write_dual(words: &[i32], buffer: &mut [i32])
     requires { (length words.now ≤ length buffer.old)
         × ((tree : Tree) × G.Tupled tree × (encode tree ≡ words.now)) }
@@ -95,5 +96,5 @@ pub fn write_dual(words: &[i32], buffer: &mut [i32])
 {
     copy_words(words, 0, words.len(), buffer, 0);
     swap(words, buffer);
-    clear(buffer, words.len());
+    clear(buffer, words.len(), 0);
 }

@@ -5,8 +5,8 @@ use native.Mathlib.Numerals.{add-one}
 use mathlib.Core.Path.{◌≡◌, refl, sym, ap, ◌∙◌}
 use mathlib.Core.Bool.{Bool, cond, true, false}
 use mathlib.Core.List.{List, [], ◌∷◌, ◌++◌, append_assoc, append-nil}
-use lib.ListN.{length, get_or, set, take, drop, length-drop}
-use lib.Seq.{take-suc-set, take-suc, take_all, drop-cons, drop-set-lt, get_or-drop}
+use lib.ListN.{length, get_or, set, take, drop}
+use lib.Seq.{take-suc-set, take_all, drop-cons, drop-set-lt}
 use lib.Dec.{eqb}
 use mir.Val.{bool_byte}
 use Rattle.environments.specs.Environment.{bits, unbits}
@@ -18,19 +18,6 @@ module _ {A : Type 0} where
 
   pub drop-next : (l : List A) (i : ℕ) (v : A) → drop (i + 1) (set l i v) ≡ drop (i + 1) l
   drop-next l i v = drop-set-lt (i + 1) l i v (omega arith)
-
-  -- the copy of a part of a list, one element longer
-  pub copy_next :
-      (l s : List A) (at i : ℕ) (d : A) →
-      i < length l →
-      at + i < length s →
-      take i l ≡ take i (drop at s) →
-      take (i + 1) (set l i (get_or s (at + i) d)) ≡ take (i + 1) (drop at s)
-  copy_next l s at i d h k e =
-      take_next l i (get_or s (at + i) d) h
-      ∙ ap (λ (p : List A). p ++ (get_or s (at + i) d ∷ [])) e
-      ∙ ap (λ (v : A). take i (drop at s) ++ (v ∷ [])) (sym (get_or-drop at s i d))
-      ∙ sym (rw (add-one i) (take-suc (drop at s) i d (rw (length-drop at s) (omega arith))))
 
 -- the marks that are there and those that the rest of the number has are one more and one less
 pub unbits-next :

@@ -3,6 +3,5 @@ pub mod Places
 pub mod ListedLaws
 pub mod ListsLaws
 pub mod Filling
-pub mod CopyLaws
 pub mod Sums
 pub mod TermLaws

@@ -5,16 +5,16 @@ use native.Mathlib.Omega.{arith}
 use native.Mathlib.Numerals.{add-one}
 use mathlib.Core.Path.{◌≡◌, refl, sym, ap, ap₂, ◌∙◌, subst}
 use mathlib.Core.List.{List, [], ◌∷◌, ◌++◌, map, map-append, append_assoc}
-use lib.ListN.{length, take, drop, length-append, length-drop, length-map, take-append-drop}
+use lib.ListN.{length, take, drop, length-append, length-map, take-append-drop}
 use lib.Seq.{take_at, drop-drop, take-take, take-add, take-suc, take_all, length-take-le}
 use Rattle.model.specs.Words.{Words}
 use Rattle.model.specs.Lists.{gather}
 use Rattle.model.specs.Listing.{free, Environment, release}
 use Rattle.environments.specs.Environment.{place_of, place_at, stored}
 use Rattle.environments.specs.Listed.{Listed}
-use Rattle.environments.specs.Lists.{Outside, Moved, Released}
+use Rattle.environments.specs.Lists.{Outside, Released}
 use Rattle.environments.proofs.Places.{place-length}
-use Rattle.environments.proofs.ListedLaws.{environment_of, places-length, listed-none, listed_more, listed_kept, listed_at, laid-length}
+use Rattle.environments.proofs.ListedLaws.{environment_of, places-length, listed_more, listed_kept, listed_at, laid-length}
 use Rattle.environments.proofs.ListedLaws.{laid-front, laid-here, laid-behind}
 
 -- what is gathered of two lists
@@ -81,10 +81,6 @@ module _ (before after : Words) (k : ℕ) (same : drop k after ≡ drop k before
       let on : (ws : Words) → drop (j - k) (drop k ws) ≡ drop j ws = λ ws. drop-drop (j - k) k ws ∙ ap (λ (n : ℕ). drop n ws) far in
       sym (on after) ∙ ap (drop (j - k)) same ∙ on before
 
--- nothing is changed
-pub outside-same : (before : Words) (first count : ℕ) → Outside before before first count
-outside-same before first count = record { long = refl; front = refl; behind = refl }
-
 module _ (before after : Words) (first count : ℕ) (o : Outside before after first count) where
   -- words further in front, and further behind
   pub outside-front : (k : ℕ) → k ≤ 17 * first → take k after ≡ take k before
@@ -143,57 +139,7 @@ listed_next scratch after first es e i n l o here =
     (listed-before scratch after (first + i) 1 o first es (omega arith) l)
     (ap (λ (k : ℕ). place_at after (first + k)) n ∙ here)
 
--- no environment, wherever it is
-listed-zero : (ws : Words) (first : ℕ) (es : List Environment) → length es ≡ 0 → Listed ws first es
-listed-zero ws first [] n = listed-none ws first
-listed-zero ws first (e ∷ es) n = absurd (omega arith)
-
--- places moved one by one
-pub moved_none : (before : Words) (from to : ℕ) → Moved before before from 0 to
-moved_none before from to = record { outside = outside-same before to 0; listed = λ es l n. listed-zero before to es n }
-
-pub moved_same : (before : Words) (from count to : ℕ) → to ≡ from → Moved before before from count to
-moved_same before from count to q =
-    record { outside = outside-same before to count; listed = λ es l n. subst (λ (k : ℕ). Listed before k es) (sym q) l }
-
-module _
-    (before scratch after : Words) (from i to : ℕ) (down : to ≤ from) (room : 17 * (from + i) + 17 ≤ length before)
-    (m : Moved before scratch from i to)
-    (is : after ≡ take (17 * (to + i)) scratch ++ (place_at scratch (from + i) ++ drop (17 * (to + i) + 17) scratch)) where
-  -- there is room for the place read and the place written
-  read-room : 17 * (from + i) + 17 ≤ length scratch
-  read-room = omega (arith, m.outside.long)
-
-  write-room : 17 * (to + i) + 17 ≤ length scratch
-  write-room = omega (arith, m.outside.long)
-
-  part-long : length (place_at scratch (from + i)) ≡ 17
-  part-long = length-take-le 17 (drop (17 * (from + i)) scratch) (rw (length-drop (17 * (from + i)) scratch) (omega (arith, read-room)))
-
-  one_place : Outside scratch after (to + i) 1
-  one_place = outside-stored scratch (place_at scratch (from + i)) after (to + i) part-long write-room is
-
-  moved_listed : (es : List Environment) → Listed before from es → length es ≡ i + 1 → Listed after to es
-  moved_listed es l n =
-      let few : length (take i es) ≡ i = length-take-le i es (omega arith) in
-      let here =
-      stands-stored scratch (place_at scratch (from + i)) after (to + i) part-long write-room is
-      ∙ ap (take 17) (outside_behind before scratch to i m.outside (17 * (from + i)) (omega arith))
-      ∙ listed_at before from es l i (omega arith) in
-      subst (Listed after to) (snoc_back es i n)
-      (listed_next scratch after to (take i es) (environment_of es i) i few (m.listed (take i es) (listed-take before from es l i) few) one_place here)
-
-  pub moved_on : Moved before after from (i + 1) to
-  moved_on = record { outside = outside_then before scratch to i m.outside after 1 one_place; listed = moved_listed }
-
 -- a variable dropped in places one by one
-pub released_none : (variable : ℕ) (before : Words) (from : ℕ) (es : List Environment) → length es ≡ 0 → Released variable before before from es
-released_none variable before from es n =
-    record {
-      outside = outside-same before from (length es);
-      listed = listed-zero before from (map (λ e. release e variable) es) (length-map es (λ e. release e variable) ∙ n);
-    }
-
 module _
     (variable : ℕ) (before scratch : Words) (from i : ℕ)
     (es : List Environment) (l : Listed before from es) (n : length es ≡ i + 1)

@@ -1,5 +1,5 @@
 -- Signed words of 32 bits widened to 64 bits and added: nothing wraps.
-use Prim.Native.Nat.{ℕ, suc, ◌+◌, ◌-◌, ◌^◌, ◌<◌}
+use Prim.Native.Nat.{ℕ, suc, ◌^◌, ◌<◌}
 use native.Mathlib.Omega.{arith}
 use mathlib.Core.Path.{◌≡◌, ap, ◌∙◌}
 use mathlib.Core.Logic.{⊎_elim}
@@ -23,7 +23,3 @@ sum_fits (negsuc a) (negsuc b) h k = record { sfits = omega (arith, h.sfits, k.s
 -- what the machine reads back of a widened word is the word
 pub widened : (x : ℤ) → SFits w32 x → to_z w64 (of_z w64 (to_z w32 (of_z w32 x))) ≡ x
 widened x h = ap (λ (z : ℤ). to_z w64 (of_z w64 z)) (to_z-of_z h) ∙ to_z-of_z (sfits_widen {w' = w64} tt h)
-
--- and it fits
-pub widens : (x : ℤ) → SFits w32 x → SFits w64 (to_z w32 (of_z w32 x))
-widens x h = rw (to_z-of_z h) (sfits_widen tt h)

@@ -8,9 +8,7 @@ fn marks_word(marks: [bool; 16]) -> usize
     ensures { result ≡ bits marks }
 {
     let mut word = 0;
-    let mut i = 16;
-    while 0 < i {
-        i -= 1;
+    for i in (0..16).rev() {
         word = 2 * word + marks[i] as usize;
     }
     word
@@ -22,11 +20,9 @@ fn marks_of(word: usize) -> [bool; 16]
 {
     let mut marks = [false; 16];
     let mut left = word;
-    let mut i = 0;
-    while i < 16 {
-        marks[i] = left % 2 == 1;
+    for mark in &mut marks {
+        *mark = left % 2 == 1;
         left /= 2;
-        i += 1;
     }
     marks
 }
@@ -37,11 +33,7 @@ fn numbers_at(words: &[i32], at: usize) -> [i32; 16]
     ensures { result ≡ take 16 (drop at words.now) }
 {
     let mut numbers = [0; 16];
-    let mut i = 0;
-    while i < 16 {
-        numbers[i] = words[at + i];
-        i += 1;
-    }
+    numbers.copy_from_slice(&words[at..at + 16]);
     numbers
 }
 
@@ -105,11 +97,7 @@ impl Environment {
         ensures { (e : M.Environment) → Holds self e → scratch.new ≡ stored scratch.old place e }
     {
         let at = Environment::WORDS * place;
-        let mut i = 0;
-        while i < Environment::VARIABLES {
-            scratch[at + i] = self.numbers[i];
-            i += 1;
-        }
+        scratch[at..at + Environment::VARIABLES].copy_from_slice(&self.numbers);
         scratch[at + Environment::VARIABLES] = marks_word(self.marks) as i32;
     }
 }

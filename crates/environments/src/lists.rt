@@ -15,11 +15,8 @@ pub fn copy_place(scratch: &mut [i32], source: usize, target: usize)
     if source == target {
         return;
     }
-    let mut i = 0;
-    while i < Environment::WORDS {
-        scratch[Environment::WORDS * target + i] = scratch[Environment::WORDS * source + i];
-        i += 1;
-    }
+    let at = Environment::WORDS * source;
+    scratch.copy_within(at..at + Environment::WORDS, Environment::WORDS * target);
 }
 
 // The `count` places from `from` on are moved down to those from `to` on.
@@ -30,11 +27,8 @@ pub fn move_list(scratch: &mut [i32], from: usize, count: usize, to: usize)
     if to == from {
         return;
     }
-    let mut i = 0;
-    while i < count {
-        copy_place(scratch, from + i, to + i);
-        i += 1;
-    }
+    let at = Environment::WORDS * from;
+    scratch.copy_within(at..at + Environment::WORDS * count, Environment::WORDS * to);
 }
 
 // A variable is dropped in each of the `count` places from `from` on.
@@ -45,11 +39,9 @@ pub fn release_all(scratch: &mut [i32], from: usize, count: usize, variable: usi
         length es ≡ count →
         Released variable scratch.old scratch.new from es }
 {
-    let mut i = 0;
-    while i < count {
+    for i in 0..count {
         let environment = Environment::read(scratch, from + i);
         let released = environment.release(variable);
         released.store(scratch, from + i);
-        i += 1;
     }
 }

@@ -11,10 +11,11 @@ ghost use Rattle.environments.specs.Environment.{Holds, numbers_of};
 use crate::environment::Environment;
 
 // The word at an index; past the end of a slice stands 0.
+#[tactic(auto, unfolding(model::specs::Words::word))]
 pub fn word(s: &[i32], i: usize) -> i32
     ensures { result ≡ W.word s.now i }
 {
-    if i < s.len() { s[i] } else { 0 }
+    s.get(i).copied().unwrap_or(0)
 }
 
 // The number of the term at an index, the variables having sixteen numbers.
@@ -68,9 +69,7 @@ pub fn arguments(numbers: &[i32], words: &[i32], first: usize, n: usize, argumen
         numbers.now ≡ numbers_of e →
         arguments.new ≡ M.numbers_in e (terms_at words.now first n) ++ replicate (6 - n) (pos 0) }
 {
-    let mut i = 0;
-    while i < n {
+    for i in 0..n {
         arguments[i] = number(numbers, words, first + 2 * i);
-        i += 1;
     }
 }

@@ -1,5 +1,5 @@
 -- The walk over a restriction: it is closed exactly if the trees that are left are, as long as each predicate met is complete.
-use Prim.Native.Nat.{ℕ, ◌+◌, ◌-◌, ◌≤◌, ◌<◌}
+use Prim.Native.Nat.{ℕ, ◌+◌, ◌≤◌, ◌<◌}
 use native.Mathlib.Omega.{arith}
 use mathlib.Core.Path.{◌≡◌, refl, sym, ap, ◌∙◌, subst}
 use mathlib.Core.Bool.{Bool, true, false, ◌&&◌, false≢true}
@@ -17,10 +17,12 @@ use Rattle.laws.specs.Reading.Parts.{root}
 use Rattle.laws.specs.Words.Standing.{three_stand}
 use Rattle.policies.specs.declared.node.Tag.{Tag as Read}
 use Rattle.policies.specs.declared.node.Tag.TheVariants.{Plain, Atom, Compare, Join, Quantifier, Some, Unused}
-use Rattle.policies.specs.Node.{as_tag, Sized}
-use Rattle.trees.specs.Grown.{Grown, below}
-use Rattle.trees.proofs.Rows.{Row, row_one, row-none, glue, children}
-use Rattle.trees.proofs.Ahead.{Ahead, ahead, ahead_is, ahead_tree, ahead_tag, ahead_word, ahead_row, ahead_count, ahead_fits, own-some}
+use Rattle.policies.specs.Node.{as_tag}
+use Rattle.trees.specs.declared.walk.Walk.{Walk}
+use Rattle.trees.specs.Grown.{Grown}
+use Rattle.trees.specs.Walk.{Row, Ahead, Passed}
+use Rattle.trees.proofs.Rows.{row_one, row-none, glue, children}
+use Rattle.trees.proofs.Ahead.{ahead, ahead_is, ahead_tree, ahead_tag, ahead_word, passed_row, passed_count}
 use Rattle.trees.proofs.Forming.{node_grown}
 use Rattle.environments.specs.Standing.{HereRestriction}
 use Rattle.instances.specs.Closing.{complete_at, TellsClosed}
@@ -123,103 +125,97 @@ module _ (table words : Words) (at next : ℕ) where
 
 module _ (table words : Words) (at : ℕ) where
   -- so many trees are left, from an index on, up to the end of the tree; and it is closed exactly if these are
-  pub record Partly (c : Tree) (end left next : ℕ) : Type 0 where
+  pub record Partly (c : Tree) (end : ℕ) (walk : Walk) : Type 0 where
     pub rest : Trees
-    pub row : Row words next rest end
-    pub number : count rest ≡ left
+    pub row : Row words walk.at rest end
+    pub number : count rest ≡ walk.left
     pub bare : BareAll rest
     pub same : closed c table ≡ closed_all rest table
 
-  abbrev pub Closing : (left next : ℕ) → Type 0
-  Closing left next =
-      (above scope : ℕ) (c : Tree) (end : ℕ) → Node table words restriction above scope at c end → Partly c end left next
+  abbrev pub Closing : (walk : Walk) → Type 0
+  Closing walk =
+      (above scope : ℕ) (c : Tree) (end : ℕ) → Node table words restriction above scope at c end → Partly c end walk
 
 module _ (table words : Words) (at : ℕ) where
-  pub close_start : Closing table words at 1 at
+  pub close_start : (walk : Walk) → walk ≡ record { at = at; left = 1 } → Closing table words at walk
   unfolding count Bare closed
-  close_start above scope c end n =
+  close_start walk e = subst (Closing table words at) (sym e) (λ above scope c end n.
       record {
         rest = cons c nil;
         row = row_one words at end c (node_grown table words restriction above scope at c end n);
         number = refl;
         bare = (node-bare table words above scope at c end n, tt);
         same = sym (and_one (closed c table));
-      }
+      })
 
-  module _ (left next : ℕ) (w : Closing table words at left next) where
+  module _ (walk : Walk) (w : Closing table words at walk) where
     -- nothing is left
-    pub close_end : left ≤ 0 → TellsClosed table words at true
+    pub close_end : walk.left ≤ 0 → TellsClosed table words at true
     unfolding closed
     close_end h above scope c end n =
         let p = w above scope c end n in
-        let none = (row-none words next end p.rest p.row (omega (arith, p.number))).0 in
+        let none = (row-none words walk.at end p.rest p.row (omega (arith, p.number))).0 in
         sym (p.same ∙ ap (λ (ts : Trees). closed_all ts table) none)
 
-    module _ (h : 0 < left) where
-      first : (c : Tree) (end : ℕ) → Partly table words at c end left next → Ahead words next left end
-      first c end p = ahead words next left end p.rest p.row p.number h
+    module _ (h : 0 < walk.left) where
+      first : (c : Tree) (end : ℕ) → Partly table words at c end walk → Ahead words walk.at walk.left end
+      first c end p = ahead words walk.at walk.left end p.rest p.row p.number h
 
       -- the next node, and those left behind it
-      first-bare : (c : Tree) (end : ℕ) (p : Partly table words at c end left next) → BareAll (cons (first c end p).first (first c end p).others)
+      first-bare : (c : Tree) (end : ℕ) (p : Partly table words at c end walk) → BareAll (cons (first c end p).first (first c end p).others)
       unfolding first
       first-bare c end p =
-          subst (λ (ts : Trees). BareAll ts) (ahead_is words next left end p.rest p.row p.number h) p.bare
+          subst (λ (ts : Trees). BareAll ts) (ahead_is words walk.at walk.left end p.rest p.row p.number h) p.bare
 
       first-closed :
-          (c : Tree) (end : ℕ) (p : Partly table words at c end left next) →
+          (c : Tree) (end : ℕ) (p : Partly table words at c end walk) →
           closed c table ≡ closed_all (cons (first c end p).first (first c end p).others) table
       unfolding first
       first-closed c end p =
-          p.same ∙ ap (λ (ts : Trees). closed_all ts table) (ahead_is words next left end p.rest p.row p.number h)
+          p.same ∙ ap (λ (ts : Trees). closed_all ts table) (ahead_is words walk.at walk.left end p.rest p.row p.number h)
 
-      pub close_ahead : HereRestriction table words at → (end : ℕ) × Ahead words next left end
+      pub close_ahead : HereRestriction table words at → (end : ℕ) × Ahead words walk.at walk.left end
       close_ahead (above, scope, few, (c, end, n)) = (end, first c end (w above scope c end n))
 
-      pub close_asks : HereRestriction table words at → next < length words
-      close_asks there = let (end, a) = close_ahead there in ahead_word words next left end a
+      pub close_asks : HereRestriction table words at → walk.at < length words
+      close_asks there = let (end, a) = close_ahead there in ahead_word words walk.at walk.left end a
 
-      module _ (tag : Tag) (e : tag ≡ tag_of (word words next)) where
+      module _ (tag : Tag) (e : tag ≡ tag_of (word words walk.at)) where
         -- what the next node adds
         split :
-            (c : Tree) (end : ℕ) (p : Partly table words at c end left next) →
+            (c : Tree) (end : ℕ) (p : Partly table words at c end walk) →
             let a = first c end p in
-            closed c table ≡ complete_at table words tag next && closed_all (glue (children a.first) a.others) table
+            closed c table ≡ complete_at table words tag walk.at && closed_all (glue (children a.first) a.others) table
         unfolding closed Bare
         split c end p =
             let a = first c end p in
-            let here = complete_at table words tag next in
+            let here = complete_at table words tag walk.at in
             let under = closed_all (children a.first) table in
             let others = closed_all a.others table in
             first-closed c end p
             ∙ ap (λ (b : Bool). b && others)
-            (tree-closed table words next _ a.first (ahead_tree words next left end a) (first-bare c end p).0
-            ∙ ap (λ (k : Tag). complete_at table words k next && under) (sym (e ∙ ahead_tag words next left end a)))
+            (tree-closed table words walk.at _ a.first (ahead_tree words walk.at walk.left end a) (first-bare c end p).0
+            ∙ ap (λ (k : Tag). complete_at table words k walk.at && under) (sym (e ∙ ahead_tag words walk.at walk.left end a)))
             ∙ and_assoc here under others
             ∙ ap (λ (b : Bool). here && b) (sym (glue_closed (children a.first) a.others table))
 
         -- its predicate is not complete
-        pub close_open : complete_at table words tag next ≡ false → TellsClosed table words at false
+        pub close_open : complete_at table words tag walk.at ≡ false → TellsClosed table words at false
         close_open q above scope c end n =
             let p = w above scope c end n in
             let a = first c end p in
             sym (split c end p ∙ ap (λ (b : Bool). b && closed_all (glue (children a.first) a.others) table) q)
 
-        module _ (more own : ℕ) (m : more ≡ below words tag next) (o : Sized words tag next own) where
-          pub close_fits : HereRestriction table words at → (next + own + (left - 1 + more) ≤ length words) × (1 ≤ own)
-          close_fits there =
-              let (end, a) = close_ahead there in
-              (ahead_fits words next left end a tag e more own m o, own-some words next left end a tag e more own m o)
-
-          pub close_more : complete_at table words tag next ≡ true → Closing table words at (left - 1 + more) (next + own)
-          unfolding Bare
-          close_more q above scope c end n =
-              let p = w above scope c end n in
-              let a = first c end p in
-              let all = first-bare c end p in
-              record {
-                rest = glue (children a.first) a.others;
-                row = ahead_row words next left end a tag e more own m o;
-                number = ahead_count words next left end a tag e more own m o;
-                bare = glue_bare (children a.first) a.others (children-bare a.first all.0) all.1;
-                same = split c end p ∙ ap (λ (b : Bool). b && closed_all (glue (children a.first) a.others) table) q;
-              }
+        pub close_more : complete_at table words tag walk.at ≡ true → (after : Walk) → Passed words tag walk after → Closing table words at after
+        unfolding Bare
+        close_more q after step above scope c end n =
+            let p = w above scope c end n in
+            let a = first c end p in
+            let all = first-bare c end p in
+            record {
+              rest = glue (children a.first) a.others;
+              row = passed_row words walk.at walk.left end a tag e after step;
+              number = passed_count words walk.at walk.left end a tag e after step;
+              bare = glue_bare (children a.first) a.others (children-bare a.first all.0) all.1;
+              same = split c end p ∙ ap (λ (b : Bool). b && closed_all (glue (children a.first) a.others) table) q;
+            }

@@ -1,6 +1,6 @@
 -- Laws of the search for instances: a tuple looked for among tuples, and the walk along a list,
 -- whose tuples so far and those that are left to find come to the fresh ones of the whole list.
-use Prim.Native.Nat.{ℕ, suc, ◌+◌, ◌*◌, ◌-◌, ◌≤◌, ◌<◌}
+use Prim.Native.Nat.{ℕ, zero, suc, ◌+◌, ◌*◌, ◌≤◌, ◌<◌}
 use native.Mathlib.Omega.{arith}
 use native.Mathlib.Numerals.{add-one}
 use mathlib.Core.Path.{◌≡◌, refl, sym, ap, ap₂, ◌∙◌, subst}
@@ -21,39 +21,23 @@ use Rattle.environments.proofs.ListedLaws.{environment_of, tuple-here, listed-no
 use Rattle.environments.proofs.ListedLaws.{listed-tuples}
 use Rattle.environments.proofs.ListedLaws.{laid-length, laid-front, laid-here, laid-behind}
 use Rattle.instances.specs.Instances.{Chosen}
+use Rattle.std.specs.List.{list_any, range_with_len}
 use Rattle.instances.proofs.ChosenTuples.{tuples-spaced}
 
--- a tuple is among tuples, from number i on
-module _ (τ : List ℤ) (b : Words) (v from step m : ℕ) where
-  abbrev pub among_from : (i : ℕ) → Bool
-  among_from i = member τ (map (λ j. take v (drop (from + step * j) b)) (span i (m - i)))
+-- a tuple is one of those made of some numbers if one of them makes it
+among_made : (τ : List ℤ) (f : ℕ → List ℤ) (i n : ℕ) → list_any (λ j. equal_all τ (f j)) (range_with_len i n) ≡ member τ (map f (span i n))
+unfolding span member
+among_made τ f i zero = refl
+among_made τ f i (suc n) =
+    ap (λ (b : Bool). equal_all τ (f i) || b)
+    (among_made τ f (i + 1) n ∙ ap (λ (j : ℕ). member τ (map f (span j n))) (add-one i))
 
-  pub among_first_lem : member τ (spaced b v from step m) ≡ among_from 0
-  unfolding spaced
-  among_first_lem = let all : m ≡ m - 0 = omega arith in ap (λ (k : ℕ). member τ (map (λ j. take v (drop (from + step * j) b)) (span 0 k))) all
-
-  among_next : (i : ℕ) → i < m → among_from i ≡ (equal_all τ (take v (drop (from + step * i) b)) || among_from (i + 1))
-  unfolding span member
-  among_next i h =
-      let f : ℕ → List ℤ = λ j. take v (drop (from + step * j) b) in
-      let more : m - i ≡ suc (m - (i + 1)) = omega arith in
-      ap (λ (k : ℕ). member τ (map f (span i k))) more
-      ∙ ap (λ (j : ℕ). equal_all τ (f i) || member τ (map f (span j (m - (i + 1))))) (sym (add-one i))
-
-  -- what a comparison with the tuple of number i said
-  module _ (i : ℕ) (h : i < m) (r : Bool) (told : r ≡ equal_all τ (take v (drop (from + step * i) b))) where
-    among_told : among_from i ≡ (r || among_from (i + 1))
-    among_told = among_next i h ∙ ap (λ (x : Bool). x || among_from (i + 1)) (sym told)
-
-    pub among_found : r ≡ true → among_from i ≡ true
-    among_found q = among_told ∙ ap (λ (x : Bool). x || among_from (i + 1)) q
-
-    pub among_on : r ≡ false → among_from i ≡ among_from (i + 1)
-    among_on q = among_told ∙ ap (λ (x : Bool). x || among_from (i + 1)) q
-
-  pub among_last : (i : ℕ) → m ≤ i → among_from i ≡ false
-  unfolding span member
-  among_last i h = let none : m - i ≡ 0 = omega arith in ap (λ (k : ℕ). member τ (map (λ j. take v (drop (from + step * j) b)) (span i k))) none
+-- so is one of those that stand at even distances
+pub among_all :
+    (τ : List ℤ) (b : Words) (v from step m : ℕ) →
+    list_any (λ i. equal_all τ (take v (drop (from + step * i) b))) (range_with_len 0 m) ≡ member τ (spaced b v from step m)
+unfolding spaced
+among_all τ b v from step m = among_made τ (λ i. take v (drop (from + step * i) b)) 0 m
 
 -- a disjunction with the last part put first
 pub or_none : (a : Bool) → a ≡ (a || false)
@@ -192,6 +176,29 @@ pub record Turn : Type 0 where
   pub room : 17 * (first + count) ≤ length before
   pub more : i < count
   pub going : Going words from m v scope before scratch first count found i
+
+abbrev pub turn :
+    {words : Words} {from m v scope : ℕ} {before scratch : Words} {first count found i : ℕ}
+    (small : scope + v ≤ 16) (room : 17 * (first + count) ≤ length before) (more : i < count)
+    (going : Going words from m v scope before scratch first count found i) → Turn
+turn {words} {from} {m} {v} {scope} {before} {scratch} {first} {count} {found} {i} small room more going =
+    record {
+      words = words;
+      from = from;
+      m = m;
+      v = v;
+      scope = scope;
+      before = before;
+      scratch = scratch;
+      first = first;
+      count = count;
+      found = found;
+      i = i;
+      small = small;
+      room = room;
+      more = more;
+      going = going;
+    }
 
 module _ (t : Turn) where
   -- the next place
@@ -333,11 +340,3 @@ module _ (t : Turn) where
           after ≡ take (17 * (t.first + t.found)) t.scratch ++ (place_at t.scratch place ++ drop (17 * (t.first + t.found) + 17) t.scratch) →
           OnWith after (t.found + 1)
       on_found q p after copy = one_more r told s told-too (ap₂ (λ (a b : Bool). a || b) q p) after copy
-
--- each of m tuples of v words, one behind another, has room where all have
-pub tuple-room : (from v m k i : ℕ) → from + v * m ≤ k → i < m → from + v * i + v ≤ k
-tuple-room from v m k i h l =
-    let j = m - (i + 1) in
-    let all : m ≡ i + 1 + j = omega arith in
-    let cut : v * m ≡ v * (i + 1 + j) = ap (λ (n : ℕ). v * n) all in
-    omega arith

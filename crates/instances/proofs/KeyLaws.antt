@@ -5,26 +5,23 @@ use native.Mathlib.Nat.{add-zero, add-suc}
 use native.Mathlib.Omega.{arith}
 use mathlib.Core.Path.{◌≡◌, refl, sym, ap, ap₂, ◌∙◌, subst}
 use mathlib.Core.Logic.{⊎_elim}
-use mathlib.Core.Bool.{Bool, true, false, ◌&&◌, ◌||◌}
+use mathlib.Core.Bool.{Bool, true, false, ◌||◌}
 use mathlib.Core.List.{List, [], ◌∷◌}
-use lib.ListN.{length, get_or, set, take, drop, replicate, length-set, length-replicate, get_or-replicate}
+use lib.ListN.{length, get_or, set, replicate, length-set, length-replicate, get_or-replicate}
 use lib.Seq.{get_or-set_same, get_or-set_other}
 use lib.Dec.{eqb, ltb}
 use lib.IntN.{ℤ}
-use borrow.Author.Tests.{eqb-true, eqb-false, leb-true, le-leb, lt-leb}
+use borrow.Author.Tests.{eqb-true, eqb-false, leb-true}
 use Rattle.model.specs.Words.{Words, word, equal_all}
 use Rattle.words.specs.Offset.{from_least}
 use Rattle.laws.specs.Words.Tests.{and_right, decide, equal_all-true}
 use Rattle.laws.specs.Lists.Span.{side}
 use Rattle.instances.specs.Keyed.{serves, added, key_from, key_of, among_first, Last, Keyed}
 use Rattle.instances.proofs.InstanceLaws.{or_none}
-use Rattle.words.proofs.PartLaws.{part_from, part-first, part-next, part-last}
+use Rattle.words.proofs.PartLaws.{part_from, part-next, part-last}
 
 -- the key of a part of words, from number i on
 module _ (ws : Words) (at n : ℕ) where
-  pub key-first : key_of (take n (drop at ws)) ≡ key_from 0 (part_from ws at n 0)
-  key-first = ap (key_from 0) (part-first ws at n)
-
   pub key_on :
       (i sum x : ℕ) → i < n → at + n ≤ length ws → x ≡ from_least (word ws (at + i)) →
       key_from sum (part_from ws at n i) ≡ key_from (sum % 2 ^ 32 * 1540483477 + x % 2 ^ 32 * 2654435761) (part_from ws at n (i + 1))
@@ -203,9 +200,6 @@ module _ (f : ℕ → List ℤ) (τ : List ℤ) where
       pub walking_found : r ≡ true → true ≡ among_first f τ n
       walking_found q = sym (walking_next ∙ ap (λ (b : Bool). b || among_first f τ e) q)
 
-      pub link_less : get_or links e 0 < link
-      link_less = omega (arith, (t.next e (omega (arith, w.few))).few)
-
       pub walking_on : r ≡ false → Walking f τ n (get_or links e 0)
       walking_on q =
           let l : Last f (key_of τ) e (get_or links e 0) =
@@ -220,24 +214,7 @@ module _ (f : ℕ → List ℤ) (τ : List ℤ) where
     unfolding among_first
     walking_last link z w = sym (w.left ∙ ap (among_first f τ) z)
 
--- a table serves, or not
-and_no : (a : Bool) → (a && false) ≡ false
-and_no true = refl
-and_no false = refl
-
-and_yes : (a : Bool) → (a && true) ≡ a
-and_yes true = refl
-and_yes false = refl
-
-module _ (n : ℕ) where
-  pub serves-over : 8192 < n → false ≡ serves n
-  unfolding serves
-  serves-over h = sym (ap (λ (b : Bool). ltb 32 n && b) (lt-leb n 8192 h) ∙ and_no (ltb 32 n))
-
-  pub serves-within : n ≤ 8192 → ltb 32 n ≡ serves n
-  unfolding serves
-  serves-within h = sym (ap (λ (b : Bool). ltb 32 n && b) (le-leb n 8192 h) ∙ and_yes (ltb 32 n))
-
-  pub serves-few : serves n ≡ true → n ≤ 8192
-  unfolding serves
-  serves-few e = leb-true n 8192 (and_right (ltb 32 n) _ e)
+-- a table serves for no more tuples than it has entries
+pub serves-few : (n : ℕ) → serves n ≡ true → n ≤ 8192
+unfolding serves
+serves-few n e = leb-true n 8192 (and_right (ltb 32 n) _ e)

@@ -15,14 +15,7 @@ fn stands(a: &[i32], at: usize, b: &[i32], from: usize, step: usize, m: usize, v
     requires { (at + v ≤ length a.now) × ((i : ℕ) → i < m → from + step * i + v ≤ length b.now) }
     ensures { result ≡ member (take v (drop at a.now)) (spaced b.now v from step m) }
 {
-    let mut i = 0;
-    while i < m {
-        if equal_words(a, at, b, from + step * i, v) {
-            return true;
-        }
-        i += 1;
-    }
-    false
+    (0..m).any(|i| equal_words(a, at, b, from + step * i, v))
 }
 
 // The instances, each tuple compared with all that were seen before it.
@@ -41,11 +34,9 @@ fn by_pairs(
 {
     let start = Environment::WORDS * first + scope;
     let mut found = 0;
-    let mut i = 0;
-    while i < count {
+    for i in 0..count {
         let place = first + i;
         let at = Environment::WORDS * place + scope;
-        i += 1;
         if stands(scratch, at, words, from, v, m, v) {
             continue;
         }
@@ -82,13 +73,11 @@ fn choose(
     seen::enter_excluded(words, from, m, v, heads, links);
     let start = Environment::WORDS * first + scope;
     let mut found = 0;
-    let mut i = 0;
-    while i < count {
+    for i in 0..count {
         let place = first + i;
         let target = first + found;
         let entry = m + found;
         let at = Environment::WORDS * place + scope;
-        i += 1;
         let key = seen::key(scratch, at, v);
         if seen::seen(
             words, from, m, v, scratch, start, entry, at, key, heads, links,
@@ -127,13 +116,8 @@ fn by_key(
 fn table_serves(m: usize, count: usize) -> bool
     ensures { result ≡ serves (m + count) }
 {
-    if 8192 < m {
-        return false;
-    }
-    if 8192 - m < count {
-        return false;
-    }
-    32 < m + count
+    let n = m.saturating_add(count);
+    32 < n && n <= 8192
 }
 
 // Of the `count` places from `first` on those of the instances go to the front, and their number is given: the tuples of the

@@ -7,7 +7,7 @@ ghost use Rattle.instances.specs.Closing.{complete_at, TellsClosed};
 use policies::node;
 use policies::node::Tag;
 use tables::table;
-use trees::walk;
+use trees::walk::Walk;
 
 // The predicate of the node at an index is complete, if the node is an atom.
 fn complete(table: &[i32], words: &[i32], tag: Tag, at: usize) -> bool
@@ -25,17 +25,14 @@ pub fn closed(table: &[i32], words: &[i32], at: usize) -> bool
     requires { HereRestriction table.now words.now at }
     ensures { TellsClosed table.now words.now at result }
 {
-    let mut left = 1;
-    let mut next = at;
-    while 0 < left {
-        let tag = node::tag_at(words, next);
-        if !complete(table, words, tag, next) {
+    let mut walk = Walk::new(at);
+    // By hand: the step is the size of the node that stands there.
+    while 0 < walk.left {
+        let tag = node::tag_at(words, walk.at);
+        if !complete(table, words, tag, walk.at) {
             return false;
         }
-        let more = walk::below(words, tag, next);
-        let own = node::size(words, tag, next);
-        left = left - 1 + more;
-        next += own;
+        walk = walk.past(words, tag);
     }
     true
 }

@@ -14,11 +14,9 @@ pub fn key(words: &[i32], at: usize, v: usize) -> usize
     ensures { result ≡ key_of (take v (drop at words.now)) }
 {
     let mut sum = 0;
-    let mut i = 0;
-    while i < v {
+    for i in 0..v {
         let word = words::offset(words, at + i);
         sum = sum % 4294967296 * 1540483477 + word % 4294967296 * 2654435761;
-        i += 1;
     }
     sum / 524288 % 8192
 }
@@ -48,12 +46,10 @@ pub fn enter_excluded(
         × (length links.old ≡ 8192) }
     ensures { Keyed (λ e. take v (drop (from + v * e) words.now)) m heads.new links.new }
 {
-    let mut e = 0;
-    while e < m {
+    for e in 0..m {
         let at = from + v * e;
         let k = key(words, at, v);
         enter(heads, links, k, e);
-        e += 1;
     }
 }
 
@@ -108,6 +104,7 @@ pub fn seen(
     ensures { result ≡ among_first (entry_at words.now from m v scratch.now start) (take v (drop at scratch.now)) n }
 {
     let mut link = heads[key] as usize;
+    // By hand: a chain is followed from link to link.
     while 0 < link {
         let e = link - 1;
         if equal_entry(words, from, m, v, scratch, start, e, at) {

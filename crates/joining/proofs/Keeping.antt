@@ -1,27 +1,30 @@
--- A child that stands behind the parts of a join: nothing more is kept if the places ran out, if the join is decided or
--- does not fit; a join of the same kind gives its children, its header taken out; any other tree is one part more.
+-- A child that stands behind the parts of a join: nothing more is kept if the join is no longer open; a join of the same kind gives its children, its header taken out; any other tree is one part more.
 use Prim.Native.Nat.{ℕ, ◌+◌, ◌-◌, ◌≤◌, ◌<◌}
 use native.Mathlib.Omega.{arith}
 use mathlib.Core.Path.{◌≡◌, refl, sym, ap, ap₂, ◌∙◌, subst}
-use mathlib.Core.Logic.{◌⊎◌, inl, inr, ⊎_elim}
-use mathlib.Core.Bool.{Bool, true, false, cond}
+use mathlib.Core.Bool.{Bool, true, false, not, cond, true≢false}
 use mathlib.Core.List.{◌∷◌, ◌++◌}
 use lib.ListN.{length, take, drop, get_or, length-append, length-drop}
 use lib.Seq.{take_at, drop_at, take-add, drop-drop, get_or-take, get_or-drop, length-take-le}
 use lib.Dec.{ltb}
+use denote.Enum.Bare.{sameb, differs_false}
+use borrow.Author.Rules.{rules}
+use borrow.Author.Tests.{ltb-false}
 use lib.IntN.{ℤ, pos, nat_abs}
 use Rattle.model.specs.Words.{Words, word, value, equal}
 use Rattle.model.specs.Tree.{Trees, join, nil, cons, count, encode, encode_all}
 use Rattle.model.specs.Joining as M
-use Rattle.laws.specs.Words.Tests.{clash}
 use Rattle.laws.specs.Reading.Back.{encode_nonempty, count-few}
 use Rattle.words.specs.Laying.{laid}
 use Rattle.joining.specs.declared.answer.Reduced.TheVariants.{Part}
 use Rattle.joining.specs.declared.join.Join.{Join}
+use Rattle.joining.specs.contracts.join.State.{the_type}
+use Rattle.joining.specs.declared.join.State.{State}
+use Rattle.joining.specs.declared.join.State.TheVariants.{Open}
 use Rattle.joining.specs.Join.{Stand, Adding, added}
 use Rattle.joining.proofs.Parts as P
 use Rattle.joining.proofs.Telling.{told_part}
-use Rattle.joining.proofs.Adding.{before, still, exceed_more}
+use Rattle.joining.proofs.Adding.{before, Says, Goes, next, goes_open, closed}
 
 -- the word at an index of a part
 word_at : (out : Words) (w k i : ℕ) (part : Words) → take k (drop w out) ≡ part → i < k → word out (w + i) ≡ get_or part i (pos 0)
@@ -54,12 +57,19 @@ laid-front old to n part h e =
 pub few : (ps : Trees) (out : Words) (j : Join) → Stand ps out j → j.parts ≤ j.words
 few ps out j s = omega (arith, s.size, s.number, count-few ps)
 
+-- the test of a state says that it is `Open`
+pub still_open : (s : State) → not (sameb the_type s Open) ≡ false → s ≡ Open
+still_open s e = differs_false the_type (search rules) s Open e
+
 module _ {out : Words} {j : Join} {k : ℕ} (a : Adding out j (Part k)) where
   told_so : (ltb a.places a.n ≡ false) × (P.Solid a.t × (k ≡ length (encode a.t)) × (k ≤ length out - j.words))
   told_so = told_part a.places a.n (length out - j.words) a.t k a.is
 
   undecided : M.decides a.b a.t ≡ false
   undecided = (P.counted a.b a.t told_so.1.0 a.wide).undecided
+
+  fine : a.n ≤ a.places
+  fine = ltb-false a.places a.n told_so.0
 
   stands : take k (drop j.words out) ≡ encode a.t
   stands = a.words k refl
@@ -72,31 +82,22 @@ module _ {out : Words} {j : Join} {k : ℕ} (a : Adding out j (Part k)) where
   some_word = omega (arith, told_so.1.1, encode_nonempty a.t)
 
   -- nothing more is kept
-  pub keep-short : j.short ≡ true → added a out j
-  keep-short h = still a out j told_so.0 undecided refl refl refl a.state.within (λ p q. clash h p)
-
-  pub keep-decided : j.decided ≡ true → added a out j
-  keep-decided h = still a out j told_so.0 undecided refl refl refl a.state.within (λ p q. clash h q)
-
-  pub keep-long : j.long ≡ true → added a out j
-  keep-long h =
-      still a out j told_so.0 undecided refl refl refl a.state.within
-      (λ p q.
-      ⊎_elim
-      (λ s. clash h s.fits)
-      (λ x. inr (exceed_more (before a) (M.parts a.b a.t) (length out) j j x h))
-      (a.state.kept p q))
+  pub keep-closed : (j.state ≡ Open → ⊥) → added a out j
+  keep-closed h = next a out j refl a.state.within (closed a fine undecided j.state h a.state.tells)
 
   -- the state with so many parts in so many words at the front
   abbrev with_parts : ℕ → ℕ → Join
-  with_parts n w = record { kind = j.kind; short = false; decided = false; long = false; parts = n; words = w }
+  with_parts n w = record { kind = j.kind; state = j.state; parts = n; words = w }
 
   abbrev pub grown : (after : Words) (n w : ℕ) → Type 0
   grown after n w = added a after (with_parts n w)
 
-  module _ (p : j.short ≡ false) (q : j.decided ≡ false) (r : j.long ≡ false) where
+  module _ (open_so : j.state ≡ Open) where
+    so : Says a Open
+    so = subst (Says a) open_so a.state.tells
+
     pub so_far : Stand (before a) out j
-    so_far = ⊎_elim (λ s. s) (λ x. clash x.long r) (a.state.kept p q)
+    so_far = so.2
 
     pub so_few : j.parts ≤ j.words
     so_few = few (before a) out j so_far
@@ -120,16 +121,15 @@ module _ {out : Words} {j : Join} {k : ℕ} (a : Adding out j (Part k)) where
         grown after n w
     grow after n w us e size number front room =
         let s = so_far in
-        still a after (with_parts n w) told_so.0 undecided refl (sym p) (sym q) room
-        (λ _ _.
-        inl
+        next a after (with_parts n w) refl room
+        (subst (Goes a after (with_parts n w)) (sym open_so)
+        (goes_open a after (with_parts n w) so.0 fine so.1 undecided
         (subst (λ (vs : Trees). Stand (M.append (before a) vs) after (with_parts n w)) (sym e)
         (record {
-          fits = refl;
           size = size ∙ ap (λ (i : ℕ). i + length (encode_all us)) s.size ∙ sym (P.append-long (before a) us);
           number = number ∙ ap (λ (i : ℕ). i + count us) s.number ∙ sym (P.append-count (before a) us);
           front = front ∙ ap (λ (l : Words). l ++ encode_all us) s.front ∙ sym (P.append-words (before a) us);
-        })))
+        }))))
 
     -- the child is one part more
     pub keep-whole : equal (word out j.words) (pos (cond j.kind 6 7)) ≡ false → grown out (j.parts + 1) (j.words + k)

@@ -1,9 +1,8 @@
 -- A child of a join is lent the words behind those of the parts: what the state says stays, since the parts are before them,
 -- and the child's answer is one that can be added.
-use Prim.Native.Nat.{ℕ, ◌+◌, ◌-◌, ◌≤◌}
+use Prim.Native.Nat.{ℕ, ◌-◌, ◌≤◌, ◌<◌}
 use native.Mathlib.Omega.{arith}
-use mathlib.Core.Path.{◌≡◌, sym, ap, ◌∙◌}
-use mathlib.Core.Logic.{inl, inr, ⊎_elim}
+use mathlib.Core.Path.{◌≡◌, refl, sym, ap, ◌∙◌, subst}
 use mathlib.Core.Bool.{Bool}
 use mathlib.Core.List.{◌++◌, append-nil}
 use lib.ListN.{length, take, drop, length-append, length-drop}
@@ -12,8 +11,10 @@ use Rattle.model.specs.Words.{Words}
 use Rattle.model.specs.Tree.{Tree, Trees}
 use Rattle.joining.specs.declared.answer.Reduced.{Reduced}
 use Rattle.joining.specs.declared.join.Join.{Join}
+use Rattle.joining.specs.declared.join.State.{State}
+use Rattle.joining.specs.declared.join.State.TheVariants.{Open, Long, Decided, Short}
 use Rattle.joining.specs.Answer.{told, Answers}
-use Rattle.joining.specs.Join.{Joining, Wide, Adding}
+use Rattle.joining.specs.Join.{Tells, Joining, Wide, Adding}
 
 -- the words of a buffer from an index on, as they are lent, and the buffer with others in their place
 abbrev pub rest : (out : Words) (w : ℕ) → Words
@@ -57,14 +58,28 @@ joining_on {b} {ts} {need} {places} {out} {j} after l f s =
       wide = s.wide;
       kind = s.kind;
       within = omega (arith, l, s.within);
-      short = s.short;
-      decided = s.decided;
-      kept = λ p q.
-          ⊎_elim
-          (λ x. inl (record { fits = x.fits; size = x.size; number = x.number; front = f ∙ x.front }))
-          (λ x. inr (record { long = x.long; more = omega (arith, l, x.more); present = x.present }))
-          (s.kept p q);
+      tells = go j.state s.tells;
     }
+  where
+    go : (state : State) → Tells b ts need places out j state → Tells b ts need places after j state
+    go Open w = (w.0, w.1, record { size = w.2.size; number = w.2.number; front = f ∙ w.2.front })
+    go Long w = (w.0, w.1, record { more = omega (arith, l, w.2.more); present = w.2.present })
+    go Decided w = w
+    go Short w = w
+
+-- the places ran out exactly if the state says so
+module _ {b : Bool} {ts : Trees} {need places : ℕ} {out : Words} {j : Join} (s : Joining b ts need places out j) where
+  pub short-few : j.state ≡ Short → places < need
+  short-few e = subst (Tells b ts need places out j) e s.tells
+
+  pub few-short : places < need → j.state ≡ Short
+  few-short h = go j.state s.tells
+    where
+      go : (state : State) → Tells b ts need places out j state → state ≡ Short
+      go Open w = let few = w.0 in absurd (omega arith)
+      go Long w = let few = w.0 in absurd (omega arith)
+      go Decided w = let few = w.0 in absurd (omega arith)
+      go Short w = refl
 
 -- the child's answer, to be added
 abbrev pub adding :

@@ -1,5 +1,5 @@
 -- What the state of a join stands for after some reduced children, and what adding a child makes of it.
-use Rattle.std.specs.Prelude.{ℕ, ◌+◌, ◌-◌, ◌≤◌, ◌<◌, max, ◌≡◌, ◌⊎◌, Bool, true, false, length, take, drop, ltb}
+use Rattle.std.specs.Prelude.{ℕ, ◌+◌, ◌-◌, ◌≤◌, ◌<◌, max, ◌≡◌, Bool, true, false, length, take, drop}
 use Rattle.model.specs.Words.{Words}
 use Rattle.model.specs.Tree.{Tree, Trees, plain, atom, compare, join, quantifier, some, nil, cons, count, encode, encode_all}
 use Rattle.model.specs.Joining as M
@@ -7,6 +7,8 @@ use Rattle.laws.specs.Joining.{All}
 use Rattle.joining.specs.declared.answer.Reduced.{Reduced}
 use Rattle.joining.specs.declared.answer.Reduced.TheVariants.{Part}
 use Rattle.joining.specs.declared.join.Join.{Join}
+use Rattle.joining.specs.declared.join.State.{State}
+use Rattle.joining.specs.declared.join.State.TheVariants.{Open, Long, Decided, Short}
 use Rattle.joining.specs.Answer.{told}
 
 -- the words of the join of parts: from two parts on there is a header
@@ -29,25 +31,28 @@ Wide (some c) = Unit {0}
 
 -- the parts stand at the front
 pub record Stand (ps : Trees) (out : Words) (j : Join) : Type 0 where
-  pub fits : j.long ≡ false
   pub size : j.words ≡ length (encode_all ps)
   pub number : j.parts ≡ count ps
   pub front : take j.words out ≡ encode_all ps
 
 -- their join does not fit
-pub record Exceed (ps : Trees) (room : ℕ) (j : Join) : Type 0 where
-  pub long : j.long ≡ true
+pub record Exceed (ps : Trees) (room : ℕ) : Type 0 where
   pub more : room < join_words ps
   pub present : 1 ≤ count ps
+
+-- what each state says
+abbrev pub Tells : (b : Bool) (ts : Trees) (need places : ℕ) (out : Words) (j : Join) (state : State) → Type 0
+Tells b ts need places out j Open = (need ≤ places) × (M.decided b ts ≡ false) × Stand (M.parts_all b ts) out j
+Tells b ts need places out j Long = (need ≤ places) × (M.decided b ts ≡ false) × Exceed (M.parts_all b ts) (length out)
+Tells b ts need places out j Decided = (need ≤ places) × (M.decided b ts ≡ true)
+Tells b ts need places out j Short = places < need
 
 -- a join of kind b after the reduced children ts, the greatest need of which is given; `out` is all that was lent
 pub record Joining (b : Bool) (ts : Trees) (need places : ℕ) (out : Words) (j : Join) : Type 0 where
   pub wide : All Wide ts
   pub kind : j.kind ≡ b
   pub within : j.words ≤ length out
-  pub short : j.short ≡ ltb places need
-  pub decided : j.short ≡ false → j.decided ≡ M.decided b ts
-  pub kept : j.short ≡ false → j.decided ≡ false → Stand (M.parts_all b ts) out j ⊎ Exceed (M.parts_all b ts) (length out) j
+  pub tells : Tells b ts need places out j j.state
 
 -- the state of a join and the answer of its next child, which was lent the words behind those of the state
 pub record Adding (out : Words) (j : Join) (answer : Reduced) : Type 0 where

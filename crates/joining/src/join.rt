@@ -12,14 +12,18 @@ ghost use Rattle.joining.specs.Join.{Joining, Adding, added};
 use crate::answer::Reduced;
 use words::moving;
 
+// The tag of an all-of (true), or of an any-of.
+fn tag(kind: bool) -> usize
+    ensures { result ≡ cond kind 6 7 }
+{
+    if kind { 6 } else { 7 }
+}
+
 // The word at an index is the tag of an all-of (true), or of an any-of.
 fn is_join(out: &[i32], at: usize, kind: bool) -> bool
     ensures { result ≡ W.equal (W.word out.now at) (pos (cond kind 6 7)) }
 {
-    if kind {
-        return words::is(out, at, 6);
-    }
-    words::is(out, at, 7)
+    words::is(out, at, tag(kind))
 }
 
 // A header is put in front of the first n words.
@@ -30,21 +34,25 @@ fn head(out: &mut [i32], kind: bool, parts: usize, n: usize)
 {
     moving::right(out, n);
     out[1] = parts as i32;
-    if kind {
-        out[0] = 6;
-        return;
-    }
-    out[0] = 7;
+    out[0] = tag(kind) as i32;
 }
 
-// A join of a kind (true: all-of) after some children: whether the places ran out, whether a child decides it, whether its
-// parts don't fit; and else how many parts there are, and the words that they take at the front.
+// How a join stands after some children, each state before those that outweigh it: its parts fit so far; they don't; a child
+// decides it; the places ran out.
+#[derive(Clone, Copy, PartialEq, Eq, PartialOrd, Ord)]
+pub enum State {
+    Open,
+    Long,
+    Decided,
+    Short,
+}
+
+// A join of a kind (true: all-of) after some children: how it stands, how many parts there are, and the words that they take
+// at the front.
 #[derive(Clone, Copy)]
 pub struct Join {
     pub kind: bool,
-    pub short: bool,
-    pub decided: bool,
-    pub long: bool,
+    pub state: State,
     pub parts: usize,
     pub words: usize,
 }
@@ -56,42 +64,30 @@ impl Join {
     {
         Join {
             kind,
-            short: false,
-            decided: false,
-            long: false,
+            state: State::Open,
             parts: 0,
             words: 0,
         }
     }
 
     // A child that stands behind the words so far is kept: whole, or if it is a join of the same kind, its parts.
-    fn keep(self, out: &mut [i32], k: usize) -> Join
+    fn keep(mut self, out: &mut [i32], k: usize) -> Join
         requires { (length out.old ≤ 1048576) × Adding out.old self (R.Part k) }
         ensures { (a : Adding out.old self (R.Part k)) → added a out.new result }
     {
-        if self.short || self.decided || self.long {
+        if self.state != State::Open {
             return self;
         }
         if is_join(out, self.words, self.kind) {
             let count = words::value(out, self.words + 1);
             moving::left(out, self.words, k - 2);
-            return Join {
-                kind: self.kind,
-                short: false,
-                decided: false,
-                long: false,
-                parts: self.parts + count,
-                words: self.words + (k - 2),
-            };
+            self.parts += count;
+            self.words += k - 2;
+            return self;
         }
-        Join {
-            kind: self.kind,
-            short: false,
-            decided: false,
-            long: false,
-            parts: self.parts + 1,
-            words: self.words + k,
-        }
+        self.parts += 1;
+        self.words += k;
+        self
     }
 
     // The answer of the next child, which was lent the words behind those so far.
@@ -101,18 +97,18 @@ impl Join {
     {
         match answer {
             Reduced::Short => {
-                self.short = true;
+                self.state = State::Short;
                 self
             }
             Reduced::Plain(value) => {
                 if value == self.kind {
                     return self;
                 }
-                self.decided = true;
+                self.state = self.state.max(State::Decided);
                 self
             }
             Reduced::Long => {
-                self.long = true;
+                self.state = self.state.max(State::Long);
                 self
             }
             Reduced::Part(k) => self.keep(out, k),
@@ -127,15 +123,11 @@ impl Join {
             Joining b ts need places out.old self →
             Answers places need (joined b ts) out.old out.new result }
     {
-        let other = !self.kind;
-        if self.short {
-            return Reduced::Short;
-        }
-        if self.decided {
-            return Reduced::Plain(other);
-        }
-        if self.long {
-            return Reduced::Long;
+        match self.state {
+            State::Short => return Reduced::Short,
+            State::Decided => return Reduced::Plain(!self.kind),
+            State::Long => return Reduced::Long,
+            State::Open => {}
         }
         if self.parts == 0 {
             return Reduced::Plain(self.kind);

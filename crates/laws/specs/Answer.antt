@@ -6,7 +6,9 @@ use mathlib.Core.List.{List, [], ◌∷◌, Memᴰ}
 use Rattle.model.specs.Lists.{span}
 use Rattle.model.specs.Answer.{Answer, number, place, count, AnswersAs, Outcome, refused, passed, ask, answer, ◌>>=◌, in_turn, refused_at}
 use Rattle.model.specs.declared.Refusal.{Refusal}
-use Rattle.std.specs.Prelude.{Ok, Err}
+use Rattle.std.specs.Prelude.{Result, Ok, Err}
+use Rattle.std.specs.Result.{IsErrAnd}
+use Rattle.std.proofs.lemmas.Result.{err_from_is_err_and}
 use Rattle.std.proofs.Common.{ap₂}
 use Rattle.model.specs.declared.Refused.{Refused}
 use Rattle.laws.specs.Lists.Span.{span-step, span_end}
@@ -121,3 +123,7 @@ module _ (questions : ℕ → Outcome (Unit {0})) (p n : ℕ) where
   pub turn_end : n ≤ p → in_turn questions (span p (n - p)) ≡ passed tt
   unfolding in_turn
   turn_end h = ap (in_turn questions) (span_end p n h)
+
+-- what `?` returns of a result that is an error: that error
+pub passed_on : {T E : Type 0} (r : Result T E) {e : E} → IsErrAnd r (λ y. y ≡ e) → r ≡ Err e
+passed_on r h = let p = err_from_is_err_and r h in p.1 ∙ ap (λ y. Err y) p.2

@@ -11,8 +11,8 @@ use Rattle.model.specs.Log.{rows}
 use Rattle.model.specs.Tree.{Tree, Trees, join, nil, cons}
 use Rattle.model.specs.Listing.{Environment, list, list_all, entries, entries_all}
 use Rattle.listing.specs.declared.restriction.Room.{Room}
-use Rattle.listing.specs.declared.restriction.Made.TheVariants as M
-use Rattle.listing.specs.Restrictions.{Roomy, Holding, ListStands, MakesTree, counted}
+use Rattle.std.specs.Prelude.{None}
+use Rattle.listing.specs.Restrictions.{Stands, Roomy, Holding, ListStands, MakesTree, counted}
 
 -- words up to a place, given those up to a later one
 pub fewer : (before after : Words) (k n : ℕ) → k ≤ n → take n after ≡ take n before → take k after ≡ take k before
@@ -75,7 +75,7 @@ module _ (table log : Words) (scope : ℕ) (ts : Trees) (es : List Environment) 
 
       -- the child made its list
       pub all-step :
-          (to' : Room) (x : ℕ) → MakesTree table log t scope next far.handed to scratch after (M.List to' x) →
+          (to' : Room) (x : ℕ) → MakesTree table log t scope next far.handed to scratch after (Stands to' x) →
           AllFar table log scope ts us es room before (i + 1) to' after
       unfolding list_all entries_all
       all-step to' x m =
@@ -109,8 +109,8 @@ module _ (table log : Words) (scope : ℕ) (ts : Trees) (es : List Environment) 
 
       -- the places ran out
       pub all_short :
-          MakesTree table log t scope next far.handed to scratch after M.Short →
-          (end : ℕ) → MakesTree table log (join true ts) scope end es room before after M.Short
+          MakesTree table log t scope next far.handed to scratch after None →
+          (end : ℕ) → MakesTree table log (join true ts) scope end es room before after None
       unfolding entries
       all_short m end =
           let short : to.limit < to.used + cost_of = m.tells in
@@ -138,7 +138,7 @@ module _ (table log : Words) (scope : ℕ) (ts : Trees) (es : List Environment) 
           let n : length (list table (rows log) (join true ts) scope es) ≡ to.count = ap length all_list ∙ far.holds.long in
           omega arith
 
-      pub all-full : to.limit - to.used < to.count → (end : ℕ) → MakesTree table log (join true ts) scope end es room before scratch M.Short
+      pub all-full : to.limit - to.used < to.count → (end : ℕ) → MakesTree table log (join true ts) scope end es room before scratch None
       all-full h end =
           let f1 = far.used in
           let f2 = far.limit in
@@ -148,7 +148,7 @@ module _ (table log : Words) (scope : ℕ) (ts : Trees) (es : List Environment) 
 
       pub all_end :
           1 ≤ i → to.count ≤ to.limit - to.used → {to' : Room} → to' ≡ counted to → {x end : ℕ} → x ≡ end →
-          MakesTree table log (join true ts) scope end es room before scratch (M.List to' x)
+          MakesTree table log (join true ts) scope end es room before scratch (Stands to' x)
       all_end some h {to'} e {x} {end} behind =
           let f1 = far.used in
           let f2 = far.limit in

@@ -10,12 +10,12 @@ use Rattle.model.specs.Log.{rows}
 use Rattle.model.specs.Tree.{Tree, Trees, join, nil, cons}
 use Rattle.model.specs.Listing.{Environment, list, list_any, entries, entries_any}
 use Rattle.listing.specs.declared.restriction.Room.{Room}
-use Rattle.listing.specs.declared.restriction.Made.TheVariants as M
+use Rattle.std.specs.Prelude.{None}
 use Rattle.environments.specs.Listed.{Listed}
 use Rattle.environments.proofs.ListedLaws.{listed-none, listed_kept}
 use Rattle.environments.specs.Lists.{Moved}
 use Rattle.environments.proofs.ListsLaws.{listed-append, outside-front}
-use Rattle.listing.specs.Restrictions.{Roomy, Holding, ListStands, MakesTree, next_branch, joined}
+use Rattle.listing.specs.Restrictions.{Stands, Roomy, Holding, ListStands, MakesTree, next_branch, joined}
 use Rattle.listing.proofs.AllLaws.{fewer}
 
 -- the branches `ts` of which `rest` are left, in the room for the next one
@@ -88,7 +88,7 @@ module _ (table log : Words) (scope : ℕ) (ts : Trees) (es : List Environment) 
       costs_cons = far.costs ∙ ap (λ (l : Trees). far.cost + entries_any table (rows log) l scope es) is
 
       -- the branch made its list
-      module _ (to : Room) (x : ℕ) (m : MakesTree table log t scope next es branch scratch after (M.List to x)) where
+      module _ (to : Room) (x : ℕ) (m : MakesTree table log t scope next es branch scratch after (Stands to x)) where
         abbrev made : List Environment
         made = list table (rows log) t scope es
 
@@ -147,8 +147,8 @@ module _ (table log : Words) (scope : ℕ) (ts : Trees) (es : List Environment) 
 
       -- the places ran out
       pub any-short :
-          MakesTree table log t scope next es branch scratch after M.Short →
-          (end : ℕ) → MakesTree table log (join false ts) scope end es room before after M.Short
+          MakesTree table log t scope next es branch scratch after None →
+          (end : ℕ) → MakesTree table log (join false ts) scope end es room before after None
       unfolding entries
       any-short m end =
           let short : branch.limit < branch.used + cost_of = m.tells in
@@ -176,7 +176,7 @@ module _ (table log : Words) (scope : ℕ) (ts : Trees) (es : List Environment) 
           let n : length (list table (rows log) (join false ts) scope es) ≡ length far.done = ap length any-list in
           omega arith
 
-      pub any-full : branch.limit - branch.used < branch.base - room.base → (end : ℕ) → MakesTree table log (join false ts) scope end es room before scratch M.Short
+      pub any-full : branch.limit - branch.used < branch.base - room.base → (end : ℕ) → MakesTree table log (join false ts) scope end es room before scratch None
       any-full l end =
           let f1 = far.used in
           let f2 = far.limit in
@@ -188,7 +188,7 @@ module _ (table log : Words) (scope : ℕ) (ts : Trees) (es : List Environment) 
       pub any_end :
           branch.base - room.base ≤ branch.limit - branch.used →
           {to : Room} → to ≡ joined branch room.base (branch.base - room.base) → {x end : ℕ} → x ≡ end →
-          MakesTree table log (join false ts) scope end es room before scratch (M.List to x)
+          MakesTree table log (join false ts) scope end es room before scratch (Stands to x)
       any_end l {to} e {x} {end} after =
           let f1 = far.used in
           let f2 = far.limit in

@@ -1,7 +1,7 @@
 -- What a leaf of a restriction keeps, by its tag: from what the code reads of its words to what its tree says.
-use Prim.Native.Nat.{ℕ, ◌+◌, ◌-◌, ◌^◌, ◌≤◌, ◌<◌}
+use Prim.Native.Nat.{ℕ, ◌+◌, ◌^◌, ◌≤◌, ◌<◌}
 use mathlib.Core.Path.{◌≡◌, sym, ap, ◌∙◌, subst, refl}
-use mathlib.Core.Bool.{Bool, true, false}
+use mathlib.Core.Bool.{Bool, true, false, beq}
 use lib.ListN.{length}
 use lib.IntN.{ℤ}
 use Rattle.model.specs.Words.{Words, word, same, predicate_limit}
@@ -9,7 +9,7 @@ use Rattle.model.specs.Lists.{all}
 use Rattle.model.specs.Table.{predicates}
 use Rattle.model.specs.Log.{rows}
 use Rattle.model.specs.Tag as T
-use Rattle.model.specs.Tree.{Term, Tree, atom}
+use Rattle.model.specs.Tree.{Term, Tree}
 use Rattle.model.specs.Level.{restriction}
 use Rattle.model.specs.Reading.{places, term_at, in_scope}
 use Rattle.model.specs.Truth.{sum_at_most}
@@ -17,7 +17,9 @@ use Rattle.model.specs.Listing.{Environment, look, number_in, is_false}
 use Rattle.laws.specs.Reading.Nodes.{Node}
 use Rattle.laws.specs.Reading.Parts.{compare-parts}
 use Rattle.logs.specs.Value.{as_value}
-use Rattle.logs.specs.declared.value.Value.{Value}
+use Rattle.std.specs.Prelude.{Option}
+use Rattle.std.specs.Prelude as O
+use Rattle.std.specs.Option.{option_eq}
 use Rattle.policies.specs.declared.node.Tag.{Tag}
 use Rattle.policies.specs.declared.node.Tag.TheVariants.{Plain, Atom, Compare, Join, Quantifier, Some, Unused}
 use Rattle.policies.specs.Node.{as_tag}
@@ -40,15 +42,18 @@ module _
   pub keeping_compare : (b : Bool) → tag ≡ Compare b → (at + 6 < 2 ^ 64) × (all (in_scope words 16) (places (at + 2) 2) ≡ true)
   keeping_compare b is = here-compare table words here.0 here.1 at here.2 b (ap as_tag (sym is) ∙ told) here.3 long
 
--- the answer, by the value found
-pub answer : (found v : Value) → found ≡ v → is_false (as_value found) ≡ is_false (as_value v)
-answer found v is = ap (λ (w : Value). is_false (as_value w)) is
+-- whether a value is false
+false-found : (found : Option Bool) → option_eq beq found (O.Some false) ≡ is_false (as_value found)
+unfolding is_false
+false-found (O.Some true) = refl
+false-found (O.Some false) = refl
+false-found O.None = refl
 
 module _ (table words log : Words) (held : Held) (at : ℕ) where
   -- whether the atom at an index is known to be false, from its value
-  pub false-value : (found : Value) → Values table words log held at found → (r : Bool) → is_false (as_value found) ≡ r → TellsFalse table words log held at r
-  false-value found values r answer e above scope b p ts next holds node =
-      sym answer ∙ ap is_false (values e holds restriction above scope b p ts next node)
+  pub false-value : (found : Option Bool) → Values table words log held at found → (r : Bool) → r ≡ option_eq beq found (O.Some false) → TellsFalse table words log held at r
+  false-value found values r is e above scope b p ts next holds node =
+      is ∙ false-found found ∙ ap is_false (values e holds restriction above scope b p ts next node)
 
   module _ (tag : Tag) (told : as_tag tag ≡ T.tag_of (word words at)) where
     -- true or false

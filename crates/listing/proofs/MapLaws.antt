@@ -1,5 +1,5 @@
 -- Lists made of the environments of a list, one after another, each list behind the one before.
-use Prim.Native.Nat.{ℕ, suc, ◌+◌, ◌*◌, ◌-◌, ◌≤◌, ◌<◌}
+use Prim.Native.Nat.{ℕ, suc, ◌+◌, ◌*◌, ◌≤◌, ◌<◌}
 use native.Mathlib.Omega.{arith}
 use native.Mathlib.Numerals.{add-one}
 use mathlib.Core.Path.{◌≡◌, refl, sym, ap, ap₂, ◌∙◌, subst}
@@ -31,7 +31,10 @@ module _ (f : Environment → List Environment) (es : List Environment) where
       ∙ ap (gather f) (take-suc es i (λ x. free) h)
       ∙ gather_snoc f (take i es) (environment_of es i)
 
-  module _ (i base made : ℕ) (before scratch : Words) (s : Mapping i base made before scratch) where
+module _
+    {f : Environment → List Environment} {es : List Environment} {i base made : ℕ} {before scratch : Words}
+    (s : Mapping f es i base made before scratch)
+  where
     -- the list handed in still stands
     pub map_read :
         (from : ℕ) → from + length es ≤ base → Listed before from es → i < length es →
@@ -49,9 +52,9 @@ module _ (f : Environment → List Environment) (es : List Environment) where
         k ≡ length (f (environment_of es i)) →
         Listed after (base + made) (f (environment_of es i)) →
         take (17 * (base + made)) after ≡ take (17 * (base + made)) scratch →
-        Mapping (i + 1) base (made + k) before after
+        Mapping f es (i + 1) base (made + k) before after
     map-step k after h e l same =
-        let more = one_more i h in
+        let more = one_more f es i h in
         let done = gather f (take i es) in
         let front : (j : ℕ) → j ≤ 17 * (base + made) → take j after ≡ take j scratch =
         λ j b. sym (take-take j (17 * (base + made)) after b) ∙ ap (take j) same ∙ take-take j (17 * (base + made)) scratch b in

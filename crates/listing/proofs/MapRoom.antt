@@ -10,37 +10,29 @@ use Rattle.model.specs.Lists.{gather}
 use Rattle.model.specs.Listing.{Environment}
 use Rattle.listing.specs.declared.restriction.Room.{Room}
 use Rattle.listing.specs.declared.restriction.Made.{Made}
-use Rattle.listing.specs.declared.restriction.Made.TheVariants as M
-use Rattle.matching.specs.declared.rows.Added.{Added}
-use Rattle.matching.specs.declared.rows.Added.TheVariants as A
+use Rattle.std.specs.Prelude.{Option, None}
 use Rattle.environments.proofs.ListedLaws.{environment_of}
-use Rattle.matching.specs.Rows.{Came, Filled, Adds}
-use Rattle.listing.specs.Restrictions.{Roomy, Holding, ListStands, Makes, filled}
+use Rattle.matching.specs.Rows.{Adds}
+use Rattle.listing.specs.Restrictions.{Stands, Roomy, Holding, ListStands, Makes, filled}
 use Rattle.listing.proofs.MapLaws.{Mapping, map-short, map_end}
 
--- what an answer says, once it is known which
-module _ {made : List Environment} {base left : ℕ} {before after : Words} where
-  pub adds-short : {r : Added} → r ≡ A.Short → Adds made base left before after r → left < length made
-  adds-short e adds = subst (Came made base left before after) e adds.came
-
-  pub adds-places : {r : Added} {n : ℕ} → r ≡ A.Places n → Adds made base left before after r → Filled made base left before after n
-  adds-places e adds = subst (Came made base left before after) e adds.came
-
 module _
-    (f : Environment → List Environment) (es : List Environment) (i : ℕ) (room : Room) (made : ℕ) (before scratch : Words)
+    {f : Environment → List Environment} {es : List Environment} {i : ℕ} {room : Room} {made : ℕ} {before scratch : Words}
     (s : Mapping f es i room.base made before scratch) (few : made ≤ room.limit - room.used) (h : Holding room before es) where
   -- the places ran out at the i-th environment
   pub map_ran_out :
       i < room.count →
-      {after : Words} {r : Added} →
-      r ≡ A.Short →
+      {after : Words} →
       length after ≡ length before →
-      Adds (f (environment_of es i)) (room.base + made) (room.limit - room.used - made) scratch after r →
-      (next : ℕ) → Makes (gather f es) (length (gather f es)) next room before after M.Short
-  map_ran_out inside {after} e long adds next =
+      Adds (f (environment_of es i)) (room.base + made) (room.limit - room.used - made) scratch after None →
+      {r : Option Made} →
+      r ≡ None →
+      (next : ℕ) → Makes (gather f es) (length (gather f es)) next room before after r
+  map_ran_out inside {after} long adds {r} e next =
       let n = h.long in
-      let short = map-short f es i room.base made before scratch s (room.limit - room.used - made) (omega arith) (adds-short e adds) in
-      record {
+      let short = map-short s (room.limit - room.used - made) (omega arith) adds.came in
+      subst (Makes (gather f es) (length (gather f es)) next room before after) (sym e)
+      (record {
         tells = omega arith;
         long = long;
         front =
@@ -48,7 +40,7 @@ module _
             ∙ ap (take (17 * room.base)) adds.front
             ∙ take-take (17 * room.base) (17 * (room.base + made)) scratch (omega arith)
             ∙ s.front;
-      }
+      })
 
   -- all environments gave what they give: the list stands in the first free places
   pub map_stood :
@@ -59,10 +51,10 @@ module _
       to ≡ filled room made →
       {x next : ℕ} →
       x ≡ next →
-      Makes (gather f es) (length (gather f es)) next room before scratch (M.List to x)
+      Makes (gather f es) (length (gather f es)) next room before scratch (Stands to x)
   map_stood roomy all long {to} e {x} {next} behind =
       let n = h.long in
-      let (count, listed) = map_end f es i room.base made before scratch s (omega arith) in
+      let (count, listed) = map_end s (omega arith) in
       let b = roomy.within in
       record {
         tells =
@@ -83,7 +75,7 @@ module _
 
 -- the same of other names of the list and its cost
 pub makes_same :
-    {made other : List Environment} {cost same next : ℕ} {room : Room} {before after : Words} {r : Made} →
+    {made other : List Environment} {cost same next : ℕ} {room : Room} {before after : Words} {r : Option Made} →
     made ≡ other →
     cost ≡ same →
     Makes made cost next room before after r →
@@ -92,7 +84,7 @@ makes_same {made} {same = same} {next} {room} {before} {after} {r} e f m =
     subst (λ (l : List Environment). Makes l same next room before after r) e (subst (λ (k : ℕ). Makes made k next room before after r) f m)
 
 pub at-list :
-    {made other : List Environment} {next : ℕ} {room : Room} {before after : Words} {r : Made} →
+    {made other : List Environment} {next : ℕ} {room : Room} {before after : Words} {r : Option Made} →
     made ≡ other →
     Makes made (length made) next room before after r →
     Makes other (length other) next room before after r

@@ -9,10 +9,11 @@ use Rattle.model.specs.Log.{rows}
 use Rattle.model.specs.Tree.{Tree, some}
 use Rattle.model.specs.Listing.{Environment, release, list, entries}
 use Rattle.listing.specs.declared.restriction.Room.{Room}
-use Rattle.listing.specs.declared.restriction.Made.TheVariants as M
+use Rattle.listing.specs.declared.restriction.Made.{Made}
+use Rattle.std.specs.Prelude.{Option, None}
 use Rattle.environments.specs.Lists.{Released}
 use Rattle.environments.proofs.ListsLaws.{outside-front}
-use Rattle.listing.specs.Restrictions.{Roomy, Holding, ListStands, MakesTree, counted}
+use Rattle.listing.specs.Restrictions.{Stands, Holding, ListStands, MakesTree, counted}
 
 module _ (table log : Words) (scope : ℕ) (c : Tree) (es : List Environment) (room : Room) (before after : Words) (next : ℕ) where
   abbrev made : List Environment
@@ -22,26 +23,17 @@ module _ (table log : Words) (scope : ℕ) (c : Tree) (es : List Environment) (r
   cost = entries table (rows log) c (scope + 1) es
 
   -- the places ran out in the child
-  pub some-short : MakesTree table log c (scope + 1) next es room before after M.Short → MakesTree table log (some c) scope next es room before after M.Short
+  pub some-short :
+      MakesTree table log c (scope + 1) next es room before after None →
+      {r : Option Made} → r ≡ None → MakesTree table log (some c) scope next es room before after r
   unfolding entries
-  some-short m =
+  some-short m e =
       let short : room.limit < room.used + cost = m.tells in
-      record { tells = omega arith; long = m.long; front = m.front }
+      subst (MakesTree table log (some c) scope next es room before after) (sym e) (record { tells = omega arith; long = m.long; front = m.front })
 
-  module _ (to : Room) (x : ℕ) (m : MakesTree table log c (scope + 1) next es room before after (M.List to x)) where
+  module _ (to : Room) (x : ℕ) (m : MakesTree table log c (scope + 1) next es room before after (Stands to x)) where
     stood : ListStands made cost next room after to x
     stood = m.tells
-
-    -- the child's list is within scratch
-    pub some-inside : Roomy room before → (to.from + to.count ≤ to.limit) × (to.limit ≡ room.limit) × (to.used ≤ to.limit)
-    some-inside roomy =
-        let b = roomy.counted in
-        let c1 = stood.counted in
-        let c2 = stood.free in
-        let c3 = stood.high in
-        let c4 = stood.fits in
-        let c5 = stood.limit in
-        (omega arith, c5, omega arith)
 
     pub some_holds : Holding to after made
     some_holds = stood.holds
@@ -61,7 +53,7 @@ module _ (table log : Words) (scope : ℕ) (c : Tree) (es : List Environment) (r
           let n : length (map (λ e. release e scope) made) ≡ to.count = length-map made (λ e. release e scope) ∙ stood.holds.long in
           omega arith
 
-      pub some-full : to.limit - to.used < to.count → MakesTree table log (some c) scope next es room before last M.Short
+      pub some-full : to.limit - to.used < to.count → MakesTree table log (some c) scope next es room before last None
       some-full h =
           let c1 = stood.counted in
           let c2 = stood.fits in
@@ -69,7 +61,7 @@ module _ (table log : Words) (scope : ℕ) (c : Tree) (es : List Environment) (r
           let k = some-cost in
           record { tells = omega arith; long = some-long; front = some-front }
 
-      pub some_end : to.count ≤ to.limit - to.used → {to' : Room} → to' ≡ counted to → MakesTree table log (some c) scope next es room before last (M.List to' x)
+      pub some_end : to.count ≤ to.limit - to.used → {to' : Room} → to' ≡ counted to → MakesTree table log (some c) scope next es room before last (Stands to' x)
       unfolding list
       some_end h {to'} e =
           let c1 = stood.counted in

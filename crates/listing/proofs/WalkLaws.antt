@@ -11,7 +11,7 @@ use Rattle.model.specs.Words.{Words, word, value}
 use Rattle.model.specs.Lists.{gather}
 use Rattle.model.specs.Log.{rows}
 use Rattle.model.specs.Tag.{Tag, tag_of}
-use Rattle.model.specs.Tree.{Term, Tree, Trees, atom, join, some, cons, count}
+use Rattle.model.specs.Tree.{Term, Tree, Trees, cons, count}
 use Rattle.model.specs.Level.{restriction, under}
 use Rattle.model.specs.Listing.{Environment, matches, list, entries}
 use Rattle.laws.specs.Reading.Nodes.{Node, Nodes}
@@ -22,10 +22,10 @@ use Rattle.policies.proofs.Standing.{has}
 use Rattle.policies.proofs.Standing.{first-left, none_left}
 use Rattle.listing.specs.declared.restriction.Room.{Room}
 use Rattle.listing.specs.declared.restriction.Made.{Made}
-use Rattle.listing.specs.declared.restriction.Made.TheVariants as M
+use Rattle.std.specs.Prelude.{Option, None, Some}
 use Rattle.environments.specs.Lists.{Moved}
 use Rattle.listing.proofs.Leaves.{LeafTag, leaf-here}
-use Rattle.listing.specs.Restrictions.{Roomy, Holding, Makes, MakesAtom, MakesTree, MakesNode, MakesJoin, MakesSome, MakesKept}
+use Rattle.listing.specs.Restrictions.{Stands, Roomy, Holding, Makes, MakesAtom, MakesTree, MakesNode, MakesJoin, MakesSome, MakesKept}
 use Rattle.listing.specs.Restrictions.{matched, counted, next_branch, joined}
 use Rattle.listing.proofs.MapRoom.{makes_same}
 use Rattle.listing.proofs.AllLaws.{AllFar, all_start, all_roomy, all-step, all_short, all-full, all_end}
@@ -36,7 +36,7 @@ module _ (table words log : Words) (above scope : ℕ) where
   Stand at ts end = Nodes table words restriction above scope at ts end
 
   -- what the call of the walk says of the child at an index
-  abbrev pub Child : (next : ℕ) (room : Room) (before after : Words) (r : Made) → Type 0
+  abbrev pub Child : (next : ℕ) (room : Room) (before after : Words) (r : Option Made) → Type 0
   Child next room before after r =
       (es : List Environment) → Holding room before es → MakesNode table words log above scope next es room before after r
 
@@ -79,31 +79,29 @@ module _ (table words log : Words) (above scope : ℕ) where
 
       -- one more child
       pub all-next :
-          i < n → {r : Made} {after : Words} {to' : Room} {x : ℕ} → r ≡ M.List to' x → Child next to scratch after r → AllSoFar n at room before (i + 1) x to' after
-      all-next h {after = after} {to'} {x} e child es k ts end s c =
+          i < n → (after : Words) (m : Made) → Child next to scratch after (Some m) → AllSoFar n at room before (i + 1) m.next m.room after
+      all-next h after m child es k ts end s c =
           let (rest, s', left, far) = inv es k ts end s c in
           let (t, us, behind, q, node, s'', l) = next_child next n i rest end left h s' in
-          let m = subst (MakesTree table log t scope behind far.handed to scratch after) e (child far.handed far.holds t behind node) in
-          (us, subst (λ (j : ℕ). Stand j us end) (sym (stood_behind m)) s'', l, all-step table log scope ts es room before roomy rest i to scratch far long t us q behind after to' x m)
-        where
-          stood_behind :
-              {l : List Environment} {cost b : ℕ} {room : Room} {before after : Words} {to : Room} {x : ℕ} →
-              Makes l cost b room before after (M.List to x) → x ≡ b
-          stood_behind m = m.tells.behind
+          let made = child far.handed far.holds t behind node in (
+            us,
+            subst (λ (j : ℕ). Stand j us end) (sym made.tells.behind) s'',
+            l,
+            all-step table log scope ts es room before roomy rest i to scratch far long t us q behind after m.room m.next made,
+          )
 
       pub all-stop :
-          i < n → {r : Made} {after : Words} → r ≡ M.Short → Child next to scratch after r →
-          (es : List Environment) → Holding room before es → MakesJoin true table words log above scope n at es room before after M.Short
-      all-stop h {after = after} e child es k ts end s c =
+          i < n → (after : Words) → Child next to scratch after None →
+          (es : List Environment) → Holding room before es → MakesJoin true table words log above scope n at es room before after None
+      all-stop h after child es k ts end s c =
           let (rest, s', left, far) = inv es k ts end s c in
           let (t, us, behind, q, node, s'', l) = next_child next n i rest end left h s' in
-          let m = subst (MakesTree table log t scope behind far.handed to scratch after) e (child far.handed far.holds t behind node) in
-          all_short table log scope ts es room before roomy rest i to scratch far long t us q behind after m end
+          all_short table log scope ts es room before roomy rest i to scratch far long t us q behind after (child far.handed far.holds t behind node) end
 
       -- no child is left
       pub all_more :
           n ≤ i → to.limit - to.used < to.count → (es : List Environment) →
-          Holding room before es → MakesJoin true table words log above scope n at es room before scratch M.Short
+          Holding room before es → MakesJoin true table words log above scope n at es room before scratch None
       all_more h full es k ts end s c =
           let (rest, s', left, far) = inv es k ts end s c in
           let (none, ends) = none_left table words above scope next rest end s' (omega arith) in
@@ -111,15 +109,11 @@ module _ (table words log : Words) (above scope : ℕ) where
 
       pub all-last :
           n ≤ i → 1 ≤ n → i ≤ n → to.count ≤ to.limit - to.used → {to' : Room} → to' ≡ counted to →
-          (es : List Environment) → Holding room before es → MakesJoin true table words log above scope n at es room before scratch (M.List to' next)
+          (es : List Environment) → Holding room before es → MakesJoin true table words log above scope n at es room before scratch (Stands to' next)
       all-last h least most fits e es k ts end s c =
           let (rest, s', left, far) = inv es k ts end s c in
           let (none, ends) = none_left table words above scope next rest end s' (omega arith) in
           all_end table log scope ts es room before roomy rest i to scratch far long none (omega arith) fits e (sym ends)
-
-      -- the numbers of the room
-      pub all-numbers : HereAll table words restriction above scope n at → (es : List Environment) × Holding room before es → to.used ≤ to.limit
-      all-numbers (ts, end, e, s) (es, k) = (inv es k ts end s e).3.fits
 
     pub any-first : AnySoFar n at room before 0 at room before
     any-first es h ts end s e = (ts, s, omega arith, any-start table log scope ts es room before roomy h)
@@ -135,54 +129,42 @@ module _ (table words log : Words) (above scope : ℕ) where
 
       -- the list of a branch can be moved
       pub any_moves :
-          i < n → {r : Made} {after : Words} {to : Room} {x : ℕ} → r ≡ M.List to x → Child next branch scratch after r →
+          i < n → (after : Words) (m : Made) → Child next branch scratch after (Some m) →
           HereAll table words restriction above scope n at → (es : List Environment) × Holding room before es →
-          (branch.base ≤ to.from) × (to.from + to.count ≤ branch.limit) × (branch.base + to.count ≤ branch.limit)
-      any_moves h {after = after} {to} {x} e child (ts, end, c, s) (es, k) =
+          (branch.base ≤ m.room.from) × (m.room.from + m.room.count ≤ branch.limit) × (branch.base + m.room.count ≤ branch.limit)
+      any_moves h after m child (ts, end, c, s) (es, k) =
           let (rest, s', left, far) = inv es k ts end s c in
           let (t, us, b, q, node, s'', l) = next_child next n i rest end left h s' in
-          let m = subst (MakesTree table log t scope b es branch scratch after) e (child es (any-holds table log scope ts es room before roomy k rest branch scratch far long) t b node) in
-          any_movable table log scope ts es room before roomy k rest branch scratch far long t us q b after to x m
+          any_movable table log scope ts es room before roomy k rest branch scratch far long t us q b after m.room m.next
+          (child es (any-holds table log scope ts es room before roomy k rest branch scratch far long) t b node)
 
       pub any_next :
-          i < n → {r : Made} {after last : Words} {to next-room : Room} {x : ℕ} → r ≡ M.List to x → Child next branch scratch after r →
-          Moved after last to.from to.count branch.base → next-room ≡ next_branch branch to → AnySoFar n at room before (i + 1) x next-room last
-      any_next h {after = after} {last} {to} {x = x} e child moved is es k ts end s c =
+          i < n → (after : Words) (m : Made) → Child next branch scratch after (Some m) →
+          {last : Words} {next-room : Room} →
+          Moved after last m.room.from m.room.count branch.base → next-room ≡ next_branch branch m.room → AnySoFar n at room before (i + 1) m.next next-room last
+      any_next h after m child {last} moved is es k ts end s c =
           let (rest, s', left, far) = inv es k ts end s c in
           let (t, us, b, q, node, s'', l) = next_child next n i rest end left h s' in
-          let m = subst (MakesTree table log t scope b es branch scratch after) e (child es (any-holds table log scope ts es room before roomy k rest branch scratch far long) t b node) in (
+          let made = child es (any-holds table log scope ts es room before roomy k rest branch scratch far long) t b node in (
             us,
-            subst (λ (j : ℕ). Stand j us end) (sym (stood_behind m)) s'',
+            subst (λ (j : ℕ). Stand j us end) (sym made.tells.behind) s'',
             l,
             subst (λ (room' : Room). AnyFar table log scope ts us es room before room' last) (sym is)
-                (any_step table log scope ts es room before roomy k rest branch scratch far long t us q b after to x m last moved),
+                (any_step table log scope ts es room before roomy k rest branch scratch far long t us q b after m.room m.next made last moved),
           )
-        where
-          stood_behind :
-              {l : List Environment} {cost b : ℕ} {room : Room} {before after : Words} {to : Room} {x : ℕ} →
-              Makes l cost b room before after (M.List to x) → x ≡ b
-          stood_behind m = m.tells.behind
 
       pub any-stop :
-          i < n → {r : Made} {after : Words} → r ≡ M.Short → Child next branch scratch after r →
-          (es : List Environment) → Holding room before es → MakesJoin false table words log above scope n at es room before after M.Short
-      any-stop h {after = after} e child es k ts end s c =
+          i < n → (after : Words) → Child next branch scratch after None →
+          (es : List Environment) → Holding room before es → MakesJoin false table words log above scope n at es room before after None
+      any-stop h after child es k ts end s c =
           let (rest, s', left, far) = inv es k ts end s c in
           let (t, us, b, q, node, s'', l) = next_child next n i rest end left h s' in
-          let m = subst (MakesTree table log t scope b es branch scratch after) e (child es (any-holds table log scope ts es room before roomy k rest branch scratch far long) t b node) in
-          any-short table log scope ts es room before roomy k rest branch scratch far long t us q b after m end
-
-      pub any-numbers :
-          HereAll table words restriction above scope n at → (es : List Environment) × Holding room before es →
-          (branch.used ≤ branch.limit) × (room.base ≤ branch.base)
-      any-numbers (ts, end, e, s) (es, k) =
-          let far = (inv es k ts end s e).3 in
-          let b = far.base in
-          (far.fits, omega arith)
+          any-short table log scope ts es room before roomy k rest branch scratch far long t us q b after
+          (child es (any-holds table log scope ts es room before roomy k rest branch scratch far long) t b node) end
 
       pub any-more :
           n ≤ i → branch.limit - branch.used < branch.base - room.base →
-          (es : List Environment) → Holding room before es → MakesJoin false table words log above scope n at es room before scratch M.Short
+          (es : List Environment) → Holding room before es → MakesJoin false table words log above scope n at es room before scratch None
       any-more h full es k ts end s c =
           let (rest, s', left, far) = inv es k ts end s c in
           let (none, ends) = none_left table words above scope next rest end s' (omega arith) in
@@ -190,14 +172,14 @@ module _ (table words log : Words) (above scope : ℕ) where
 
       pub any_last :
           n ≤ i → branch.base - room.base ≤ branch.limit - branch.used → {to : Room} → to ≡ joined branch room.base (branch.base - room.base) →
-          (es : List Environment) → Holding room before es → MakesJoin false table words log above scope n at es room before scratch (M.List to next)
+          (es : List Environment) → Holding room before es → MakesJoin false table words log above scope n at es room before scratch (Stands to next)
       any_last h fits e es k ts end s c =
           let (rest, s', left, far) = inv es k ts end s c in
           let (none, ends) = none_left table words above scope next rest end s' (omega arith) in
           any_end table log scope ts es room before roomy k rest branch scratch far long none fits e (sym ends)
 
 -- by the node's tag
-module _ (table words log : Words) (above scope at : ℕ) (es : List Environment) (room : Room) (before after : Words) (r : Made) where
+module _ (table words log : Words) (above scope at : ℕ) (es : List Environment) (room : Room) (before after : Words) (r : Option Made) where
   abbrev Comes : Type 0
   Comes = MakesNode table words log above scope at es room before after r
 

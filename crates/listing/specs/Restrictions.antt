@@ -1,5 +1,5 @@
 -- What the listing of a restriction asks and says: the chained log, the room in scratch, and the list that is made.
-use Rattle.std.specs.Prelude.{ℕ, ◌+◌, ◌*◌, ◌-◌, ◌≤◌, ◌<◌, ◌≡◌, Bool, true, false, List, length, take}
+use Rattle.std.specs.Prelude.{ℕ, ◌+◌, ◌*◌, ◌-◌, ◌≤◌, ◌<◌, ◌≡◌, Bool, true, false, List, length, take, Option, Some, None}
 use Rattle.model.specs.Words.{Words, value, predicate_limit}
 use Rattle.model.specs.Lists.{gather}
 use Rattle.model.specs.Answer.{passed}
@@ -13,7 +13,6 @@ use Rattle.policies.specs.Standing.{terms_at}
 use Rattle.logs.specs.Links.{Linked}
 use Rattle.listing.specs.declared.restriction.Room.{Room}
 use Rattle.listing.specs.declared.restriction.Made.{Made}
-use Rattle.listing.specs.declared.restriction.Made.TheVariants.{Short, List as Stands}
 use Rattle.environments.specs.Listed.{Listed}
 use Rattle.environments.specs.Lists.{Moved}
 use Rattle.listing.specs.Keeping.{Leaf}
@@ -47,18 +46,21 @@ pub record ListStands (made : List Environment) (cost next : ℕ) (room : Room) 
   pub behind : x ≡ next
   pub holds : Holding to after made
 
+-- a list that stands in a room, and the index behind the node that made it
+abbrev pub Stands : (to : Room) (x : ℕ) → Option Made
+Stands to x = Some (record { room = to; next = x })
+
 -- the places ran out, exactly if the cost does not fit; or the list stands
-abbrev pub ListTells : (made : List Environment) (cost next : ℕ) (room : Room) (after : Words) (r : Made) → Type 0
-ListTells made cost next room after Short = room.limit < room.used + cost
-ListTells made cost next room after (Stands to x) = ListStands made cost next room after to x
+abbrev pub ListTells : (made : List Environment) (cost next : ℕ) (room : Room) (after : Words) (r : Option Made) → Type 0
+ListTells made cost next room after None = room.limit < room.used + cost
+ListTells made cost next room after (Some m) = ListStands made cost next room after m.room m.next
 
 -- the room after a list of so many entries was made in its first free places
 abbrev pub filled : (room : Room) (n : ℕ) → Room
-filled room n =
-    record { from = room.base; count = n; base = room.base + n; used = room.used + n; limit = room.limit }
+filled room n = record room { from = room.base; count = n; base = room.base + n; used = room.used + n }
 
 -- what a node makes of the list in its room: it tells it, and keeps what stands before the first free place
-pub record Makes (made : List Environment) (cost next : ℕ) (room : Room) (before after : Words) (r : Made) : Type 0 where
+pub record Makes (made : List Environment) (cost next : ℕ) (room : Room) (before after : Words) (r : Option Made) : Type 0 where
   pub tells : ListTells made cost next room after r
   pub long : length after ≡ length before
   pub front : take (17 * room.base) after ≡ take (17 * room.base) before
@@ -72,22 +74,19 @@ abbrev pub matched : (words log : Words) (at : ℕ) (es : List Environment) → 
 matched words log at =
     gather (matches (rows log) (value words (at + 1)) (terms_at words (at + 3) (value words (at + 2))))
 
-abbrev pub MakesAtom : (words log : Words) (at : ℕ) (es : List Environment) (room : Room) (before after : Words) (r : Made) → Type 0
+abbrev pub MakesAtom : (words log : Words) (at : ℕ) (es : List Environment) (room : Room) (before after : Words) (r : Option Made) → Type 0
 MakesAtom words log at es room before after r =
     Makes (matched words log at es) (length (matched words log at es)) (at + 3 + 2 * value words (at + 2)) room before after r
 
 -- the room after a second list of the same entries was counted; for the next branch; and with the lists of all branches
 abbrev pub counted : (room : Room) → Room
-counted room =
-    record { from = room.from; count = room.count; base = room.base; used = room.used + room.count; limit = room.limit }
+counted room = record room { used = room.used + room.count }
 
 abbrev pub next_branch : (room to : Room) → Room
-next_branch room to =
-    record { from = room.from; count = room.count; base = room.base + to.count; used = to.used; limit = room.limit }
+next_branch room to = record room { base = room.base + to.count; used = to.used }
 
 abbrev pub joined : (room : Room) (base made : ℕ) → Room
-joined room base made =
-    record { from = base; count = made; base = room.base; used = room.used + made; limit = room.limit }
+joined room base made = record room { from = base; count = made; used = room.used + made }
 
 -- what a join is asked and leaves where a child has made its list: an all-of (true) hands it to the next child, an any-of moves it behind
 -- the lists of the branches before
@@ -109,26 +108,26 @@ abbrev pub ended : (b : Bool) (room handed : Room) → Room
 ended true room handed = counted handed
 ended false room handed = joined handed room.base (handed.base - room.base)
 
-abbrev pub Closes : (every : Bool) (room handed : Room) (next : ℕ) (made : Made) → Type 0
-Closes every room handed next Short = handed.limit - handed.used < own_entries every room handed
-Closes every room handed next (Stands to x) =
-    (own_entries every room handed ≤ handed.limit - handed.used) × (to ≡ ended every room handed) × (x ≡ next)
+abbrev pub Closes : (every : Bool) (room handed : Room) (next : ℕ) (made : Option Made) → Type 0
+Closes every room handed next None = handed.limit - handed.used < own_entries every room handed
+Closes every room handed next (Some m) =
+    (own_entries every room handed ≤ handed.limit - handed.used) × (m.room ≡ ended every room handed) × (m.next ≡ next)
 
 -- what the node at an index makes of a list; the children of an all-of (true) or any-of; the child of a "some"
 abbrev pub MakesTree :
-    (table log : Words) (c : Tree) (scope next : ℕ) (es : List Environment) (room : Room) (before after : Words) (r : Made) → Type 0
+    (table log : Words) (c : Tree) (scope next : ℕ) (es : List Environment) (room : Room) (before after : Words) (r : Option Made) → Type 0
 MakesTree table log c scope next es room before after r =
     Makes (list table (rows log) c scope es) (entries table (rows log) c scope es) next room before after r
 
 abbrev pub MakesNode :
-    (table words log : Words) (above scope at : ℕ) (es : List Environment) (room : Room) (before after : Words) (r : Made) → Type 0
+    (table words log : Words) (above scope at : ℕ) (es : List Environment) (room : Room) (before after : Words) (r : Option Made) → Type 0
 MakesNode table words log above scope at es room before after r =
     (c : Tree) (next : ℕ) →
     Node table words restriction above scope at c next →
     MakesTree table log c scope next es room before after r
 
 abbrev pub MakesJoin :
-    (b : Bool) (table words log : Words) (above scope n at : ℕ) (es : List Environment) (room : Room) (before after : Words) (r : Made) →
+    (b : Bool) (table words log : Words) (above scope n at : ℕ) (es : List Environment) (room : Room) (before after : Words) (r : Option Made) →
     Type 0
 MakesJoin b table words log above scope n at es room before after r =
     (ts : Trees) (next : ℕ) →
@@ -137,14 +136,14 @@ MakesJoin b table words log above scope n at es room before after r =
     MakesTree table log (join b ts) scope next es room before after r
 
 abbrev pub MakesSome :
-    (table words log : Words) (above scope at : ℕ) (es : List Environment) (room : Room) (before after : Words) (r : Made) → Type 0
+    (table words log : Words) (above scope at : ℕ) (es : List Environment) (room : Room) (before after : Words) (r : Option Made) → Type 0
 MakesSome table words log above scope at es room before after r =
     (c : Tree) (next : ℕ) →
     Node table words restriction (above + 1) (scope + 1) (at + 1) c next →
     MakesTree table log (some c) scope next es room before after r
 
 -- what a leaf at an index keeps of a list
-abbrev pub MakesKept : (table words log : Words) (at : ℕ) (es : List Environment) (room : Room) (before after : Words) (r : Made) → Type 0
+abbrev pub MakesKept : (table words log : Words) (at : ℕ) (es : List Environment) (room : Room) (before after : Words) (r : Option Made) → Type 0
 MakesKept table words log at es room before after r =
     (above scope : ℕ) (c : Tree) (next : ℕ) →
     Node table words restriction above scope at c next →

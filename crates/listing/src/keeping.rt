@@ -14,7 +14,6 @@ ghost use Rattle.listing.specs.Keeping.{TellsFalse, TellsKept};
 
 use environments::environment::Environment;
 use environments::terms;
-use logs::value::Value;
 use matching::lookup;
 use policies::node::Tag;
 
@@ -32,12 +31,7 @@ fn is_false(
         × HereAtom words.now at }
     ensures { TellsFalse table.now words.now log.now environment at result }
 {
-    let found = lookup::value_at(table, words, log, links, environment, at);
-    match found {
-        Value::True => false,
-        Value::False => true,
-        Value::Open => false,
-    }
+    lookup::value_at(table, words, log, links, environment, at) == Some(false)
 }
 
 // Whether the leaf of a restriction at an index, whose tag is given, keeps an environment.

@@ -14,7 +14,6 @@ use crate::keeping;
 use environments::environment::Environment;
 use environments::lists;
 use matching::rows;
-use matching::rows::Added;
 use policies::node;
 use policies::node::Tag;
 
@@ -40,7 +39,7 @@ impl Room {
             count: made,
             base: self.base + made,
             used: self.used + made,
-            limit: self.limit,
+            ..self
         }
     }
 
@@ -50,11 +49,8 @@ impl Room {
         ensures { result ≡ R.counted self }
     {
         Room {
-            from: self.from,
-            count: self.count,
-            base: self.base,
             used: self.used + self.count,
-            limit: self.limit,
+            ..self
         }
     }
 
@@ -64,11 +60,9 @@ impl Room {
         ensures { result ≡ R.next_branch self to }
     {
         Room {
-            from: self.from,
-            count: self.count,
             base: self.base + to.count,
             used: to.used,
-            limit: self.limit,
+            ..self
         }
     }
 
@@ -80,18 +74,17 @@ impl Room {
         Room {
             from: base,
             count: made,
-            base: self.base,
             used: self.used + made,
-            limit: self.limit,
+            ..self
         }
     }
 }
 
-// The places ran out; or the room with the list made, and the index behind the node.
+// The room with the list that a node made, and the index behind the node. Where the places ran out there is none.
 #[derive(Clone, Copy)]
-pub enum Made {
-    Short,
-    List(Room, usize),
+pub struct Made {
+    pub room: Room,
+    pub next: usize,
 }
 
 // An atom of tag 2 makes of each environment in turn those that the true rows of its predicate make.
@@ -102,7 +95,7 @@ fn list_atom(
     scratch: &mut [i32],
     room: Room,
     at: usize,
-) -> Made
+) -> Option<Made>
     requires { Linked log.now links.now
         × HereAtom words.now at
         × R.Roomy room scratch.old
@@ -117,10 +110,9 @@ fn list_atom(
     let base = room.base;
     let left = room.limit - room.used;
     let mut made = 0;
-    let mut i = 0;
-    while i < room.count {
+    for i in 0..room.count {
         let environment = Environment::read(scratch, room.from + i);
-        let added = rows::match_rows(
+        made += rows::match_rows(
             environment,
             words,
             at + 3,
@@ -131,14 +123,12 @@ fn list_atom(
             scratch,
             base + made,
             left - made,
-        );
-        let Added::Places(more) = added else {
-            return Made::Short;
-        };
-        made += more;
-        i += 1;
+        )?;
     }
-    Made::List(room.filled(made), at + 3 + 2 * n)
+    Some(Made {
+        room: room.filled(made),
+        next: at + 3 + 2 * n,
+    })
 }
 
 // A leaf that is no atom of tag 2 keeps the environments in which it is true.
@@ -151,7 +141,7 @@ fn list_kept(
     room: Room,
     tag: Tag,
     at: usize,
-) -> Made
+) -> Option<Made>
     requires { R.Chains table.now log.now links.now
         × HereRestriction table.now words.now at
         × (as_tag tag ≡ T.tag_of (W.word words.now at))
@@ -163,22 +153,21 @@ fn list_kept(
 {
     let left = room.limit - room.used;
     let mut made = 0;
-    let mut i = 0;
-    while i < room.count {
-        let source = room.from + i;
-        let environment = Environment::read(scratch, source);
-        i += 1;
+    for i in 0..room.count {
+        let environment = Environment::read(scratch, room.from + i);
         if !keeping::keeps(table, words, log, links, environment, tag, at) {
             continue;
         }
         if left <= made {
-            return Made::Short;
+            return None;
         }
         environment.store(scratch, room.base + made);
         made += 1;
     }
-    let own = node::size(words, tag, at);
-    Made::List(room.filled(made), at + own)
+    Some(Made {
+        room: room.filled(made),
+        next: at + node::size(words, tag, at),
+    })
 }
 
 // The room for the next child of an all-of (true), which is handed the list that was made, or for the next branch of an any-of, once that
@@ -195,22 +184,28 @@ fn pass_on(every: bool, scratch: &mut [i32], handed: Room, to: Room) -> Room
 }
 
 // The list of an all-of (true) or any-of, once no child is left: the last child's, counted once more, or those of all branches.
-fn close(every: bool, room: Room, handed: Room, next: usize) -> Made
+fn close(every: bool, room: Room, handed: Room, next: usize) -> Option<Made>
     requires { (handed.used ≤ handed.limit) × (room.base ≤ handed.base) }
     ensures { R.Closes every room handed next result }
 {
     let left = handed.limit - handed.used;
     if every {
         if left < handed.count {
-            return Made::Short;
+            return None;
         }
-        return Made::List(handed.counted(), next);
+        return Some(Made {
+            room: handed.counted(),
+            next,
+        });
     }
     let made = handed.base - room.base;
     if left < made {
-        return Made::Short;
+        return None;
     }
-    Made::List(handed.joined(room.base, made), next)
+    Some(Made {
+        room: handed.joined(room.base, made),
+        next,
+    })
 }
 
 // The children of an all-of (true), each of which is handed the list of the one before it, or the branches of an any-of, which are all
@@ -228,7 +223,7 @@ fn list_join(
     every: bool,
     n: usize,
     at: usize,
-) -> Made
+) -> Option<Made>
     requires { R.Chains table.now log.now links.now
         × (above ≤ 64)
         × (scope ≤ 16)
@@ -242,17 +237,12 @@ fn list_join(
 {
     let mut handed = room;
     let mut next = at;
-    let mut i = 0;
-    while i < n {
+    for _ in 0..n {
         let child = list(
             table, words, log, links, scratch, handed, above, scope, next,
-        );
-        let Made::List(to, behind) = child else {
-            return Made::Short;
-        };
-        handed = pass_on(every, scratch, handed, to);
-        next = behind;
-        i += 1;
+        )?;
+        handed = pass_on(every, scratch, handed, child.room);
+        next = child.next;
     }
     close(every, room, handed, next)
 }
@@ -269,7 +259,7 @@ fn list_some(
     above: usize,
     scope: usize,
     at: usize,
-) -> Made
+) -> Option<Made>
     requires { R.Chains table.now log.now links.now
         × (above < 64)
         × (scope < 16)
@@ -280,7 +270,7 @@ fn list_some(
         R.Holding room scratch.old es →
         R.MakesSome table.now words.now log.now above scope at es room scratch.old scratch.new result }
 {
-    let child = list(
+    let Made { room: to, next } = list(
         table,
         words,
         log,
@@ -290,15 +280,15 @@ fn list_some(
         above + 1,
         scope + 1,
         at + 1,
-    );
-    let Made::List(to, next) = child else {
-        return Made::Short;
-    };
+    )?;
     lists::release_all(scratch, to.from, to.count, scope);
     if to.limit - to.used < to.count {
-        return Made::Short;
+        return None;
     }
-    Made::List(to.counted(), next)
+    Some(Made {
+        room: to.counted(),
+        next,
+    })
 }
 
 // The list that a restriction node makes of the list handed to it.
@@ -313,7 +303,7 @@ pub fn list(
     above: usize,
     scope: usize,
     at: usize,
-) -> Made
+) -> Option<Made>
     requires { R.Chains table.now log.now links.now
         × (above ≤ 64)
         × (scope ≤ 16)

@@ -18,8 +18,7 @@ use Rattle.model.specs.Words.{Words, word, value, at_least, equal, equal_all}
 use Rattle.model.specs.Lists.{span, any}
 use Rattle.model.specs.Log.{row_count, row_at, arguments, holds, same_atom}
 use Rattle.laws.specs.Lists.Span.{span_mem}
-use Rattle.chains.specs.declared.search.Found.{Found}
-use Rattle.chains.specs.declared.search.Found.TheVariants.{At, Nothing}
+use Rattle.std.specs.Prelude.{Option, Some, None}
 use Rattle.chains.specs.Search.{first_row}
 use Rattle.logs.specs.Log.{repeats_at}
 use Rattle.chains.specs.Chain.{chain, Chained}
@@ -52,11 +51,11 @@ equal_all-sym (x ∷ xs) [] = refl
 equal_all-sym (x ∷ xs) (y ∷ ys) = ap₂ (λ (a b : Bool). a && b) (equal-sym x y) (equal_all-sym xs ys)
 
 -- a search found a row
-abbrev pub is_at : (found : Found) → Bool
-is_at (At i) = true
-is_at Nothing = false
+abbrev pub is_at : (found : Option ℕ) → Bool
+is_at (Some i) = true
+is_at None = false
 
-or_at : (b : Bool) (q : ℕ) (x : Bool) (f : Found) → x ≡ is_at f → (b || x) ≡ is_at (cond b (At q) f)
+or_at : (b : Bool) (q : ℕ) (x : Bool) (f : Option ℕ) → x ≡ is_at f → (b || x) ≡ is_at (cond b (Some q) f)
 or_at true q x f e = refl
 or_at false q x f e = e
 
@@ -90,7 +89,7 @@ module _ (log : Words) (r : ℕ) (within : 8 * r + 8 ≤ length log) (number : a
       (any-first qs (λ k m. h k (Memᴰ.tail m))))
 
   pub repeats_search :
-      {f : Found} →
+      {f : Option ℕ} →
       f ≡ first_row log (value log (8 * r)) (take 6 (drop (8 * r + 2) log)) (span 0 r) →
       repeats_at log r ≡ is_at f
   unfolding repeats_at
@@ -99,9 +98,9 @@ module _ (log : Words) (r : ℕ) (within : 8 * r + 8 ≤ length log) (number : a
       ∙ ap is_at (sym (e ∙ ap (λ (ns : List ℤ). first_row log (value log (8 * r)) ns (span 0 r)) (row-part log r)))
 
 -- the row that a search found is earlier than a row
-abbrev pub earlier : (r : ℕ) (found : Found) → Bool
-earlier r (At q) = ltb q r
-earlier r Nothing = false
+abbrev pub earlier : (r : ℕ) (found : Option ℕ) → Bool
+earlier r (Some q) = ltb q r
+earlier r None = false
 
 -- a search through rows up to one that holds the atom, and through those before that row
 first-before :
@@ -128,14 +127,14 @@ first-before log p ns r (suc n) i l h k =
     go :
         i < r → (b : Bool) →
         is_at (first_row log p ns (span (suc i) (r - suc i))) ≡ earlier r (first_row log p ns (span (suc i) n)) →
-        is_at (cond b (At i) (first_row log p ns (span (suc i) (r - suc i)))) ≡ earlier r (cond b (At i) (first_row log p ns (span (suc i) n)))
+        is_at (cond b (Some i) (first_row log p ns (span (suc i) (r - suc i)))) ≡ earlier r (cond b (Some i) (first_row log p ns (span (suc i) n)))
     go l true ih = sym (lt-ltb i r l)
     go l false ih = ih
 
 -- an earlier row repeats a row's atom exactly if the first row of the log that holds it is earlier
 module _ (log : Words) (r : ℕ) (inside : r < row_count log) (number : at_least 0 (word log (8 * r)) ≡ true) where
   pub repeats-first :
-      {f : Found} →
+      {f : Option ℕ} →
       f ≡ first_row log (value log (8 * r)) (take 6 (drop (8 * r + 2) log)) (span 0 (row_count log)) →
       repeats_at log r ≡ earlier r f
   unfolding row_count
@@ -176,6 +175,6 @@ module _ (log : Words) (links : List ℕ) (c : Chained (row_key log) atom_keys (
     pub own_first : row_count log - get_or links k 0 ≡ row → repeats_at log row ≡ false
     own_first e =
         repeats-first log row inside number
-        (search_first log own-predicate own-arguments k (row_count log) 0 (get_or links k 0) own_search (λ z. omega arith) row e
+        (search_first own_search (λ z. omega arith) row e
         (ap (λ (ns : List ℤ). holds own-predicate ns (row_at log row)) (row-part log row) ∙ own_row log row inside number))
         ∙ le-ltb row row (omega arith)

@@ -14,17 +14,16 @@ use Rattle.model.specs.Table.{arity, complete}
 use Rattle.model.specs.Log.{Value, known, unknown, row_count, row_at, rows, says_true, holds, ask_log, value_in}
 use Rattle.laws.specs.Words.Tests.{decide}
 use Rattle.laws.specs.Log.{value-filled}
-use Rattle.chains.specs.declared.search.Found.{Found}
-use Rattle.chains.specs.declared.search.Found.TheVariants.{At, Nothing}
+use Rattle.std.specs.Prelude.{Option, Some, None}
 use Rattle.chains.specs.Search.{first_row}
 use Rattle.chains.proofs.Keys.{says}
 
 -- the value that the row found gives an atom: the row's truth; with no row, false if the predicate is complete, else unknown
-unfoldable pub value_by : Words → Words → ℕ → Found → Value
-value_by table log p (At r) = known (says_true (row_at log r))
-value_by table log p Nothing = cond (complete table p) (known false) unknown
+unfoldable pub value_by : Words → Words → ℕ → Option ℕ → Value
+value_by table log p (Some r) = known (says_true (row_at log r))
+value_by table log p None = cond (complete table p) (known false) unknown
 
-by_test : (b : Bool) (table log : Words) (p r : ℕ) (v : Value) (f : Found) → v ≡ value_by table log p f → cond b (known (says_true (row_at log r))) v ≡ value_by table log p (cond b (At r) f)
+by_test : (b : Bool) (table log : Words) (p r : ℕ) (v : Value) (f : Option ℕ) → v ≡ value_by table log p f → cond b (known (says_true (row_at log r))) v ≡ value_by table log p (cond b (Some r) f)
 unfolding value_by
 by_test true table log p r v f e = refl
 by_test false table log p r v f e = e
@@ -41,12 +40,12 @@ rows-value table log p ns (r ∷ rs) =
     (rows-value table log p ns rs)
 
 -- a row found is a row of the log
-pub first-inside : (log : Words) (p : ℕ) (ns : List ℤ) (q n i : ℕ) → first_row log p ns (span i n) ≡ At q → q < i + n
+pub first-inside : (log : Words) (p : ℕ) (ns : List ℤ) (q n i : ℕ) → first_row log p ns (span i n) ≡ Some q → q < i + n
 unfolding first_row span
 first-inside log p ns q zero i e = let z : ◌≡◌ {A = ℕ} 0 1 = cc in absurd (omega arith)
 first-inside log p ns q (suc n) i e =
     ⊎_elim
-    (λ h. let same : At i ≡ At q = rw h at e in let k : i ≡ q = cc in omega arith)
+    (λ h. let same : Some i ≡ Some q = rw h at e in let k : i ≡ q = cc in omega arith)
     (λ h. let b = first-inside log p ns q n (suc i) (rw h at e) in omega arith)
     (decide (holds p ns (row_at log i)))
 
@@ -61,30 +60,34 @@ module _ (table log : Words) (p : ℕ) where
   -- an atom's arguments are its numbers, filled up to six with 0: its value is that of the row that holds them
   pub value_found :
       ask_log table log ≡ passed tt →
-      (given ns : List ℤ) →
+      (given : List ℤ) →
       length given ≡ 6 →
-      {f : Found} →
+      {f : Option ℕ} {v : Value} →
       f ≡ first_row log p given (span 0 (row_count log)) →
+      value_by table log p f ≡ v →
+      (ns : List ℤ) →
       length ns ≡ arity table p →
       given ≡ ns ++ replicate (6 - length ns) (pos 0) →
-      value_in table (rows log) p ns ≡ value_by table log p f
-  value_found ok given ns six e long filled =
+      v ≡ value_in table (rows log) p ns
+  value_found ok given six e is ns long filled =
       let few : length ns ≤ 6 =
       omega (arith, ap length filled ∙ length-append ns (replicate (6 - length ns) (pos 0)), length-replicate (6 - length ns) (pos 0)) in
-      value-filled table log p ns ok long few
+      sym
+      (value-filled table log p ns ok long few
       ∙ ap (value_in table (rows log) p) (sym filled)
       ∙ search_value table log p given
       ∙ ap (value_by table log p) (sym e)
+      ∙ is)
 
   -- what the row says; with no row, what completeness says
-  pub by_row : {f : Found} (r : ℕ) (b : Bool) → f ≡ At r → equal (word log (8 * r + 1)) (pos 1) ≡ b → value_by table log p f ≡ known b
+  pub by_row : {f : Option ℕ} (r : ℕ) (b : Bool) → f ≡ Some r → equal (word log (8 * r + 1)) (pos 1) ≡ b → value_by table log p f ≡ known b
   unfolding value_by
   by_row r b e s = ap (value_by table log p) e ∙ ap known (says log r ∙ s)
 
-  pub by_complete : {f : Found} → f ≡ Nothing → complete table p ≡ true → value_by table log p f ≡ known false
+  pub by_complete : {f : Option ℕ} → f ≡ None → complete table p ≡ true → value_by table log p f ≡ known false
   unfolding value_by
   by_complete e s = ap (value_by table log p) e ∙ rw s
 
-  pub by_nothing : {f : Found} → f ≡ Nothing → complete table p ≡ false → value_by table log p f ≡ unknown
+  pub by_nothing : {f : Option ℕ} → f ≡ None → complete table p ≡ false → value_by table log p f ≡ unknown
   unfolding value_by
   by_nothing e s = ap (value_by table log p) e ∙ rw s

@@ -2,8 +2,8 @@
 use Rattle.std.specs.Prelude.{◌≡◌, List, drop, ℕ, ◌-◌}
 use Rattle.model.specs.Words.{Words}
 use Rattle.model.specs.Log.{row_count, ask_log}
-use Rattle.tables.specs.declared.Checked.{Checked}
-use Rattle.tables.specs.declared.Checked.TheVariants.{Passed}
+use Rattle.std.specs.Prelude.{Result, Ok}
+use Rattle.model.specs.declared.Refused.{Refused}
 use Rattle.tables.specs.Checked.{outcome}
 use Rattle.chains.specs.Chain.{Chained}
 use Rattle.chains.specs.Key.{row_key, atom_keys, true_key, predicate_keys, first_key, first_keys}
@@ -32,6 +32,6 @@ pub record TrueRows (log : Words) (links : List ℕ) : Type 0 where
   pub by_first : Chained (first_key log) first_keys (row_count log) (behind (first_from - predicate_from) links)
 
 -- what came of questions 8, 9 and 10; and, if they passed, all links of the log
-pub record Links (table log : Words) (links : List ℕ) (r : Checked) : Type 0 where
+pub record Links (table log : Words) (links : List ℕ) (r : Result (Unit {0}) Refused) : Type 0 where
   pub asked : outcome r ≡ ask_log table log
-  pub linked : r ≡ Passed → Linked log links
+  pub linked : r ≡ Ok tt → Linked log links

@@ -5,8 +5,8 @@ use Rattle.model.specs.Lists.{span, all, any}
 use Rattle.model.specs.Answer.{Outcome, ask, in_turn, ◌>>=◌}
 use Rattle.model.specs.declared.Refusal.TheVariants.{Row, Repeat}
 use Rattle.model.specs.Log.{row_count, row_at, arguments, good_row, same_atom, ask_log}
-use Rattle.tables.specs.declared.Checked.{Checked}
-use Rattle.tables.specs.declared.Checked.TheVariants.{Passed}
+use Rattle.std.specs.Prelude.{Result, Ok}
+use Rattle.model.specs.declared.Refused.{Refused}
 use Rattle.tables.specs.Checked.{outcome}
 use Rattle.chains.specs.Chain.{Chained}
 use Rattle.chains.specs.Key.{row_key, atom_keys}
@@ -25,6 +25,6 @@ ask_rows table log =
     in_turn (λ r. ask (good_row table (row_at log r)) Row r >>= λ _. ask (not (repeats_at log r)) Repeat r) (span 0 (row_count log))
 
 -- what a check of a log leaves: what came of questions 8, 9 and 10; and, if they passed, the rows chained by their atoms
-pub record Checks (table log : Words) (links : List ℕ) (r : Checked) : Type 0 where
+pub record Checks (table log : Words) (links : List ℕ) (r : Result (Unit {0}) Refused) : Type 0 where
   pub asked : outcome r ≡ ask_log table log
-  pub chained : r ≡ Passed → Chained (row_key log) atom_keys (row_count log) links
+  pub chained : r ≡ Ok tt → Chained (row_key log) atom_keys (row_count log) links

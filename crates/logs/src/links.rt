@@ -6,7 +6,7 @@ ghost use Rattle.logs.specs.Links.{TrueRows, Links};
 use crate::log;
 use chains::chain;
 use chains::key::Kind;
-use tables::Checked;
+use model::Refused;
 
 // Where the links by predicate begin, and those by first argument; how many are between; and how many links there are.
 pub const PREDICATE_FROM: usize = 20480;
@@ -37,14 +37,11 @@ fn link_true(log: &[i32], links: &mut [u16])
 }
 
 // Questions 8, 9 and 10. The links, all 0 at first, are those of the log if it passes.
-pub fn check_and_link(table: &[i32], log: &[i32], links: &mut [u16]) -> Checked
+pub fn check_and_link(table: &[i32], log: &[i32], links: &mut [u16]) -> Result<(), Refused>
     requires { links.old ≡ replicate 33026 0 }
     ensures { Links table.now log.now links.new result }
 {
-    let checked = log::check_log(table, log, &mut links[..PREDICATE_FROM]);
-    if let Checked::Refused(refusal, place) = checked {
-        return Checked::Refused(refusal, place);
-    }
+    log::check_log(table, log, &mut links[..PREDICATE_FROM])?;
     link_true(log, &mut links[PREDICATE_FROM..]);
-    Checked::Passed
+    Ok(())
 }

@@ -8,10 +8,9 @@ ghost use Rattle.tables.specs.Checked.{outcome};
 ghost use Rattle.logs.specs.Log.{ask_rows, repeats_at, unused_from, Checks};
 
 use chains::key::Kind;
-use chains::search::Found;
 use chains::{chain, search};
-use model::{ARGUMENTS_FROM, ROW_WORDS, Refusal};
-use tables::{Checked, table};
+use model::{ARGUMENTS_FROM, ROW_WORDS, Refusal, Refused};
+use tables::table;
 
 // The arguments of a row from the n-th on are 0. All six are looked at, with no branch on the arity.
 fn unused(row: &[i32], n: usize) -> bool
@@ -19,12 +18,10 @@ fn unused(row: &[i32], n: usize) -> bool
     ensures { result ≡ unused_from row.now n }
 {
     let mut used = 0;
-    let mut i = 0;
-    while i < 6 {
+    for i in 0..6 {
         if !words::zero(row, ARGUMENTS_FROM + i) {
             used = i + 1;
         }
-        i += 1;
     }
     used <= n
 }
@@ -66,34 +63,37 @@ fn repeats(log: &[i32], keys: &[u16], links: &[u16], row: usize) -> bool
         &log[at + ARGUMENTS_FROM..at + ROW_WORDS],
     );
     match found {
-        Found::At(first) => first < row,
-        Found::Nothing => false,
+        Some(first) => first < row,
+        None => false,
     }
 }
 
 // Questions 9 and 10 at each row in turn.
-fn ask_rows(table: &[i32], log: &[i32], keys: &[u16], links: &[u16]) -> Checked
+fn ask_rows(table: &[i32], log: &[i32], keys: &[u16], links: &[u16]) -> Result<(), Refused>
     requires { Keys row_key log.now keys.now
         × Chained (row_key log.now) atom_keys (L.row_count log.now) links.now }
     ensures { outcome result ≡ ask_rows table.now log.now }
 {
     let n = log.len() / ROW_WORDS;
-    let mut row = 0;
-    while row < n {
+    for row in 0..n {
         let at = ROW_WORDS * row;
         if !good_row(table, &log[at..at + ROW_WORDS]) {
-            return Checked::Refused(Refusal::Row, row);
+            return Err(Refused(Refusal::Row, row));
         }
         if repeats(log, keys, links, row) {
-            return Checked::Refused(Refusal::Repeat, row);
+            return Err(Refused(Refusal::Repeat, row));
         }
-        row += 1;
     }
-    Checked::Passed
+    Ok(())
 }
 
 // Questions 9 and 10, over rows that are chained for it. The keys have room for those of the rows.
-fn chain_and_check(table: &[i32], log: &[i32], keys: &mut [u16], links: &mut [u16]) -> Checked
+fn chain_and_check(
+    table: &[i32],
+    log: &[i32],
+    keys: &mut [u16],
+    links: &mut [u16],
+) -> Result<(), Refused>
     requires { (L.row_count log.now ≤ 4096)
         × (L.row_count log.now ≤ length keys.old)
         × Empty atom_keys (L.row_count log.now) links.old }
@@ -105,15 +105,15 @@ fn chain_and_check(table: &[i32], log: &[i32], keys: &mut [u16], links: &mut [u1
 }
 
 // Questions 8, 9 and 10. The links, all 0 at first, chain the rows by their atoms unless question 8 refuses.
-pub fn check_log(table: &[i32], log: &[i32], links: &mut [u16]) -> Checked
+pub fn check_log(table: &[i32], log: &[i32], links: &mut [u16]) -> Result<(), Refused>
     requires { links.old ≡ replicate 20480 0 }
     ensures { Checks table.now log.now links.new result }
 {
     if log.len() % ROW_WORDS != 0 {
-        return Checked::Refused(Refusal::LogLength, 0);
+        return Err(Refused(Refusal::LogLength, 0));
     }
     if 4096 < log.len() / ROW_WORDS {
-        return Checked::Refused(Refusal::LogLength, 0);
+        return Err(Refused(Refusal::LogLength, 0));
     }
     let mut keys = [0; 4096];
     chain_and_check(table, log, &mut keys, links)

@@ -7,28 +7,19 @@ ghost use Rattle.chains.specs.Chain.{Chained};
 ghost use Rattle.chains.specs.Key.{row_key, atom_keys};
 ghost use Rattle.logs.specs.Value.{as_value};
 
-use chains::search::Found;
 use chains::{key, search};
 use model::ROW_WORDS;
 use tables::table;
 
-// What a log knows of an atom.
-#[derive(Clone, Copy)]
-pub enum Value {
-    True,
-    False,
-    Open,
-}
-
 // The value of the atom of a predicate at six arguments, the unused ones 0, in an accepted log: what its row says; with no
-// row, false if the predicate is complete, else open.
+// row, false if the predicate is complete, else nothing.
 pub fn value_of(
     table: &[i32],
     log: &[i32],
     links: &[u16],
     predicate: usize,
     arguments: &[i32],
-) -> Value
+) -> Option<bool>
     requires { Chained (row_key log.now) atom_keys (row_count log.now) links.now
         × (length arguments.now ≡ 6)
         × (ask_log table.now log.now ≡ passed tt) }
@@ -38,20 +29,13 @@ pub fn value_of(
         as_value result ≡ value_in table.now (rows log.now) predicate ns }
 {
     let start = key::of_atom(predicate, arguments, 0);
-    let found = search::search(log, links, start, predicate, arguments);
-    match found {
-        Found::At(row) => {
-            if words::is(log, ROW_WORDS * row + 1, 1) {
-                Value::True
-            } else {
-                Value::False
-            }
-        }
-        Found::Nothing => {
+    match search::search(log, links, start, predicate, arguments) {
+        Some(row) => Some(words::is(log, ROW_WORDS * row + 1, 1)),
+        None => {
             if table::complete(table, predicate) {
-                Value::False
+                Some(false)
             } else {
-                Value::Open
+                None
             }
         }
     }

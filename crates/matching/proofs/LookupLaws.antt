@@ -12,7 +12,7 @@ use Rattle.model.specs.Listing.{Environment, look, number_in, numbers_in}
 use Rattle.laws.specs.Reading.Formed.{Formed}
 use Rattle.laws.specs.Reading.Parts.{atom-parts}
 use Rattle.logs.specs.Value.{as_value}
-use Rattle.logs.specs.declared.value.Value.{Value}
+use Rattle.std.specs.Prelude.{Option, Bool}
 use Rattle.policies.specs.Standing.{terms_at}
 use Rattle.policies.proofs.Standing.{atom-words}
 use Rattle.environments.specs.declared.environment.Environment.{Environment as Held}
@@ -26,7 +26,7 @@ numbers-count e ts = length-map ts (λ t. number_in (look e t))
 
 -- the atom at an index, of the predicate and the number of terms that are read there, and its value
 pub atom-value :
-    (table words log : Words) (held : Held) (at p n : ℕ) (arguments : List ℤ) (found : Value) →
+    (table words log : Words) (held : Held) (at p n : ℕ) (arguments : List ℤ) (found : Option Bool) →
     p ≡ value words (at + 1) →
     n ≡ value words (at + 2) →
     ((e : Environment) → Holds held e → arguments ≡ numbers_in e (terms_at words (at + 3) n) ++ replicate (6 - n) (pos 0)) →

@@ -22,26 +22,36 @@ use Rattle.environments.specs.Environment.{place_of}
 use Rattle.matching.specs.Ways.{found}
 use Rattle.matching.specs.Rows.{Filled}
 
--- the link of the rows from `from` on is that of a row, and the next link is less
-module _ (rows : ℕ) (f : ℕ → ℕ) (k from x : ℕ) (linked : x ≡ link rows (chain f k from rows)) (some : x ≡ 0 → ⊥) where
-  first-row : First f k from rows (rows - x) × (x ≤ rows)
-  first-row = walk_step f k from rows x linked some
+-- a walk along a chain of rows by some key that has come to a link: that of the rows from `from` on
+pub record Walk (log : Words) (links : List ℕ) (keys k x : ℕ) : Type 0 where
+  pub key : ℕ → ℕ
+  pub chained : Chained key keys (row_count log) links
+  pub from : ℕ
+  pub linked : x ≡ link (row_count log) (chain key k from (row_count log))
 
-  pub row_inside : (rows - x < rows) × (x ≤ rows)
-  row_inside = (first-row.0.inside, first-row.1)
+module _ {log : Words} {links : List ℕ} {keys k x : ℕ} (w : Walk log links keys k x) (some : x ≡ 0 → ⊥) where
+  abbrev here : ℕ
+  here = row_count log - x
 
-  module _ (keys : ℕ) (links : List ℕ) (c : Chained f keys rows links) where
-    pub next-link : get_or links (keys + (rows - x)) 0 ≡ link rows (chain f k (rows - x + 1) rows)
-    next-link =
-        c.nexts (rows - x) first-row.0.inside
-        ∙ ap (λ (j : ℕ). link rows (chain f j (rows - x + 1) rows)) first-row.0.same
+  -- the link is a row's
+  pub first-row : First w.key k w.from (row_count log) here × (x ≤ row_count log)
+  first-row = walk_step w.key k w.from (row_count log) x w.linked some
 
-    pub next_less : get_or links (keys + (rows - x)) 0 < x
-    next_less =
-        let small = link-small f k (rows - x + 1) rows (get_or links (keys + (rows - x)) 0) next-link in
-        let b = first-row.0.inside in
-        let w = first-row.1 in
-        omega arith
+  -- it leads to the next row, and the next link is less
+  pub next-link : get_or links (keys + here) 0 ≡ link (row_count log) (chain w.key k (here + 1) (row_count log))
+  next-link =
+      w.chained.nexts here first-row.0.inside
+      ∙ ap (λ (j : ℕ). link (row_count log) (chain w.key j (here + 1) (row_count log))) first-row.0.same
+
+  abbrev pub walk_on : Walk log links keys k (get_or links (keys + here) 0)
+  walk_on = record { key = w.key; chained = w.chained; from = here + 1; linked = next-link }
+
+  pub walk_less : get_or links (keys + here) 0 < x
+  walk_less =
+      let small = link-small w.key k (here + 1) (row_count log) (get_or links (keys + here) 0) next-link in
+      let b = first-row.0.inside in
+      let few = first-row.1 in
+      omega arith
 
 module _ (log : Words) (p : ℕ) (ts : List Term) (e : Environment) where
   -- what a row makes that may be another predicate's, by the test of its predicate
@@ -53,84 +63,87 @@ module _ (log : Words) (p : ℕ) (ts : List Term) (e : Environment) where
   unfolding found
   found-not r q = rw (row_first log r, q) refl
 
-  -- a chain
-  module _ (key : ℕ → ℕ) (k : ℕ) where
-    -- the rows before `from` made the environments that stand in the first places
-    pub record SoFar (from base made : ℕ) (before scratch : Words) : Type 0 where
-      pub done : List Environment
-      pub split : matches (rows log) p ts e ≡ done ++ gather (found log p ts e) (chain key k from (row_count log))
-      pub many : length done ≡ made
-      pub listed : Listed scratch base done
-      pub front : take (17 * base) scratch ≡ take (17 * base) before
+  -- along a chain, the rows before `from` made the environments that stand in the first places
+  pub record SoFar (key : ℕ → ℕ) (k from base made : ℕ) (before scratch : Words) : Type 0 where
+    pub done : List Environment
+    pub split : matches (rows log) p ts e ≡ done ++ gather (found log p ts e) (chain key k from (row_count log))
+    pub many : length done ≡ made
+    pub listed : Listed scratch base done
+    pub front : take (17 * base) scratch ≡ take (17 * base) before
 
-    pub far_start :
-        matches (rows log) p ts e ≡ gather (found log p ts e) (chain key k 0 (row_count log)) →
-        (base : ℕ) (scratch : Words) →
-        SoFar 0 base 0 scratch scratch
-    far_start all base scratch = record { done = []; split = all; many = refl; listed = listed-none scratch base; front = refl }
+  pub far_start :
+      (key : ℕ → ℕ) (k : ℕ) →
+      matches (rows log) p ts e ≡ gather (found log p ts e) (chain key k 0 (row_count log)) →
+      (base : ℕ) (scratch : Words) →
+      SoFar key k 0 base 0 scratch scratch
+  far_start key k all base scratch = record { done = []; split = all; many = refl; listed = listed-none scratch base; front = refl }
 
-    module _ (from base made x : ℕ) (before scratch : Words) (s : SoFar from base made before scratch) (linked : x ≡ link (row_count log) (chain key k from (row_count log))) where
-      -- the chain has ended
-      pub far_end : x ≡ 0 → (left : ℕ) → made ≤ left → Filled (matches (rows log) p ts e) base left before scratch made
+module _
+    {log : Words} {links : List ℕ} {keys k x : ℕ} (w : Walk log links keys k x)
+    {p base made : ℕ} {ts : List Term} {e : Environment} {before scratch : Words}
+    (s : SoFar log p ts e w.key k w.from base made before scratch)
+  where
+    -- the chain has ended
+    pub far_end : x ≡ 0 → {left : ℕ} → made ≤ left → Filled (matches (rows log) p ts e) base left before scratch made
+    unfolding gather
+    far_end z {left} few =
+        let all : matches (rows log) p ts e ≡ s.done =
+        s.split
+        ∙ ap (λ (l : List ℕ). s.done ++ gather (found log p ts e) l) (walk_end w.key k w.from (row_count log) x w.linked z)
+        ∙ append-nil s.done in
+        record {
+          count = sym s.many ∙ ap length (sym all);
+          few = few;
+          listed = subst (Listed scratch base) (sym all) s.listed;
+        }
+
+    module _ (some : x ≡ 0 → ⊥) where
+      abbrev row : ℕ
+      row = row_count log - x
+
+      -- the environments of this row come next
+      next_row : matches (rows log) p ts e ≡ s.done ++ (found log p ts e row ++ gather (found log p ts e) (chain w.key k (row + 1) (row_count log)))
       unfolding gather
-      far_end z left few =
-          let all : matches (rows log) p ts e ≡ s.done =
-          s.split
-          ∙ ap (λ (l : List ℕ). s.done ++ gather (found log p ts e) l) (walk_end key k from (row_count log) x linked z)
-          ∙ append-nil s.done in
-          record {
-            count = sym s.many ∙ ap length (sym all);
-            few = few;
-            listed = subst (Listed scratch base) (sym all) s.listed;
-          }
+      next_row = s.split ∙ ap (λ (l : List ℕ). s.done ++ gather (found log p ts e) l) (first-row w some).0.rest
 
-      module _ (some : x ≡ 0 → ⊥) where
-        abbrev row : ℕ
-        row = row_count log - x
+      -- none
+      pub far_none : found log p ts e row ≡ [] → SoFar log p ts e w.key k (row + 1) base made before scratch
+      far_none none = record {
+        done = s.done;
+        split = next_row ∙ ap (λ (l : List Environment). s.done ++ (l ++ gather (found log p ts e) (chain w.key k (row + 1) (row_count log)))) none;
+        many = s.many;
+        listed = s.listed;
+        front = s.front;
+      }
 
-        -- the environments of this row come next
-        next_row : matches (rows log) p ts e ≡ s.done ++ (found log p ts e row ++ gather (found log p ts e) (chain key k (row + 1) (row_count log)))
-        unfolding gather
-        next_row = s.split ∙ ap (λ (l : List ℕ). s.done ++ gather (found log p ts e) l) (first-row (row_count log) key k from x linked some).0.rest
+      -- one, for which there is a place
+      pub far_one :
+          (f : Environment) →
+          found log p ts e row ≡ f ∷ [] →
+          17 * (base + made) + 17 ≤ length scratch →
+          {after : Words} → after ≡ stored scratch (base + made) f → SoFar log p ts e w.key k (row + 1) base (made + 1) before after
+      far_one f one room {after} is = record {
+        done = s.done ++ f ∷ [];
+        split =
+            next_row
+            ∙ ap (λ (l : List Environment). s.done ++ (l ++ gather (found log p ts e) (chain w.key k (row + 1) (row_count log)))) one
+            ∙ sym (append_assoc s.done (f ∷ []) (gather (found log p ts e) (chain w.key k (row + 1) (row_count log))));
+        many = length-append s.done (f ∷ []) ∙ ap (λ (k : ℕ). k + 1) s.many;
+        listed =
+            subst (λ (ws : Words). Listed ws base (s.done ++ f ∷ [])) (ap (λ (k : ℕ). stored scratch (base + k) f) s.many ∙ sym is)
+            (listed-stored scratch base s.done f (rw s.many room) s.listed);
+        front =
+            ap (take (17 * base)) is
+            ∙ laid-front scratch (place_of f) (17 * (base + made)) 17 (place-length f) room (17 * base) (omega arith)
+            ∙ s.front;
+      }
 
-        -- none
-        pub far_none : found log p ts e row ≡ [] → SoFar (row + 1) base made before scratch
-        far_none none = record {
-          done = s.done;
-          split = next_row ∙ ap (λ (l : List Environment). s.done ++ (l ++ gather (found log p ts e) (chain key k (row + 1) (row_count log)))) none;
-          many = s.many;
-          listed = s.listed;
-          front = s.front;
-        }
-
-        -- one, for which there is a place
-        pub far_one :
-            (f : Environment) →
-            found log p ts e row ≡ f ∷ [] →
-            17 * (base + made) + 17 ≤ length scratch →
-            {after : Words} → after ≡ stored scratch (base + made) f → SoFar (row + 1) base (made + 1) before after
-        far_one f one room {after} is = record {
-          done = s.done ++ f ∷ [];
-          split =
-              next_row
-              ∙ ap (λ (l : List Environment). s.done ++ (l ++ gather (found log p ts e) (chain key k (row + 1) (row_count log)))) one
-              ∙ sym (append_assoc s.done (f ∷ []) (gather (found log p ts e) (chain key k (row + 1) (row_count log))));
-          many = length-append s.done (f ∷ []) ∙ ap (λ (k : ℕ). k + 1) s.many;
-          listed =
-              subst (λ (ws : Words). Listed ws base (s.done ++ f ∷ [])) (ap (λ (k : ℕ). stored scratch (base + k) f) s.many ∙ sym is)
-              (listed-stored scratch base s.done f (rw s.many room) s.listed);
-          front =
-              ap (take (17 * base)) is
-              ∙ laid-front scratch (place_of f) (17 * (base + made)) 17 (place-length f) room (17 * base) (omega arith)
-              ∙ s.front;
-        }
-
-        -- one, for which there is none
-        pub far_short : (f : Environment) → found log p ts e row ≡ f ∷ [] → (left : ℕ) → left ≤ made → left < length (matches (rows log) p ts e)
-        far_short f one left full =
-            let all : length (matches (rows log) p ts e) ≡ made + (1 + length (gather (found log p ts e) (chain key k (row + 1) (row_count log)))) =
-            ap length next_row
-            ∙ length-append s.done _
-            ∙ ap₂ (λ (a b : ℕ). a + b) s.many
-            (length-append (found log p ts e row) _ ∙ ap (λ (l : List Environment). length l + length (gather (found log p ts e) (chain key k (row + 1) (row_count log)))) one) in
-            omega arith
+      -- one, for which there is none
+      pub far_short : (f : Environment) → found log p ts e row ≡ f ∷ [] → {left : ℕ} → left ≤ made → left < length (matches (rows log) p ts e)
+      far_short f one {left} full =
+          let all : length (matches (rows log) p ts e) ≡ made + (1 + length (gather (found log p ts e) (chain w.key k (row + 1) (row_count log)))) =
+          ap length next_row
+          ∙ length-append s.done _
+          ∙ ap₂ (λ (a b : ℕ). a + b) s.many
+          (length-append (found log p ts e row) _ ∙ ap (λ (l : List Environment). length l + length (gather (found log p ts e) (chain w.key k (row + 1) (row_count log)))) one) in
+          omega arith

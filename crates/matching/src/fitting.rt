@@ -12,24 +12,8 @@ use environments::environment::Environment;
 use environments::terms;
 use model::{ARGUMENTS_FROM, ROW_WORDS};
 
-// Whether a row fits, and the environment that it makes if it does.
-#[derive(Clone, Copy)]
-pub struct Matched {
-    pub environment: Environment,
-    pub fits: bool,
-}
-
-// A row that does not fit. Its environment says nothing.
-fn unfit(environment: Environment) -> Matched
-    ensures { result.fits ≡ false }
-{
-    Matched {
-        environment,
-        fits: false,
-    }
-}
-
-// The arguments of a row against the n terms from an index on. The row is left at its first unequal argument.
+// The arguments of a row against the n terms from an index on. The row is left at its first unequal argument,
+// and makes nothing then.
 pub fn fit_row(
     environment: Environment,
     words: &[i32],
@@ -37,21 +21,19 @@ pub fn fit_row(
     n: usize,
     log: &[i32],
     row: usize,
-) -> Matched
+) -> Option<Environment>
     requires { (n ≤ 6) × (first + 2 * n < 2 ^ 64) × (8 * row + 8 ≤ length log.now) × (all (in_scope words.now 16) (places first n) ≡ true) }
     ensures { (e : M.Environment) → Holds environment e → Fitted (M.fit (terms_at words.now first n) (arguments (row_at log.now row)) e) result }
 {
     let mut bound = environment;
-    let mut i = 0;
-    while i < n {
+    for i in 0..n {
         let at = first + 2 * i;
         let argument = log[ROW_WORDS * row + ARGUMENTS_FROM + i];
-        i += 1;
         if words::is(words, at, 0) {
             if terms::word(words, at + 1) == argument {
                 continue;
             }
-            return unfit(bound);
+            return None;
         }
         let x = words::value(words, at + 1);
         if !bound.marks[x] {
@@ -59,11 +41,8 @@ pub fn fit_row(
             continue;
         }
         if bound.numbers[x] != argument {
-            return unfit(bound);
+            return None;
         }
     }
-    Matched {
-        environment: bound,
-        fits: true,
-    }
+    Some(bound)
 }

@@ -10,9 +10,8 @@ ghost use Rattle.matching.specs.Lookup.{Values};
 use environments::environment::Environment;
 use environments::terms;
 use logs::value;
-use logs::value::Value;
 
-// The value of the ground atom at an index.
+// The value of the ground atom at an index, if the log knows it.
 pub fn value_at(
     table: &[i32],
     words: &[i32],
@@ -20,7 +19,7 @@ pub fn value_at(
     atoms: &[u16],
     environment: Environment,
     at: usize,
-) -> Value
+) -> Option<bool>
     requires { (ask_log table.now log.now ≡ passed tt)
         × Chained (row_key log.now) atom_keys (row_count log.now) atoms.now
         × HereAtom words.now at }

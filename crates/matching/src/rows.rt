@@ -17,13 +17,6 @@ use environments::environment::Environment;
 use logs::links;
 use model::ROW_WORDS;
 
-// How many places were filled, or that they ran out.
-#[derive(Clone, Copy)]
-pub enum Added {
-    Short,
-    Places(usize),
-}
-
 // A chain of true rows: where its links begin, how many keys they have, and its key.
 #[derive(Clone, Copy)]
 pub struct Way {
@@ -69,7 +62,7 @@ fn lead(environment: Environment, words: &[i32], first: usize, n: usize, predica
 }
 
 // The environments that the rows of a chain make of one environment, in row order, from a place on: at most so many. The rows
-// of other predicates are passed over.
+// of other predicates are passed over. How many there are; nothing, if the places ran out.
 fn walk_rows(
     environment: Environment,
     words: &[i32],
@@ -83,7 +76,7 @@ fn walk_rows(
     scratch: &mut [i32],
     base: usize,
     left: usize,
-) -> Added
+) -> Option<usize>
     requires { (n ≤ 6)
         × (first + 2 * n < 2 ^ 64)
         × (all (in_scope words.now 16) (places first n) ≡ true)
@@ -103,27 +96,27 @@ fn walk_rows(
     let rows = log.len() / ROW_WORDS;
     let mut made = 0;
     let mut link = links[key] as usize;
+    // By hand: each turn goes to where the link of its row leads.
     while link != 0 {
         let row = rows - link;
         link = links[keys + row] as usize;
         if !words::is(log, ROW_WORDS * row, predicate) {
             continue;
         }
-        let matched = fitting::fit_row(environment, words, first, n, log, row);
-        let fits = matched.fits;
-        if fits {
-            if left <= made {
-                return Added::Short;
-            }
-            let next = matched.environment;
-            next.store(scratch, base + made);
-            made += 1;
+        let Some(next) = fitting::fit_row(environment, words, first, n, log, row) else {
+            continue;
+        };
+        if left <= made {
+            return None;
         }
+        next.store(scratch, base + made);
+        made += 1;
     }
-    Added::Places(made)
+    Some(made)
 }
 
-// The environments that the true rows of a predicate make of one environment, in row order, from a place on: at most so many.
+// The environments that the true rows of a predicate make of one environment, in row order, from a place on: at most so many. How
+// many there are; nothing, if the places ran out.
 pub fn match_rows(
     environment: Environment,
     words: &[i32],
@@ -135,7 +128,7 @@ pub fn match_rows(
     scratch: &mut [i32],
     base: usize,
     left: usize,
-) -> Added
+) -> Option<usize>
     requires { (n ≤ 6)
         × (first + 2 * n < 2 ^ 64)
         × (all (in_scope words.now 16) (places first n) ≡ true)

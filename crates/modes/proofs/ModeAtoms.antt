@@ -8,14 +8,15 @@ use lib.IntN.{ℤ}
 use Rattle.model.specs.declared.Refusal.TheVariants.{Mode}
 use Rattle.model.specs.Words.{Words, value}
 use Rattle.model.specs.Lists.{all}
-use Rattle.model.specs.Answer.{passed, refused, ask, ◌>>=◌}
+use Rattle.model.specs.Answer.{passed, refused, ask, ◌>>=◌, refused_at}
 use Rattle.model.specs.Tree.{Term, atom, compare}
 use Rattle.model.specs.Mode.{Variables, is_bound, inputs_bound, bindings}
 use Rattle.laws.specs.Reading.Parts.{AtomParts, CompareParts}
 use Rattle.policies.specs.Standing.{terms_at}
 use Rattle.modes.specs.Mode.{set_of, with_terms, Binds}
-use Rattle.tables.specs.declared.Checked.{Checked}
-use Rattle.tables.specs.declared.Checked.TheVariants.{Passed, Refused}
+use Rattle.std.specs.Prelude.{Result, Ok, Err}
+use Rattle.model.specs.declared.Refused.{Refused}
+use Rattle.modes.specs.declared.mode.Bound.{Bound}
 use Rattle.policies.proofs.Standing.{AtomWords, atom-words, compare-words}
 use Rattle.modes.proofs.ModeTerms.{and-true}
 
@@ -63,19 +64,18 @@ module _ (table words : Words) (marks : List Bool) (sixteen : length marks ≡ 1
     ap (λ (k : ℕ). at + 3 + 2 * k) read-n ∙ w.ends,
   )
 
-  abbrev After : Checked → List Bool → Type 0
-  After asked set =
+  abbrev After : Result Bound Refused → Type 0
+  After r =
       (p : ℕ) (ts : List Term) (scope next : ℕ) →
       AtomParts words scope at next p ts →
-      Binds (atom holds p ts) table (set_of marks) scope at next (record { asked = asked; set = set; next = at + 3 + 2 * nn })
+      Binds (atom holds p ts) table (set_of marks) scope at next r
 
-  pub atom_inputs_no : holds ≡ true → inputs_bound table pn (set_of marks) 0 (terms_at words (at + 3) nn) ≡ false → After (Refused Mode at) marks
+  pub atom_inputs_no : holds ≡ true → inputs_bound table pn (set_of marks) 0 (terms_at words (at + 3) nn) ≡ false → After (Err (refused_at Mode at))
   atom_inputs_no h e p ts scope next a =
       let (ep, et, en) = read-terms p ts next (atom-words words scope at next p ts a) in
       record {
         outcome = sym (rw h (holds-no table (set_of marks) scope at p ts (rw (ep, et) at e)));
-        marks = sixteen;
-        behind = λ q. en;
+        stands = tt;
       }
 
   pub atom_inputs_yes :
@@ -83,53 +83,48 @@ module _ (table words : Words) (marks : List Bool) (sixteen : length marks ≡ 1
       inputs_bound table pn (set_of marks) 0 (terms_at words (at + 3) nn) ≡ true →
       (set : List Bool) → length set ≡ 16 →
       set_of set ≡ with_terms (set_of marks) (terms_at words (at + 3) nn) →
-      After Passed set
+      After (Ok (record { set = set; next = at + 3 + 2 * nn }))
   atom_inputs_yes h e set l s p ts scope next a =
       let (ep, et, en) = read-terms p ts next (atom-words words scope at next p ts a) in
       record {
         outcome = ap passed (s ∙ ap (with_terms (set_of marks)) et) ∙ sym (rw h (holds-yes table (set_of marks) scope at p ts (rw (ep, et) at e)));
-        marks = l;
-        behind = λ q. en;
+        stands = (l, en);
       }
 
-  pub atom-all-no : holds ≡ false → all (is_bound (set_of marks)) (terms_at words (at + 3) nn) ≡ false → After (Refused Mode at) marks
+  pub atom-all-no : holds ≡ false → all (is_bound (set_of marks)) (terms_at words (at + 3) nn) ≡ false → After (Err (refused_at Mode at))
   atom-all-no h e p ts scope next a =
       let (ep, et, en) = read-terms p ts next (atom-words words scope at next p ts a) in
       record {
         outcome = sym (rw h (fails_no table (set_of marks) scope at p ts (rw et at e)));
-        marks = sixteen;
-        behind = λ q. en;
+        stands = tt;
       }
 
-  pub atom-all-yes : holds ≡ false → all (is_bound (set_of marks)) (terms_at words (at + 3) nn) ≡ true → After Passed marks
+  pub atom-all-yes : holds ≡ false → all (is_bound (set_of marks)) (terms_at words (at + 3) nn) ≡ true → After (Ok (record { set = marks; next = at + 3 + 2 * nn }))
   atom-all-yes h e p ts scope next a =
       let (ep, et, en) = read-terms p ts next (atom-words words scope at next p ts a) in
       record {
         outcome = sym (rw h (fails_yes table (set_of marks) scope at p ts (rw et at e)));
-        marks = sixteen;
-        behind = λ q. en;
+        stands = (sixteen, en);
       }
 
 -- what comes of a comparison
 module _ (words : Words) (marks : List Bool) (sixteen : length marks ≡ 16) (at : ℕ) where
-  abbrev AfterCompare : Checked → Type 0
-  AfterCompare asked =
+  abbrev AfterCompare : Result Bound Refused → Type 0
+  AfterCompare r =
       (table : Words) (b : Bool) (d : ℤ) (x y : Term) (scope next : ℕ) →
       CompareParts words scope at next d x y →
-      Binds (compare b d x y) table (set_of marks) scope at next (record { asked = asked; set = marks; next = at + 6 })
+      Binds (compare b d x y) table (set_of marks) scope at next r
 
-  pub compare-all-no : all (is_bound (set_of marks)) (terms_at words (at + 2) 2) ≡ false → AfterCompare (Refused Mode at)
+  pub compare-all-no : all (is_bound (set_of marks)) (terms_at words (at + 2) 2) ≡ false → AfterCompare (Err (refused_at Mode at))
   compare-all-no e table b d x y scope next a =
       record {
         outcome = sym (compare-no table (set_of marks) scope at b d x y (rw (compare-words words scope at next d x y a) at e));
-        marks = sixteen;
-        behind = λ q. sym a.ends;
+        stands = tt;
       }
 
-  pub compare-all-yes : all (is_bound (set_of marks)) (terms_at words (at + 2) 2) ≡ true → AfterCompare Passed
+  pub compare-all-yes : all (is_bound (set_of marks)) (terms_at words (at + 2) 2) ≡ true → AfterCompare (Ok (record { set = marks; next = at + 6 }))
   compare-all-yes e table b d x y scope next a =
       record {
         outcome = sym (compare-yes table (set_of marks) scope at b d x y (rw (compare-words words scope at next d x y a) at e));
-        marks = sixteen;
-        behind = λ q. sym a.ends;
+        stands = (sixteen, sym a.ends);
       }

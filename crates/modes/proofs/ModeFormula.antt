@@ -18,8 +18,8 @@ use Rattle.model.specs.Mode.{size, ask_modes, ask_modes_all}
 use Rattle.laws.specs.Reading.Formed.{Formed}
 use Rattle.laws.specs.Reading.Nodes.{Node, Nodes, under-kind}
 use Rattle.laws.specs.Reading.Parts.{root, root_tag, plain-parts, atom-parts, compare-parts, join-parts, quantifier-parts}
-use Rattle.modes.specs.declared.mode.Moded.{Moded}
-use Rattle.modes.specs.declared.mode.Moded.TheVariants as M
+use Rattle.std.specs.Prelude.{Result, Ok}
+use Rattle.model.specs.declared.Refused.{Refused}
 use Rattle.policies.specs.Standing.{HereAll}
 use Rattle.modes.specs.Mode.{HereBoth, Both, told_modes, Asks, AsksAll, AsksBoth, ask_both}
 use Rattle.policies.proofs.Standing.{has}
@@ -68,7 +68,7 @@ module _ {table words : Words} {role : Role} {above scope at : ℕ} {tag : Tag} 
     same-join ts =
         ap (ask_modes_all ts table scope) (node.first ∙ ap (λ (t : Tag). at + (own words t role scope at).size) e)
 
-    pub join_asks : {r : Moded} → AsksAll table words below level scope n next r → Asks table words role above scope at r
+    pub join_asks : {r : Result ℕ Refused} → AsksAll table words below level scope n next r → Asks table words role above scope at r
     join_asks {r} h tree end stood =
         let (ts, is) = has table words role above scope at (Tag.join b) (sym e ∙ node.known) tree end stood in
         let parts = children ts end (subst (λ (t : Tree). Tree-at t end) is stood) in
@@ -127,7 +127,7 @@ module _ {table words : Words} {role : Role} {above scope at : ℕ} {tag : Tag} 
     same-quantifier u excluded c f end stood =
         rw (start u excluded c f end stood, own-variables u excluded c f end stood)
 
-    pub quantifier_asks : {r : Moded} → AsksBoth table words level scope v at next r → Asks table words role above scope at r
+    pub quantifier_asks : {r : Result ℕ Refused} → AsksBoth table words level scope v at next r → Asks table words role above scope at r
     quantifier_asks {r} h tree end stood =
         let (u, excluded, c, f, is) = has table words role above scope at (Tag.quantifier b) (sym e ∙ node.known) tree end stood in
         let stood' = subst (λ (t : Tree). Tree-at t end) is stood in
@@ -139,22 +139,22 @@ module _ {table words : Words} {role : Role} {above scope at : ℕ} {tag : Tag} 
 module _ (table words : Words) (role : Role) (above scope at : ℕ) (kind : is_formula role ≡ true) where
   leaf-tree :
       (tree : Tree) (end : ℕ) → Leaf (root tree) → Node table words role above scope at tree end →
-      M.Passed (at + (own words (root tree) role scope at).size) ≡ told_modes (ask_modes tree table scope at) end
+      Ok (at + (own words (root tree) role scope at).size) ≡ told_modes (ask_modes tree table scope at) end
   unfolding told_modes ask_modes own root value Formed
-  leaf-tree (plain b) end l stood = ap M.Passed (sym (plain-parts table words role above scope at end b stood))
+  leaf-tree (plain b) end l stood = ap Ok (sym (plain-parts table words role above scope at end b stood))
   leaf-tree (atom b p ts) end l stood =
       let a = atom-parts table words role above scope at end b p ts stood in
-      ap M.Passed (rw a.number (sym (a.ends ∙ add_assoc at 3 (2 * length ts))))
+      ap Ok (rw a.number (sym (a.ends ∙ add_assoc at 3 (2 * length ts))))
   leaf-tree (compare b d x y) end l stood =
-      ap M.Passed (sym (compare-parts table words role above scope at end b d x y stood).ends)
+      ap Ok (sym (compare-parts table words role above scope at end b d x y stood).ends)
   leaf-tree (join b ts) end l stood = absurd l
   leaf-tree (quantifier b v excluded c f) end l stood = absurd l
   leaf-tree (some c) end l stood = absurd (true≢false (sym kind ∙ stood.formed.0))
 
 module _ {table words : Words} {role : Role} {above scope at : ℕ} {tag : Tag} {level next : ℕ}
     (node : Stood table words role above scope at tag level next) where
-  pub leaf_asks : Leaf tag → Asks table words role above scope at (M.Passed next)
+  pub leaf_asks : Leaf tag → Asks table words role above scope at (Ok next)
   leaf_asks l tree end stood =
       let is : tag ≡ root tree = node.known ∙ root_tag table words role above scope at end tree stood in
-      ap M.Passed (node.first ∙ ap (λ (t : Tag). at + (own words t role scope at).size) is)
+      ap Ok (node.first ∙ ap (λ (t : Tag). at + (own words t role scope at).size) is)
       ∙ leaf-tree table words role above scope at node.kind tree end (subst Leaf is l) stood

@@ -2,7 +2,7 @@
 -- reached. And over the two parts of a quantifier.
 use Prim.Native.Nat.{ℕ, ◌+◌, ◌≤◌, ◌<◌}
 use native.Mathlib.Omega.{arith}
-use mathlib.Core.Path.{◌≡◌, refl, sym, ap, ◌∙◌, subst, fun_ext}
+use mathlib.Core.Path.{◌≡◌, refl, sym, ap, ◌∙◌, subst, fun_ext, ap₂}
 use mathlib.Core.Bool.{Bool, true, false}
 use mathlib.Core.List.{List}
 use lib.ListN.{length}
@@ -11,27 +11,26 @@ use Rattle.model.specs.declared.Refusal.{Refusal}
 use Rattle.model.specs.declared.Refusal.TheVariants.{Mode}
 use Rattle.model.specs.Words.{Words}
 use Rattle.model.specs.Lists.{span, all}
-use Rattle.model.specs.Answer.{Outcome, passed, refused, ask, ◌>>=◌}
+use Rattle.model.specs.Answer.{Outcome, passed, refused, ask, ◌>>=◌, refused_at}
 use Rattle.model.specs.Tree.{Tree, Trees, nil, cons, count, encode, encode_all}
 use Rattle.model.specs.Level.{Role, restriction, formula}
 use Rattle.model.specs.Mode.{Variables, size, bindings, ask_modes, ask_modes_all}
 use Rattle.laws.specs.Reading.Nodes.{Node, Nodes}
 use Rattle.laws.specs.Reading.Parts.{first-parts, rest-parts}
-use Rattle.tables.specs.declared.Checked.{Checked}
-use Rattle.tables.specs.declared.Checked.TheVariants.{Passed, Refused}
+use Rattle.std.specs.Prelude.{Result, Ok, Err}
+use Rattle.model.specs.declared.Refused.{Refused}
 use Rattle.modes.specs.declared.mode.Bound.{Bound}
-use Rattle.modes.specs.declared.mode.Moded.{Moded}
-use Rattle.modes.specs.declared.mode.Moded.TheVariants as M
 use Rattle.policies.specs.Standing.{Here, HereAll}
+use Rattle.modes.proofs.ModeLoops.{standing}
 use Rattle.modes.specs.Mode.{set_of, told, HereBoth, Both, Binds, told_modes, Asks, AsksAll, AsksBoth, ask_both}
 
 -- what a walk told says what the outcome is
-other-told : {a b : ℕ} {q : Refusal} → M.Passed a ≡ M.Refused q b → ⊥
+other-told : {a b : ℕ} {q : Refusal} → ◌≡◌ {A = Result ℕ Refused} (Ok a) (Err (refused_at q b)) → ⊥
 other-told e = let z : ◌≡◌ {A = ℕ} 0 1 = cc in omega arith
 
 pub told-passed :
     (o : Outcome (Unit {0})) (behind next : ℕ) →
-    M.Passed behind ≡ told_modes o next →
+    Ok behind ≡ told_modes o next →
     (o ≡ passed tt) × (behind ≡ next)
 unfolding told_modes
 told-passed (passed u) behind next e = (refl, cc)
@@ -39,11 +38,12 @@ told-passed (refused q p) behind next e = absurd (other-told e)
 
 pub told-refused :
     (o : Outcome (Unit {0})) (next : ℕ) {q : Refusal} {p : ℕ} →
-    M.Refused q p ≡ told_modes o next →
+    Err (refused_at q p) ≡ told_modes o next →
     o ≡ refused q p
 unfolding told_modes
 told-refused (passed u) next e = absurd (other-told (sym e))
-told-refused (refused r x) next e = cc
+told-refused (refused r x) next {q} {p} e =
+    let same : refused_at r x ≡ refused_at q p = cc in ap₂ refused (ap (λ (f : Refused). f.0) same) (ap (λ (f : Refused). f.1) same)
 
 module _ (table words : Words) (role : Role) (above scope : ℕ) where
   abbrev Stand : ℕ → Trees → ℕ → Type 0
@@ -112,7 +112,7 @@ module _ (table words : Words) (role : Role) (above scope : ℕ) where
 
     -- it passed
     pub next-passed :
-        i < n → {r : Moded} {behind : ℕ} → r ≡ M.Passed behind → Asks table words role above scope next r →
+        i < n → {r : Result ℕ Refused} {behind : ℕ} → r ≡ Ok behind → Asks table words role above scope next r →
         SoFar n at (i + 1) behind
     unfolding count
     next-passed h {r} {behind} p asks ts end s e =
@@ -126,21 +126,21 @@ module _ (table words : Words) (role : Role) (above scope : ℕ) where
 
     -- it was refused
     pub next-refused :
-        i < n → {r : Moded} {q : Refusal} {p : ℕ} → r ≡ M.Refused q p → Asks table words role above scope next r →
-        AsksAll table words role above scope n at r
+        i < n → {r : Result ℕ Refused} {q : Refusal} {p : ℕ} → r ≡ Err (refused_at q p) → Asks table words role above scope next r →
+        AsksAll table words role above scope n at (Err (refused_at q p))
     unfolding told_modes
     next-refused h {r} {q} {p} e asks ts end s c =
         let (t, us, s', left, is) = one_left h ts end s c in
         let out = told-refused _ _ (sym e ∙ asks t _ (first-parts table words role above scope next end t us s')) in
-        e ∙ ap (λ (o : Outcome (Unit {0})). told_modes o end) (sym (is ∙ one-refused t us next out))
+        ap (λ (o : Outcome (Unit {0})). told_modes o end) (sym (is ∙ one-refused t us next out))
 
     -- none is left
-    pub all-passed : n ≤ i → AsksAll table words role above scope n at (M.Passed next)
+    pub all-passed : n ≤ i → AsksAll table words role above scope n at (Ok next)
     unfolding told_modes
     all-passed h ts end s c =
         let (rest, s', left, is) = inv ts end s c in
         let none = none_left next rest end s' (omega arith) in
-        ap M.Passed (sym none.1)
+        ap Ok (sym none.1)
         ∙ ap (λ (o : Outcome (Unit {0})). told_modes o end)
         (sym (is ∙ ap (λ (l : Trees). ask_modes_all l table scope next) none.0 ∙ none_asks next))
 
@@ -165,53 +165,53 @@ module _ (c f : Tree) (table : Words) (scope v at first : ℕ) where
 -- what comes of a quantifier: r is what a walk of its restriction came to, from the outer variables
 module _ (table words : Words) (level scope v at first : ℕ) (outer : List Bool)
     (outside : (x : ℕ) → set_of outer x ≡ ltb x scope)
-    (r : Bound)
+    (r : Result Bound Refused)
     (came :
     (c : Tree) (next : ℕ) →
     Node table words restriction level (scope + v) first c next →
     Binds c table (set_of outer) (scope + v) first next r) where
-  abbrev Told : Moded → Type 0
+  abbrev Told : Result ℕ Refused → Type 0
   Told s = AsksBoth table words level scope v at first s
 
   restricts :
       (c : Tree) (next : ℕ) → Node table words restriction level (scope + v) first c next →
-      bindings c table (λ x. ltb x scope) (scope + v) first ≡ told r.asked r.set
+      bindings c table (λ x. ltb x scope) (scope + v) first ≡ told r
   restricts c next node =
       ap (λ (b : Variables). bindings c table b (scope + v) first) (sym (fun_ext outside)) ∙ sym (came c next node).outcome
 
-  pub restriction-refused : {q : Refusal} {p : ℕ} → r.asked ≡ Refused q p → Told (M.Refused q p)
+  pub restriction-refused : {q : Refusal} {p : ℕ} → r ≡ Err (refused_at q p) → Told (Err (refused_at q p))
   unfolding told_modes
   restriction-refused {q} {p} e c f next parts =
       ap (λ (o : Outcome (Unit {0})). told_modes o next)
-      (sym (both-no c f table scope v at first (restricts c _ parts.restricts ∙ ap (λ (a : Checked). told a r.set) e)))
+      (sym (both-no c f table scope v at first (restricts c _ parts.restricts ∙ ap told e)))
 
-  module _ (e : r.asked ≡ Passed) where
+  module _ {m : Bound} (e : r ≡ Ok m) where
     binds :
         (c : Tree) (next : ℕ) → Node table words restriction level (scope + v) first c next →
-        bindings c table (λ x. ltb x scope) (scope + v) first ≡ passed (set_of r.set)
-    binds c next node = restricts c next node ∙ ap (λ (a : Checked). told a r.set) e
+        bindings c table (λ x. ltb x scope) (scope + v) first ≡ passed (set_of m.set)
+    binds c next node = restricts c next node ∙ ap told e
 
-    pub variables-missed : all (set_of r.set) (span scope v) ≡ false → Told (M.Refused Mode at)
+    pub variables-missed : all (set_of m.set) (span scope v) ≡ false → Told (Err (refused_at Mode at))
     unfolding told_modes
     variables-missed h c f next parts =
         ap (λ (o : Outcome (Unit {0})). told_modes o next)
-        (sym (both_misses c f table scope v at first (set_of r.set) (binds c _ parts.restricts) h))
+        (sym (both_misses c f table scope v at first (set_of m.set) (binds c _ parts.restricts) h))
 
     -- the body stands behind it
     body-there :
         (c f : Tree) (next : ℕ) → Both table words level (scope + v) first c f next →
-        Node table words formula level (scope + v) r.next f next
+        Node table words formula level (scope + v) m.next f next
     body-there c f next parts =
-        subst (λ (k : ℕ). Node table words formula level (scope + v) k f next) (sym ((came c _ parts.restricts).behind e))
+        subst (λ (k : ℕ). Node table words formula level (scope + v) k f next) (sym (standing (came c _ parts.restricts) e).1)
         parts.body
 
-    pub body-here : HereBoth table words level (scope + v) first → Here table words formula level (scope + v) r.next
+    pub body-here : HereBoth table words level (scope + v) first → Here table words formula level (scope + v) m.next
     body-here (c, f, next, parts) = (f, next, body-there c f next parts)
 
     pub body-asked :
-        all (set_of r.set) (span scope v) ≡ true → (s : Moded) → Asks table words formula level (scope + v) r.next s → Told s
+        all (set_of m.set) (span scope v) ≡ true → (s : Result ℕ Refused) → Asks table words formula level (scope + v) m.next s → Told s
     body-asked h s asks c f next parts =
         asks f next (body-there c f next parts)
         ∙ ap (λ (o : Outcome (Unit {0})). told_modes o next)
-        (ap (ask_modes f table (scope + v)) ((came c _ parts.restricts).behind e)
-        ∙ sym (both-binds c f table scope v at first (set_of r.set) (binds c _ parts.restricts) h))
+        (ap (ask_modes f table (scope + v)) (standing (came c _ parts.restricts) e).1
+        ∙ sym (both-binds c f table scope v at first (set_of m.set) (binds c _ parts.restricts) h))

@@ -8,7 +8,7 @@ use lib.ListN.{length}
 use lib.IntN.{ℤ, nat_abs}
 use Rattle.model.specs.Words.{Words, word, value}
 use Rattle.model.specs.Tag.{Tag, tag_of}
-use Rattle.model.specs.Tree.{Term, Tree, Trees, plain, atom, compare, join, quantifier, some, count}
+use Rattle.model.specs.Tree.{Term, Tree, Trees, atom, compare, some, count}
 use Rattle.model.specs.Level.{restriction, under}
 use Rattle.model.specs.Reading.{is_formula}
 use Rattle.model.specs.Mode.{Variables, bindings}
@@ -16,7 +16,8 @@ use Rattle.laws.specs.Reading.Formed.{Formed}
 use Rattle.laws.specs.Reading.Nodes.{Node, Nodes}
 use Rattle.laws.specs.Reading.Parts.{AtomParts, CompareParts, atom-parts, compare-parts, join-parts, some-parts}
 use Rattle.laws.specs.Reading.Parts.{plain-parts}
-use Rattle.tables.specs.declared.Checked.TheVariants.{Passed}
+use Rattle.std.specs.Prelude.{Result, Ok}
+use Rattle.model.specs.declared.Refused.{Refused}
 use Rattle.modes.specs.declared.mode.Bound.{Bound}
 use Rattle.policies.proofs.Standing.{has}
 use Rattle.modes.specs.Mode.{set_of, Binds, BindsAll, BindsAny}
@@ -36,7 +37,7 @@ module _ (table words : Words) (above scope at : ℕ) where
   Restricts c next = Node table words restriction above scope at c next
 
   -- from what comes of the node's parts to what comes of the node
-  module _ (v : Variables) (r : Bound) where
+  module _ (v : Variables) (r : Result Bound Refused) where
     abbrev Comes : Type 0
     Comes = (c : Tree) (next : ℕ) → Restricts c next → Binds c table v scope at next r
 
@@ -90,15 +91,14 @@ module _ (table words : Words) (above scope at : ℕ) where
   -- a plain node, the only other one in a restriction
   pub from-plain :
       (tag : Tag) → tag ≡ tag_of (word words at) → Other tag → (marks : List Bool) → length marks ≡ 16 →
-      (c : Tree) (next : ℕ) → Restricts c next → Binds c table (set_of marks) scope at next (record { asked = Passed; set = marks; next = at + 1 })
+      (c : Tree) (next : ℕ) → Restricts c next → Binds c table (set_of marks) scope at next (Ok (record { set = marks; next = at + 1 }))
   unfolding bindings Formed is_formula
   from-plain (Tag.plain b) e o marks l c next node =
       let is = has table words restriction above scope at (Tag.plain b) e c next node in
-      subst (λ (t : Tree). Binds t table (set_of marks) scope at next (record { asked = Passed; set = marks; next = at + 1 })) (sym is)
+      subst (λ (t : Tree). Binds t table (set_of marks) scope at next (Ok (record { set = marks; next = at + 1 }))) (sym is)
       (record {
         outcome = refl;
-        marks = l;
-        behind = λ q. sym (plain-parts table words restriction above scope at next b (subst (λ (t : Tree). Restricts t next) is node));
+        stands = (l, sym (plain-parts table words restriction above scope at next b (subst (λ (t : Tree). Restricts t next) is node)));
       })
   from-plain (Tag.atom b) e o marks l c next node = absurd o
   from-plain (Tag.compare b) e o marks l c next node = absurd o

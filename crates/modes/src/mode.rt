@@ -15,24 +15,16 @@ ghost use Rattle.model.specs.Tree.{Term, Tree, Trees, atom, compare, some, count
 ghost use Rattle.laws.specs.Reading.Parts.{AtomParts, CompareParts};
 ghost use Rattle.laws.specs.Reading.Nodes.{Node, Nodes};
 
-use model::Refusal;
+use model::{Refusal, Refused};
 use policies::node;
 use policies::node::{Role, Tag};
-use tables::{Checked, table};
+use tables::table;
 
-// What a restriction binds: whether the mode rule passed, the variables bound after it, and the index behind it.
-#[derive(Clone, Copy)]
+// What a restriction binds: the variables bound after it, and the index behind it.
+#[derive(Clone, Copy, PartialEq, Eq)]
 pub struct Bound {
-    pub asked: Checked,
     pub set: [bool; 16],
     pub next: usize,
-}
-
-// Whether the mode rule passed at a formula, and the index behind it.
-#[derive(Clone, Copy)]
-pub enum Moded {
-    Passed(usize),
-    Refused(Refusal, usize),
 }
 
 // The term at an index is a constant, or a variable of the set.
@@ -52,12 +44,10 @@ fn all_bound(words: &[i32], bound: [bool; 16], first: usize, n: usize) -> bool
     requires { (first + 2 * n < 2 ^ 64) × (all (in_scope words.now 16) (places first n) ≡ true) }
     ensures { result ≡ all (is_bound (set_of bound)) (terms_at words.now first n) }
 {
-    let mut i = 0;
-    while i < n {
+    for i in 0..n {
         if !term_bound(words, bound, first + 2 * i) {
             return false;
         }
-        i += 1;
     }
     true
 }
@@ -74,14 +64,12 @@ fn inputs_bound(
     requires { (n ≤ 6) × (first + 2 * n < 2 ^ 64) × (all (in_scope words.now 16) (places first n) ≡ true) }
     ensures { result ≡ inputs_bound table.now p (set_of bound) 0 (terms_at words.now first n) }
 {
-    let mut i = 0;
-    while i < n {
+    for i in 0..n {
         if table::input(table, p, i) {
             if !term_bound(words, bound, first + 2 * i) {
                 return false;
             }
         }
-        i += 1;
     }
     true
 }
@@ -92,19 +80,23 @@ fn with_terms(words: &[i32], bound: [bool; 16], first: usize, n: usize) -> [bool
     ensures { (length result ≡ 16) × (set_of result ≡ with_terms (set_of bound) (terms_at words.now first n)) }
 {
     let mut set = bound;
-    let mut i = 0;
-    while i < n {
+    for i in 0..n {
         if !words::is(words, first + 2 * i, 0) {
             let x = words::value(words, first + 2 * i + 1);
             set[x] = true;
         }
-        i += 1;
     }
     set
 }
 
 // An atom, of tag 2 (true) or 3, in a restriction.
-fn bind_atom(table: &[i32], words: &[i32], bound: [bool; 16], holds: bool, at: usize) -> Bound
+fn bind_atom(
+    table: &[i32],
+    words: &[i32],
+    bound: [bool; 16],
+    holds: bool,
+    at: usize,
+) -> Result<Bound, Refused>
     requires { HereAtom words.now at }
     ensures { (p : ℕ) (ts : List Term) (scope next : ℕ) → AtomParts words.now scope at next p ts → Binds (atom holds p ts) table.now (set_of bound) scope at next result }
 {
@@ -113,50 +105,29 @@ fn bind_atom(table: &[i32], words: &[i32], bound: [bool; 16], holds: bool, at: u
     let next = at + 3 + 2 * n;
     if holds {
         if !inputs_bound(table, words, p, bound, at + 3, n) {
-            return Bound {
-                asked: Checked::Refused(Refusal::Mode, at),
-                set: bound,
-                next,
-            };
+            return Err(Refused(Refusal::Mode, at));
         }
         let set = with_terms(words, bound, at + 3, n);
-        return Bound {
-            asked: Checked::Passed,
-            set,
-            next,
-        };
+        return Ok(Bound { set, next });
     }
     if !all_bound(words, bound, at + 3, n) {
-        return Bound {
-            asked: Checked::Refused(Refusal::Mode, at),
-            set: bound,
-            next,
-        };
+        return Err(Refused(Refusal::Mode, at));
     }
-    Bound {
-        asked: Checked::Passed,
-        set: bound,
-        next,
-    }
+    Ok(Bound { set: bound, next })
 }
 
 // A comparison in a restriction.
-fn bind_compare(words: &[i32], bound: [bool; 16], at: usize) -> Bound
+fn bind_compare(words: &[i32], bound: [bool; 16], at: usize) -> Result<Bound, Refused>
     requires { (at + 6 < 2 ^ 64) × (all (in_scope words.now 16) (places (at + 2) 2) ≡ true) }
     ensures { (table : W.Words) (b : Bool) (d : ℤ) (x y : Term) (scope next : ℕ) → CompareParts words.now scope at next d x y → Binds (compare b d x y) table (set_of bound) scope at next result }
 {
     if !all_bound(words, bound, at + 2, 2) {
-        return Bound {
-            asked: Checked::Refused(Refusal::Mode, at),
-            set: bound,
-            next: at + 6,
-        };
+        return Err(Refused(Refusal::Mode, at));
     }
-    Bound {
-        asked: Checked::Passed,
+    Ok(Bound {
         set: bound,
         next: at + 6,
-    }
+    })
 }
 
 // The children of an all-of, from left to right.
@@ -169,29 +140,18 @@ fn bind_all(
     scope: usize,
     n: usize,
     at: usize,
-) -> Bound
+) -> Result<Bound, Refused>
     requires { (predicates table.now ≤ 256) × (above ≤ 64) × (scope ≤ 16) × HereAll table.now words.now L.Role.restriction above scope n at }
     ensures { (ts : Trees) (next : ℕ) → Nodes table.now words.now L.Role.restriction above scope at ts next → count ts ≡ n → BindsAll ts table.now (set_of bound) scope at next result }
 {
     let mut set = bound;
     let mut next = at;
-    let mut i = 0;
-    while i < n {
-        let child = bind(table, words, set, above, scope, next);
-        let asked = child.asked;
-        if let Checked::Refused(_, _) = asked {
-            return child;
-        }
-        let marks = child.set;
-        set = marks;
+    for _ in 0..n {
+        let child = bind(table, words, set, above, scope, next)?;
+        set = child.set;
         next = child.next;
-        i += 1;
     }
-    Bound {
-        asked: Checked::Passed,
-        set,
-        next,
-    }
+    Ok(Bound { set, next })
 }
 
 // The branches of an any-of, each from the same set: the variables bound by all of them.
@@ -204,35 +164,20 @@ fn bind_any(
     scope: usize,
     n: usize,
     at: usize,
-) -> Bound
+) -> Result<Bound, Refused>
     requires { (predicates table.now ≤ 256) × (above ≤ 64) × (scope ≤ 16) × (1 ≤ n) × HereAll table.now words.now L.Role.restriction above scope n at }
     ensures { (ts : Trees) (next : ℕ) → Nodes table.now words.now L.Role.restriction above scope at ts next → count ts ≡ n → BindsAny ts table.now (set_of bound) scope at next result }
 {
-    let first = bind(table, words, bound, above, scope, at);
-    let outcome = first.asked;
-    if let Checked::Refused(_, _) = outcome {
-        return first;
-    }
+    let first = bind(table, words, bound, above, scope, at)?;
     let mut set = first.set;
     let mut next = first.next;
-    let mut i = 1;
-    while i < n {
-        let child = bind(table, words, bound, above, scope, next);
-        let asked = child.asked;
-        if let Checked::Refused(_, _) = asked {
-            return child;
-        }
-        let marks = child.set;
-        let joint = both(set, marks);
+    for _ in 1..n {
+        let child = bind(table, words, bound, above, scope, next)?;
+        let joint = both(set, child.set);
         set = joint;
         next = child.next;
-        i += 1;
     }
-    Bound {
-        asked: Checked::Passed,
-        set,
-        next,
-    }
+    Ok(Bound { set, next })
 }
 
 // The variables of two sets.
@@ -240,12 +185,10 @@ pub fn both(a: [bool; 16], b: [bool; 16]) -> [bool; 16]
     ensures { (length result ≡ 16) × ((x : ℕ) → set_of result x ≡ (set_of a x && set_of b x)) }
 {
     let mut set = a;
-    let mut i = 0;
-    while i < 16 {
+    for i in 0..16 {
         if !b[i] {
             set[i] = false;
         }
-        i += 1;
     }
     set
 }
@@ -259,30 +202,18 @@ fn bind_some(
     above: usize,
     scope: usize,
     at: usize,
-) -> Bound
+) -> Result<Bound, Refused>
     requires { (predicates table.now ≤ 256) × (above < 64) × (scope < 16) × Here table.now words.now L.Role.restriction (above + 1) (scope + 1) (at + 1) }
     ensures { (c : Tree) (next : ℕ) → Node table.now words.now L.Role.restriction (above + 1) (scope + 1) (at + 1) c next → Binds (some c) table.now (set_of bound) scope at next result }
 {
-    let child = bind(table, words, bound, above + 1, scope + 1, at + 1);
-    let asked = child.asked;
-    if let Checked::Refused(_, _) = asked {
-        return child;
-    }
+    let child = bind(table, words, bound, above + 1, scope + 1, at + 1)?;
     let mut set = child.set;
     let next = child.next;
     if !set[scope] {
-        return Bound {
-            asked: Checked::Refused(Refusal::Mode, at),
-            set,
-            next,
-        };
+        return Err(Refused(Refusal::Mode, at));
     }
     set[scope] = false;
-    Bound {
-        asked: Checked::Passed,
-        set,
-        next,
-    }
+    Ok(Bound { set, next })
 }
 
 // The variables bound after a restriction, from those bound before it.
@@ -294,7 +225,7 @@ pub fn bind(
     above: usize,
     scope: usize,
     at: usize,
-) -> Bound
+) -> Result<Bound, Refused>
     requires { (predicates table.now ≤ 256) × (above ≤ 64) × (scope ≤ 16) × Here table.now words.now L.Role.restriction above scope at }
     ensures { (c : Tree) (next : ℕ) → Node table.now words.now L.Role.restriction above scope at c next → Binds c table.now (set_of bound) scope at next result }
 {
@@ -311,11 +242,10 @@ pub fn bind(
             }
         }
         Tag::Some => bind_some(table, words, bound, above, scope, at),
-        _ => Bound {
-            asked: Checked::Passed,
+        _ => Ok(Bound {
             set: bound,
             next: at + 1,
-        },
+        }),
     }
 }
 
@@ -325,10 +255,8 @@ pub fn outer(scope: usize) -> [bool; 16]
     ensures { (length result ≡ 16) × ((x : ℕ) → set_of result x ≡ ltb x scope) }
 {
     let mut set = [false; 16];
-    let mut i = 0;
-    while i < scope {
+    for i in 0..scope {
         set[i] = true;
-        i += 1;
     }
     set
 }
@@ -338,12 +266,10 @@ pub fn introduced(set: [bool; 16], scope: usize, v: usize) -> bool
     requires { scope + v ≤ 16 }
     ensures { result ≡ all (set_of set) (span scope v) }
 {
-    let mut i = 0;
-    while i < v {
+    for i in 0..v {
         if !set[scope + i] {
             return false;
         }
-        i += 1;
     }
     true
 }
@@ -358,21 +284,15 @@ fn formulas(
     scope: usize,
     n: usize,
     at: usize,
-) -> Moded
+) -> Result<usize, Refused>
     requires { (predicates table.now ≤ 256) × (above ≤ 64) × (scope ≤ 16) × (is_formula (as_role role) ≡ true) × HereAll table.now words.now (as_role role) above scope n at }
     ensures { AsksAll table.now words.now (as_role role) above scope n at result }
 {
     let mut next = at;
-    let mut i = 0;
-    while i < n {
-        let child = formula(table, words, role, above, scope, next);
-        let Moded::Passed(behind) = child else {
-            return child;
-        };
-        next = behind;
-        i += 1;
+    for _ in 0..n {
+        next = formula(table, words, role, above, scope, next)?;
     }
-    Moded::Passed(next)
+    Ok(next)
 }
 
 // The restriction and the body of a quantifier at an index and a level, of v variables: the restriction stands at first.
@@ -385,18 +305,13 @@ fn quantified(
     v: usize,
     at: usize,
     first: usize,
-) -> Moded
+) -> Result<usize, Refused>
     requires { (predicates table.now ≤ 256) × (level ≤ 64) × (scope + v ≤ 16) × HereBoth table.now words.now level (scope + v) first }
     ensures { AsksBoth table.now words.now level scope v at first result }
 {
-    let restriction = bind(table, words, outer(scope), level, scope + v, first);
-    let asked = restriction.asked;
-    if let Checked::Refused(q, p) = asked {
-        return Moded::Refused(q, p);
-    }
-    let set = restriction.set;
-    if !introduced(set, scope, v) {
-        return Moded::Refused(Refusal::Mode, at);
+    let restriction = bind(table, words, outer(scope), level, scope + v, first)?;
+    if !introduced(restriction.set, scope, v) {
+        return Err(Refused(Refusal::Mode, at));
     }
     formula(
         table,
@@ -410,7 +325,14 @@ fn quantified(
 
 // The formula at an index, under a node at the level above, and the nodes below it.
 #[cycle(formula_formulas_quantified)]
-fn formula(table: &[i32], words: &[i32], role: Role, above: usize, scope: usize, at: usize) -> Moded
+fn formula(
+    table: &[i32],
+    words: &[i32],
+    role: Role,
+    above: usize,
+    scope: usize,
+    at: usize,
+) -> Result<usize, Refused>
     requires { (predicates table.now ≤ 256) × (above ≤ 64) × (scope ≤ 16) × (is_formula (as_role role) ≡ true) × Here table.now words.now (as_role role) above scope at }
     ensures { Asks table.now words.now (as_role role) above scope at result }
 {
@@ -426,18 +348,15 @@ fn formula(table: &[i32], words: &[i32], role: Role, above: usize, scope: usize,
             let v = words::value(words, at + 1);
             quantified(table, words, level, scope, v, at, next)
         }
-        _ => Moded::Passed(next),
+        _ => Ok(next),
     }
 }
 
 // Question 7 of a policy that was read.
-pub fn check_modes(table: &[i32], words: &[i32]) -> Checked
+pub fn check_modes(table: &[i32], words: &[i32]) -> Result<(), Refused>
     requires { (predicates table.now ≤ 256) × Here table.now words.now L.Role.formula 0 0 0 }
     ensures { (tree : Tree) (next : ℕ) → Node table.now words.now L.Role.formula 0 0 0 tree next → outcome result ≡ ask_modes tree table.now 0 0 }
 {
-    let root = formula(table, words, Role::Formula, 0, 0, 0);
-    if let Moded::Refused(q, p) = root {
-        return Checked::Refused(q, p);
-    }
-    Checked::Passed
+    formula(table, words, Role::Formula, 0, 0, 0)?;
+    Ok(())
 }

@@ -1,13 +1,12 @@
 -- Ground atoms and comparisons under the environment that binds the outer variables alone: the numbers of their terms, what
 -- the code asks of their words in any role, and their answers. The environment with one outer variable more is a bound one.
-use Prim.Native.Nat.{ℕ, ◌+◌, ◌*◌, ◌-◌, ◌^◌, ◌≤◌, ◌<◌}
+use Prim.Native.Nat.{ℕ, ◌+◌, ◌*◌, ◌^◌, ◌≤◌, ◌<◌}
 use native.Mathlib.Omega.{arith}
 use native.Mathlib.Numerals.{add-one}
-use native.Mathlib.Nat.{add-zero}
 use mathlib.Core.Path.{◌≡◌, refl, sym, ap, ◌∙◌, fun_ext, subst}
 use mathlib.Core.Logic.{⊎_elim}
 use mathlib.Core.Bool.{Bool, true, false, not}
-use mathlib.Core.List.{List, [], ◌∷◌, ◌++◌, map, append_assoc, append-nil}
+use mathlib.Core.List.{List, [], ◌∷◌, ◌++◌, map, append_assoc}
 use lib.ListN.{length, get_or, take, drop, length-append, length-drop, get_or-append, get_or-eq_default}
 use lib.Seq.{ext_get_or, get_or-take, get_or-drop, get_or_at, take-suc, take_at, length-take-le}
 use lib.IntN.{ℤ, pos, nat_abs}
@@ -126,11 +125,6 @@ outer-more {held} {after} {scope} ρ k x is more o = (
 abbrev pub Binding : (scratch : Words) (from scope : ℕ) (start held : Held) (i : ℕ) → Type 0
 Binding scratch from scope start held i =
     (ρ : List ℤ) → Outer start scope ρ → Outer held (scope + i) (ρ ++ take i (drop from scratch))
-
-pub binding-none : (scratch : Words) (from scope : ℕ) (start : Held) → Binding scratch from scope start start 0
-binding-none scratch from scope start ρ o =
-    subst (λ (n : ℕ). Outer start n (ρ ++ [])) (sym (add-zero scope))
-    (subst (λ (σ : List ℤ). Outer start scope σ) (sym (append-nil ρ)) o)
 
 pub binding-more :
     (scratch : Words) (from scope : ℕ) (start held after : Held) (i : ℕ) (k : ℤ) →

@@ -21,7 +21,7 @@ use Rattle.laws.specs.Reading.Formed.{Formed}
 use Rattle.laws.specs.Reading.Items.{tuples_back}
 use Rattle.laws.specs.Reading.Parts.{QuantifierParts, quantifier-parts}
 use Rattle.laws.specs.Words.Standing.{stands-left, stands_taken, three_stand}
-use Rattle.trees.specs.Grown.{Grown, Room-at}
+use Rattle.trees.specs.Grown.{Grown}
 use Rattle.trees.proofs.Forming.{node_grown}
 use Rattle.words.specs.Laying.{laid}
 use Rattle.words.proofs.LayingLaws.{laid-long, laid-laid, laid_word, laid-front, Filled, fill_start, fill_more, fill_end, fill-room}
@@ -63,32 +63,26 @@ tuples-found scratch v from (τ ∷ τs) h =
     let on : from + 17 * suc j ≡ from + 17 + 17 * j = omega arith in
     subst (λ (i : ℕ). take v (drop i scratch) ≡ get_or τs j []) on (h (suc j) (omega arith))))
 
--- tuples written one behind another: i of k are there, and the next one goes to `end`
-pub record Copied (scratch : Words) (v from k : ℕ) (old : Words) (to end i : ℕ) (buffer : Words) : Type 0 where
-  pub within : i ≤ k
-  pub reached : to ≤ end
-  pub filled : Filled old to (tuple_words scratch v from k) (tuple_words scratch v (from + 17 * i) (k - i)) (end - to) buffer
+-- tuples written one behind another: i of k are there
+abbrev pub Copied : (scratch : Words) (v from k : ℕ) (old : Words) (to i : ℕ) (buffer : Words) → Type 0
+Copied scratch v from k old to i buffer =
+    Filled old to (tuple_words scratch v from k) (tuple_words scratch v (from + 17 * i) (k - i)) (v * i) buffer
 
 module _
     (scratch : Words) (v from k : ℕ) (old : Words) (to : ℕ) (there : from + 17 * k + v ≤ length scratch + 17) where
-  pub copied_start : to + v * k ≤ length old → Copied scratch v from k old to to 0 old
+  pub copied_start : to + v * k ≤ length old → Copied scratch v from k old to 0 old
   copied_start room =
       let whole = tuple_words scratch v from k in
       let here : from + 17 * 0 ≡ from = omega arith in
       let count : k - 0 ≡ k = omega arith in
-      let none : to - to ≡ 0 = omega arith in
+      let none : v * 0 ≡ 0 = omega arith in
       let start = fill_start old to whole (omega (arith, tuples-long scratch v from k there)) in
-      record {
-        within = omega arith;
-        reached = omega arith;
-        filled =
-            subst (λ (n : ℕ). Filled old to whole (tuple_words scratch v (from + 17 * 0) (k - 0)) n old) (sym none)
-            (subst (λ (rest : Words). Filled old to whole rest 0 old) (sym (ap₂ (tuple_words scratch v) here count)) start);
-      }
+      subst (λ (n : ℕ). Filled old to whole (tuple_words scratch v (from + 17 * 0) (k - 0)) n old) (sym none)
+      (subst (λ (rest : Words). Filled old to whole rest 0 old) (sym (ap₂ (tuple_words scratch v) here count)) start)
 
-  module _ (end i : ℕ) (buffer : Words) (c : Copied scratch v from k old to end i buffer) where
+  module _ (i : ℕ) (buffer : Words) (c : Copied scratch v from k old to i buffer) where
     pub copied_long : length buffer ≡ length old
-    copied_long = fill-long old to _ _ (end - to) buffer c.filled
+    copied_long = fill-long old to _ _ (v * i) buffer c
 
     module _ (more : i < k) where
       -- the next tuple
@@ -104,31 +98,26 @@ module _
       tuple-long = length-take-le v (drop (from + 17 * i) scratch) (rw length-drop (omega arith))
 
       -- has room
-      pub copied_room : end + v ≤ length old
+      pub copied_room : to + v * i + v ≤ length old
       copied_room =
           let tail = tuple_words scratch v (from + 17 * (i + 1)) (k - (i + 1)) in
-          omega (arith, fill-room old to _ _ (end - to) buffer c.filled, ap length next-tuple, length-append (take v (drop (from + 17 * i) scratch)) tail, tuple-long, c.reached)
+          omega (arith, fill-room old to _ _ (v * i) buffer c, ap length next-tuple, length-append (take v (drop (from + 17 * i) scratch)) tail, tuple-long)
 
       pub copied_more :
           (at : ℕ) (after : Words) →
           at ≡ from + 17 * i →
-          after ≡ laid buffer end (take v (drop at scratch)) →
-          Copied scratch v from k old to (end + v) (i + 1) after
+          after ≡ laid buffer (to + v * i) (take v (drop at scratch)) →
+          Copied scratch v from k old to (i + 1) after
       copied_more at after p q =
-          record {
-            within = omega arith;
-            reached = omega (arith, c.reached);
-            filled =
-                fill_more old to _ _ (end - to) buffer c.filled (take v (drop (from + 17 * i) scratch)) _ next-tuple end (end + v - to) after
-                (omega (arith, c.reached)) (omega (arith, c.reached, tuple-long))
-                (q ∙ ap (λ (n : ℕ). laid buffer end (take v (drop n scratch))) p);
-          }
+          fill_more old to _ _ (v * i) buffer c (take v (drop (from + 17 * i) scratch)) _ next-tuple (to + v * i) (v * (i + 1)) after
+          refl (omega (arith, tuple-long))
+          (q ∙ ap (λ (n : ℕ). laid buffer (to + v * i) (take v (drop n scratch))) p)
 
     pub copied_end : k ≤ i → buffer ≡ laid old to (tuple_words scratch v from k)
     unfolding tuple_words
     copied_end h =
         let none : k - i ≡ 0 = omega arith in
-        fill_end old to _ _ (end - to) buffer c.filled (ap (tuple_words scratch v (from + 17 * i)) none)
+        fill_end old to _ _ (v * i) buffer c (ap (tuple_words scratch v (from + 17 * i)) none)
 
 -- three parts laid one behind another
 three_laid :
@@ -201,12 +190,6 @@ module _
 module _
     (words scratch : Words) (scope at from k room v m : ℕ) (h : Fronts words scratch scope at from k room)
     (is-v : v ≡ value words (at + 1)) (is_m : m ≡ value words (at + 2)) where
-  pub front_sums : (at + 3 + v * m ≤ length words) × (3 + v * m + v * k ≤ room) × (scope + v ≤ 16)
-  front_sums =
-      let cut : v * m ≡ value words (at + 1) * value words (at + 2) = ap₂ (λ (x y : ℕ). x * y) is-v is_m in
-      let more : v * k ≡ value words (at + 1) * k = ap (λ (x : ℕ). x * k) is-v in
-      omega (arith, h.here, h.fits, h.small)
-
   pub front-laid :
       (old one two three : Words) →
       length old ≡ room →
@@ -245,9 +228,6 @@ lent_laid out w part p fits e =
 
 -- a copy of a tree in such a part
 module _ (words : Words) (at to : ℕ) (out : Words) where
-  pub copy_room : CopyRoom words at to (length out) → Room-at words at (length (rest out to))
-  copy_room (tree, next, g, h) = (tree, next, g, omega (arith, rest-long out to))
-
   pub copy_laid :
       (σ : List ℤ) (part : Words) →
       ((tree : Tree) (next : ℕ) →

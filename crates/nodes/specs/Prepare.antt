@@ -1,5 +1,5 @@
 -- What the preparing of a quantifier says: its instances stand in scratch, or the places ran out.
-use Rattle.std.specs.Prelude.{ℕ, ◌+◌, ◌≤◌, ◌<◌, ◌≡◌, List, [], ◌∷◌, map, ℤ}
+use Rattle.std.specs.Prelude.{ℕ, ◌+◌, ◌≤◌, ◌<◌, ◌≡◌, List, [], ◌∷◌, map, ℤ, Option, Some, None}
 use Rattle.model.specs.Words.{Words, value}
 use Rattle.model.specs.Log.{rows}
 use Rattle.model.specs.Tree.{Tree}
@@ -7,8 +7,6 @@ use Rattle.model.specs.Listing.{outer, list, entries}
 use Rattle.model.specs.Reduction.{fresh, tuple}
 use Rattle.laws.specs.Reading.Items.{tuples}
 use Rattle.nodes.specs.declared.prepare.Placed.{Placed}
-use Rattle.nodes.specs.declared.prepare.Prepared.{Prepared}
-use Rattle.nodes.specs.declared.prepare.Prepared.TheVariants.{Short, Instances}
 use Rattle.nodes.specs.Last.{Found}
 
 -- the instances of the quantifier at an index whose restriction is c: v variables, and the excluded tuples in its words
@@ -28,6 +26,6 @@ pub record InstancesStand (table words log : Words) (scope v at : ℕ) (c : Tree
   pub found : Found after scope p.from v p.count (instances_at table words log scope v at c ρ)
 
 abbrev pub InstancesTell :
-    (table words log : Words) (scope v at : ℕ) (c : Tree) (ρ : List ℤ) (body places : ℕ) (after : Words) (prepared : Prepared) → Type 0
-InstancesTell table words log scope v at c ρ body places after Short = places < listed table log scope v c ρ
-InstancesTell table words log scope v at c ρ body places after (Instances p) = InstancesStand table words log scope v at c ρ body places after p
+    (table words log : Words) (scope v at : ℕ) (c : Tree) (ρ : List ℤ) (body places : ℕ) (after : Words) (prepared : Option Placed) → Type 0
+InstancesTell table words log scope v at c ρ body places after None = places < listed table log scope v c ρ
+InstancesTell table words log scope v at c ρ body places after (Some p) = InstancesStand table words log scope v at c ρ body places after p

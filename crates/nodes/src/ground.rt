@@ -83,12 +83,10 @@ pub fn instance(
 {
     let from = Environment::WORDS * place + scope;
     let mut bound = environment;
-    let mut i = 0;
-    while i < v {
+    for i in 0..v {
         let x = scope + i;
         bound.numbers[x] = scratch[from + i];
         bound.marks[x] = true;
-        i += 1;
     }
     bound
 }

@@ -38,18 +38,14 @@ fn tuples(
     ensures { out.new
         ≡ laid out.old to (L.tuple_words scratch.now v (17 * from + scope) k) }
 {
-    let mut end = to;
-    let mut j = 0;
-    while j < k {
+    for j in 0..k {
         copying::copy_words(
             scratch,
             Environment::WORDS * (from + j) + scope,
             v,
             out,
-            end,
+            to + v * j,
         );
-        end += v;
-        j += 1;
     }
 }
 

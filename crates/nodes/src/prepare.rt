@@ -24,13 +24,6 @@ pub struct Placed {
     pub body: usize,
 }
 
-// The places ran out; or the instances.
-#[derive(Clone, Copy)]
-pub enum Prepared {
-    Short,
-    Instances(Placed),
-}
-
 // The room with the outer environment alone in it.
 fn room(places: usize) -> Room
     ensures { result ≡ record { from = 0; count = 1; base = 1; used = 1; limit = places } }
@@ -44,7 +37,7 @@ fn room(places: usize) -> Room
     }
 }
 
-// The instances of the quantifier of v variables at an index, which stands at a level.
+// The instances of the quantifier of v variables at an index, which stands at a level; None if the places ran out.
 pub fn prepare(
     table: &[i32],
     words: &[i32],
@@ -56,7 +49,7 @@ pub fn prepare(
     scope: usize,
     v: usize,
     at: usize,
-) -> Prepared
+) -> Option<Placed>
     requires { Chains table.now log.now links.now
         × (level ≤ 64)
         × (scope + v ≤ 16)
@@ -82,7 +75,7 @@ pub fn prepare(
 {
     let places = scratch.len() / Environment::WORDS;
     if places < 1 {
-        return Prepared::Short;
+        return None;
     }
     environment.store(scratch, 0);
     let m = words::value(words, at + 2);
@@ -98,10 +91,10 @@ pub fn prepare(
         at + 3 + v * m,
     );
     let Made::List(to, body) = made else {
-        return Prepared::Short;
+        return None;
     };
     let count = choosing::instances(words, at + 3, m, v, scope, scratch, to.from, to.count);
-    Prepared::Instances(Placed {
+    Some(Placed {
         from: to.from,
         count,
         used: to.used,

@@ -10,7 +10,7 @@ use lib.ListN.{length}
 use borrow.Author.Tests.{leb-true}
 use Rattle.model.specs.declared.Refusal.{Refusal}
 use Rattle.model.specs.Words.{Words, word, value, level_limit, scope_limit}
-use Rattle.model.specs.Answer.{Outcome, passed, refused, ◌>>=◌}
+use Rattle.model.specs.Answer.{Outcome, passed, refused, ◌>>=◌, refused_at}
 use Rattle.model.specs.Tag.{Tag, tag_of}
 use Rattle.model.specs.Tree.{Tree, Trees, join, quantifier, some}
 use Rattle.model.specs.Level.{Role, restriction, under, quantifier_cost, cost, greatest}
@@ -19,10 +19,9 @@ use Rattle.model.specs.Reading.{own, questions, build, read_node}
 use Rattle.laws.specs.Reading.Nodes.{Reader, Asked, asked}
 use Rattle.laws.specs.Reading.Back.{cost-one}
 use Rattle.tables.specs.Checked.{outcome}
-use Rattle.tables.specs.declared.Checked.{Checked}
-use Rattle.policies.specs.Policy.{told, told_all, told_body, told_both, NodeTold, NodesTold, BothTold}
-use Rattle.policies.specs.declared.policy.Walked.{Walked}
-use Rattle.policies.specs.declared.policy.Walked.TheVariants.{Read, Refused}
+use Rattle.policies.specs.Policy.{Told, walked, told, told_all, told_body, told_both, NodeTold, NodesTold, BothTold}
+use Rattle.std.specs.Prelude.{Result, Ok, Err}
+use Rattle.model.specs.declared.Refused.{Refused}
 use Rattle.policies.proofs.PolicyRead.{greatest_all-least}
 
 -- the node itself, with what was read of the nodes below it
@@ -34,7 +33,7 @@ module _ (role : Role) (above : ℕ) where
   unfolding told told_all greatest ◌>>=◌
   join-levels b (refused q p) = refl
   join-levels b (passed ts) =
-      ap (Read ts.next) (let least = greatest_all-least ts.tree (under role b) (above + 1) in omega arith)
+      ap (walked ts.next) (let least = greatest_all-least ts.tree (under role b) (above + 1) in omega arith)
 
   some-levels :
       (o : Outcome (R.Read Tree)) →
@@ -77,7 +76,7 @@ module _ (words : Words) (read : Reader) (role : Role) (above scope at : ℕ) wh
       (tag : Tag) →
       Leaf tag →
       (own words tag role scope at).shape ≡ true →
-      Read (at + (own words tag role scope at).size) (above + cost role tag)
+      walked (at + (own words tag role scope at).size) (above + cost role tag)
       ≡ told role above (build words read tag role (above + cost role tag) scope at)
   unfolding told build own cost greatest
   leaf-levels (Tag.plain b) l e = refl
@@ -92,7 +91,7 @@ module _ (words : Words) (read : Reader) (role : Role) (above scope at : ℕ) wh
 tells :
     (table words : Words) (role : Role) (above scope at : ℕ) →
     above ≤ level_limit →
-    {r : Walked} →
+    {r : Told} →
     ((depth : ℕ) → level_limit < suc depth + above → r ≡ told role above (read_node table words (suc depth) role above scope at)) →
     NodeTold table words role above scope at r
 tells table words role above scope at h next zero k = absurd (omega arith)
@@ -104,10 +103,10 @@ pub refused-tells :
     above ≤ level_limit →
     (tag : Tag) →
     tag ≡ tag_of (word words at) →
-    {answer : Checked} {q : Refusal} {p : ℕ} →
-    answer ≡ Checked.Refused q p →
+    {answer : Result (Unit {0}) Refused} {q : Refusal} {p : ℕ} →
+    answer ≡ Err (refused_at q p) →
     outcome answer ≡ questions table words tag role above scope at →
-    NodeTold table words role above scope at (Refused q p)
+    NodeTold table words role above scope at (Err (refused_at q p))
 unfolding told read_node ◌>>=◌
 refused-tells table words role above scope at h tag known e asks =
     tells table words role above scope at h (λ depth k. rw (← known, ← asks, e))
@@ -120,9 +119,27 @@ pub record Entered (table words : Words) (role : Role) (above scope at : ℕ) (t
   pub deep : level ≡ above + cost role tag
   pub first : next ≡ at + (own words tag role scope at).size
 
+-- from what the calls before promise
+pub entered :
+    {table words : Words} {role : Role} {above scope at : ℕ} {tag : Tag} {spent size : ℕ} {answer : Result (Unit {0}) Refused} →
+    above ≤ level_limit →
+    tag ≡ tag_of (word words at) →
+    answer ≡ Ok tt →
+    outcome answer ≡ questions table words tag role above scope at →
+    spent ≡ cost role tag →
+    ((role : Role) (scope : ℕ) → size ≡ (own words tag role scope at).size) →
+    Entered table words role above scope at tag (above + spent) (at + size)
+entered {role = role} {above = above} {scope = scope} {at = at} low known was asks costs sized = record {
+  low = low;
+  known = known;
+  yes = ap outcome (sym was) ∙ asks;
+  deep = ap (λ (n : ℕ). above + n) costs;
+  first = ap (λ (n : ℕ). at + n) (sized role scope);
+}
+
 module _ {table words : Words} {role : Role} {above scope at : ℕ} {tag : Tag} {level next : ℕ}
     (node : Entered table words role above scope at tag level next) where
-  answers : Asked table words role above scope at tag
+  pub answers : Asked table words role above scope at tag
   answers = asked table words role above scope at tag (sym node.yes)
 
   -- the nodes below are within the limits, and one level down at least
@@ -145,7 +162,7 @@ module _ {table words : Words} {role : Role} {above scope at : ℕ} {tag : Tag} 
 
   -- what the reading of the nodes below tells, the node does
   built :
-      {r : Walked} →
+      {r : Told} →
       ((depth : ℕ) → level_limit < depth + level →
       r ≡ told role above (build words (read_node table words depth) tag role (above + cost role tag) scope at)) →
       NodeTold table words role above scope at r
@@ -157,7 +174,7 @@ module _ {table words : Words} {role : Role} {above scope at : ℕ} {tag : Tag} 
   pub join-tells :
       {b : Bool} →
       tag ≡ Tag.join b →
-      {below : Role} {n : ℕ} {r : Walked} →
+      {below : Role} {n : ℕ} {r : Told} →
       below ≡ under role b →
       n ≡ value words (at + 1) →
       NodesTold table words below level scope n next r →
@@ -171,7 +188,7 @@ module _ {table words : Words} {role : Role} {above scope at : ℕ} {tag : Tag} 
   pub quantifier-tells :
       {b : Bool} →
       tag ≡ Tag.quantifier b →
-      {inner : ℕ} {r : Walked} →
+      {inner : ℕ} {r : Told} →
       inner ≡ scope + value words (at + 1) →
       BothTold table words level inner next r →
       NodeTold table words role above scope at r
@@ -184,13 +201,13 @@ module _ {table words : Words} {role : Role} {above scope at : ℕ} {tag : Tag} 
 
   pub some-tells :
       tag ≡ Tag.some →
-      {r : Walked} →
+      {r : Told} →
       NodeTold table words restriction level (scope + 1) next r →
       NodeTold table words role above scope at r
   unfolding build own cost
   some-tells e h = built λ depth k. h depth k ∙ rw (node.first, node.deep, e) (some-levels role above _)
 
-  pub leaf-tells : Leaf tag → NodeTold table words role above scope at (Read next level)
+  pub leaf-tells : Leaf tag → NodeTold table words role above scope at (walked next level)
   leaf-tells l =
       built λ depth k.
       rw (node.first, node.deep)

@@ -62,6 +62,23 @@ pub record Stood (table words : Words) (role : Role) (above scope at : ℕ) (tag
   pub deep : level ≡ above + cost role tag
   pub first : next ≡ at + (own words tag role scope at).size
 
+-- from what the calls before promise
+pub stood :
+    {table words : Words} {role : Role} {above scope at : ℕ} {tag : Tag} {spent size : ℕ} →
+    is_formula role ≡ true →
+    Here table words role above scope at →
+    tag ≡ tag_of (word words at) →
+    spent ≡ cost role tag →
+    ((role : Role) (scope : ℕ) → size ≡ (own words tag role scope at).size) →
+    Stood table words role above scope at tag (above + spent) (at + size)
+stood {role = role} {above = above} {scope = scope} {at = at} kind here known costs sized = record {
+  kind = kind;
+  here = here;
+  known = known;
+  deep = ap (λ (n : ℕ). above + n) costs;
+  first = ap (λ (n : ℕ). at + n) (sized role scope);
+}
+
 module _ (table words : Words) (role : Role) (above scope at : ℕ) (here : Here table words role above scope at) (tag : Tag)
     (known : tag ≡ tag_of (word words at)) where
   rooted : tag ≡ root here.0

@@ -9,8 +9,8 @@ ghost use Rattle.model.specs.Reading.{places, good_kind, in_scope, is_formula};
 ghost use Rattle.tables.specs.Checked.{outcome};
 ghost use Rattle.policies.specs.Node.{as_tag, as_role, There, Room, Sized, Shaped, Known, Scoped};
 
-use model::Refusal;
-use tables::{Checked, table};
+use model::{Refusal, Refused};
+use tables::table;
 
 // At most so many levels, and variables in scope.
 pub const LEVEL_LIMIT: usize = 64;
@@ -18,7 +18,7 @@ pub const LEVEL_LIMIT: usize = 64;
 pub const SCOPE_LIMIT: usize = 16;
 
 // The tags of nodes. Of two that are each other's dual, true is the first.
-#[derive(Clone, Copy)]
+#[derive(Clone, Copy, PartialEq, Eq)]
 pub enum Tag {
     Plain(bool),
     Atom(bool),
@@ -30,7 +30,7 @@ pub enum Tag {
 }
 
 // What a node is to the node above it.
-#[derive(Clone, Copy)]
+#[derive(Clone, Copy, PartialEq, Eq)]
 pub enum Role {
     Restriction,
     Formula,
@@ -96,12 +96,10 @@ fn kinds(words: &[i32], first: usize, n: usize) -> bool
     requires { first + 2 * n < 2 ^ 64 }
     ensures { result ≡ all (good_kind words.now) (places first n) }
 {
-    let mut i = 0;
-    while i < n {
+    for i in 0..n {
         if !words::within(words, first + 2 * i, 0, 1) {
             return false;
         }
-        i += 1;
     }
     true
 }
@@ -122,12 +120,10 @@ fn variables(words: &[i32], scope: usize, first: usize, n: usize) -> bool
     requires { first + 2 * n < 2 ^ 64 }
     ensures { result ≡ all (in_scope words.now scope) (places first n) }
 {
-    let mut i = 0;
-    while i < n {
+    for i in 0..n {
         if !in_scope(words, scope, first + 2 * i) {
             return false;
         }
-        i += 1;
     }
     true
 }
@@ -136,10 +132,7 @@ fn variables(words: &[i32], scope: usize, first: usize, n: usize) -> bool
 pub fn is_formula(role: Role) -> bool
     ensures { result ≡ is_formula (as_role role) }
 {
-    match role {
-        Role::Restriction => false,
-        _ => true,
-    }
+    !matches!(role, Role::Restriction)
 }
 
 // Question 3 at an atom: 1 to 6 terms, all there, of kind 0 or 1.
@@ -283,26 +276,26 @@ pub fn questions(
     above: usize,
     scope: usize,
     at: usize,
-) -> Checked
+) -> Result<(), Refused>
     requires { (at ≤ length words.now) × (above ≤ W.level_limit) × (scope ≤ W.scope_limit) }
     ensures { outcome result ≡ R.questions table.now words.now (as_tag tag) (as_role role) above scope at }
 {
     if !shape(words, tag, role, at) {
-        return Checked::Refused(Refusal::Shape, at);
+        return Err(Refused(Refusal::Shape, at));
     }
     let left = LEVEL_LIMIT - above;
     let spent = cost(role, tag);
     let named = known(table, words, tag, at);
     if left < spent {
-        return Checked::Refused(Refusal::Level, at);
+        return Err(Refused(Refusal::Level, at));
     }
     if !named {
-        return Checked::Refused(Refusal::Predicate, at);
+        return Err(Refused(Refusal::Predicate, at));
     }
     if !scoped(words, tag, scope, at) {
-        return Checked::Refused(Refusal::Variable, at);
+        return Err(Refused(Refusal::Variable, at));
     }
-    Checked::Passed
+    Ok(())
 }
 
 // How many words of its own a node has, where they are there.

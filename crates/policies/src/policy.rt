@@ -7,21 +7,13 @@ ghost use Rattle.policies.specs.Policy.{NodeTold, NodesTold, BothTold, told_poli
 
 use crate::node;
 use crate::node::{Role, Tag};
-use model::{POLICY_LIMIT, Refusal};
-use tables::Checked;
+use model::{POLICY_LIMIT, Refusal, Refused};
 
-// What comes of reading nodes: the index behind them and their greatest level, or the first refusal with its place.
-#[derive(Clone, Copy)]
-pub enum Walked {
-    Read(usize, usize),
-    Refused(Refusal, usize),
-}
-
-// The greater of two numbers.
-fn greater(a: usize, b: usize) -> usize
-    ensures { result ≡ max a b }
-{
-    if a < b { b } else { a }
+// Nodes that were read: the index behind them, and their greatest level.
+#[derive(Clone, Copy, PartialEq, Eq)]
+pub struct Walked {
+    pub next: usize,
+    pub level: usize,
 }
 
 // n nodes one behind another, in one role under a node at the level above.
@@ -34,53 +26,55 @@ fn children(
     scope: usize,
     n: usize,
     at: usize,
-) -> Walked
+) -> Result<Walked, Refused>
     requires { (at ≤ length words.now) × (above ≤ W.level_limit) × (scope ≤ W.scope_limit) }
     ensures { NodesTold table.now words.now (as_role role) above scope n at result }
 {
-    let mut i = 0;
     let mut next = at;
     let mut level = above;
-    while i < n {
-        let child = walk(table, words, role, above, scope, next);
-        let Walked::Read(behind, deepest) = child else {
-            return child;
-        };
-        next = behind;
-        level = greater(level, deepest);
-        i += 1;
+    for _ in 0..n {
+        let child = walk(table, words, role, above, scope, next)?;
+        next = child.next;
+        level = level.max(child.level);
     }
-    Walked::Read(next, level)
+    Ok(Walked { next, level })
 }
 
 // The restriction of a quantifier at a level, and the body behind it.
 #[cycle(children_quantified_walk)]
-fn quantified(table: &[i32], words: &[i32], level: usize, scope: usize, at: usize) -> Walked
+fn quantified(
+    table: &[i32],
+    words: &[i32],
+    level: usize,
+    scope: usize,
+    at: usize,
+) -> Result<Walked, Refused>
     requires { (at ≤ length words.now) × (level ≤ W.level_limit) × (scope ≤ W.scope_limit) }
     ensures { BothTold table.now words.now level scope at result }
 {
-    let restriction = walk(table, words, Role::Restriction, level, scope, at);
-    let Walked::Read(next, first) = restriction else {
-        return restriction;
-    };
-    let body = walk(table, words, Role::Formula, level, scope, next);
-    let Walked::Read(behind, second) = body else {
-        return body;
-    };
-    Walked::Read(behind, greater(first, second))
+    let restriction = walk(table, words, Role::Restriction, level, scope, at)?;
+    let body = walk(table, words, Role::Formula, level, scope, restriction.next)?;
+    Ok(Walked {
+        next: body.next,
+        level: restriction.level.max(body.level),
+    })
 }
 
 // The node at an index, under a node at the level above, and the nodes below it.
 #[cycle(children_quantified_walk)]
-fn walk(table: &[i32], words: &[i32], role: Role, above: usize, scope: usize, at: usize) -> Walked
+fn walk(
+    table: &[i32],
+    words: &[i32],
+    role: Role,
+    above: usize,
+    scope: usize,
+    at: usize,
+) -> Result<Walked, Refused>
     requires { (at ≤ length words.now) × (above ≤ W.level_limit) × (scope ≤ W.scope_limit) }
     ensures { NodeTold table.now words.now (as_role role) above scope at result }
 {
     let tag = node::tag_at(words, at);
-    let asked = node::questions(table, words, tag, role, above, scope, at);
-    if let Checked::Refused(q, p) = asked {
-        return Walked::Refused(q, p);
-    }
+    node::questions(table, words, tag, role, above, scope, at)?;
     let level = above + node::cost(role, tag);
     let next = at + node::size(words, tag, at);
     match tag {
@@ -93,27 +87,24 @@ fn walk(table: &[i32], words: &[i32], role: Role, above: usize, scope: usize, at
             quantified(table, words, level, scope + v, next)
         }
         Tag::Some => walk(table, words, Role::Restriction, level, scope + 1, next),
-        _ => Walked::Read(next, level),
+        _ => Ok(Walked { next, level }),
     }
 }
 
 // Questions 2 to 6 of a policy: its length, its nodes, and that no words stand behind them.
-pub fn ask_policy(table: &[i32], policy: &[i32]) -> Walked
+pub fn ask_policy(table: &[i32], policy: &[i32]) -> Result<Walked, Refused>
     ensures { result ≡ told_policy policy.now (read_policy table.now policy.now) }
 {
     let n = policy.len();
     if n < 1 {
-        return Walked::Refused(Refusal::PolicyLength, 0);
+        return Err(Refused(Refusal::PolicyLength, 0));
     }
     if POLICY_LIMIT < n {
-        return Walked::Refused(Refusal::PolicyLength, 0);
+        return Err(Refused(Refusal::PolicyLength, 0));
     }
-    let root = walk(table, policy, Role::Formula, 0, 0, 0);
-    let Walked::Read(next, level) = root else {
-        return root;
-    };
-    if next != n {
-        return Walked::Refused(Refusal::Shape, next);
+    let root = walk(table, policy, Role::Formula, 0, 0, 0)?;
+    if root.next != n {
+        return Err(Refused(Refusal::Shape, root.next));
     }
-    Walked::Read(n, level)
+    Ok(root)
 }

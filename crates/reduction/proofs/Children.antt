@@ -1,6 +1,6 @@
 -- The residuals of children, as a join takes them in one after another: they are wide; and with one child more, or one
 -- instance more, the residuals have one tree more, and the greatest need is that or the child's.
-use Prim.Native.Nat.{ℕ, ◌+◌, max}
+use Prim.Native.Nat.{ℕ, max}
 use native.Mathlib.Omega.{arith}
 use mathlib.Core.Path.{◌≡◌, refl, ap}
 use mathlib.Core.Bool.{Bool}

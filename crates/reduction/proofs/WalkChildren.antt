@@ -1,5 +1,5 @@
 -- The children of a join, one after another: those passed are in the state of the join, those left stand at the index reached.
-use Prim.Native.Nat.{ℕ, ◌+◌, ◌-◌, ◌≤◌, ◌<◌, max}
+use Prim.Native.Nat.{ℕ, ◌+◌, ◌≤◌, ◌<◌, max}
 use native.Mathlib.Omega.{arith}
 use mathlib.Core.Path.{◌≡◌, refl, sym, ap, ◌∙◌, subst}
 use mathlib.Core.Bool.{Bool}
@@ -143,11 +143,6 @@ module _ (table words log : Words) (b : Bool) (above scope : ℕ) (held : Enviro
         unfolding count encode_all
         none_left nil end s k = (refl, omega (arith, s.stands.ends))
         none_left (cons t us) end s k = absurd (omega arith)
-
-        pub children-state :
-            HereAll table words (operand b) above scope n at → (ρ : List ℤ) × Outer held scope ρ →
-            (b : Bool) × (ts : Trees) × (need : ℕ) × (places : ℕ) × Joining b ts need places out j
-        children-state (ts, end, e, s) (ρ, o) = (b, _, _, places, (inv ρ o ts end s e).5)
 
         pub children_end :
             {before : Words} → length out ≡ length before → (after : Words) (r : Reduced) →

@@ -5,12 +5,12 @@ use native.Mathlib.Omega.{arith}
 use native.Mathlib.Numerals.{add-one}
 use mathlib.Core.Path.{◌≡◌, refl, sym, ap, ◌∙◌, subst}
 use mathlib.Core.Logic.{⊎_elim}
-use mathlib.Core.Bool.{Bool, true, false, true≢false}
+use mathlib.Core.Bool.{Bool}
 use mathlib.Core.List.{List, [], ◌∷◌, ◌++◌}
 use lib.ListN.{length, get_or, take, drop}
 use lib.Seq.{take-suc, take_all, take-take}
 use lib.IntN.{ℤ}
-use borrow.Author.Tests.{ltb-false, lt-ltb, le-ltb}
+use borrow.Author.Tests.{ltb-false}
 use Rattle.model.specs.Words.{Words}
 use Rattle.model.specs.Log.{rows}
 use Rattle.model.specs.Tree.{Tree, Trees, nil, cons}
@@ -26,6 +26,7 @@ use Rattle.environments.specs.declared.environment.Environment.{Environment}
 use Rattle.joining.specs.declared.answer.Reduced.{Reduced}
 use Rattle.joining.specs.declared.answer.Reduced.TheVariants.{Short}
 use Rattle.joining.specs.declared.join.Join.{Join}
+use Rattle.joining.specs.declared.join.State.TheVariants as S
 use Rattle.reduction.specs.declared.walk.Walked.{Walked}
 use Rattle.joining.specs.Answer.{Answers}
 use Rattle.joining.specs.Join.{Joining, Adding, added}
@@ -33,7 +34,7 @@ use Rattle.nodes.specs.Ground.{Outer}
 use Rattle.nodes.specs.Last.{Found}
 use Rattle.reduction.specs.Walk.{ReducesNode, bodies, needs, Works}
 use Rattle.joining.proofs.Telling.{told_means}
-use Rattle.joining.proofs.Lending.{rest, rest-long, lent, lent_long, lent_front, adding}
+use Rattle.joining.proofs.Lending.{rest, rest-long, lent, lent_long, lent_front, short-few, few-short, adding}
 use Rattle.reduction.proofs.Children.{each_more, most-more, reduce-wide}
 use Rattle.reduction.proofs.WalkChildren.{short_means}
 
@@ -83,7 +84,7 @@ module _ (table words log : Words) (b : Bool) (level scope v body from k used : 
       Stands f end →
       Joining b (bodies table log f ρ (take i found)) (needs table log f ρ (take i found)) places_left out j
       × (0 < i → next ≡ end)
-      × (j.short ≡ false)
+      × (needs table log f ρ (take i found) ≤ places_left)
 
   -- some outer numbers, some tuples, and the body: what the caller has
   abbrev pub SomeOuter : (e : Environment) (n : ℕ) → Type 0
@@ -98,7 +99,7 @@ module _ (table words log : Words) (b : Bool) (level scope v body from k used : 
   pub instances-start : (next : ℕ) (j : Join) (out : Words) → ((places : ℕ) (out : Words) → Joining b nil 0 places out j) → InstancesSoFar 0 next j out
   unfolding each most
   instances-start next j out new ρ found f end o s node =
-      (new places_left out, λ h. absurd (omega arith), (new places_left out).short ∙ le-ltb places_left 0 (omega arith))
+      (new places_left out, λ h. absurd (omega arith), omega arith)
 
   pub kept-start : ScratchKept scratch
   kept-start = (refl, refl)
@@ -120,9 +121,6 @@ module _ (table words log : Words) (b : Bool) (level scope v body from k used : 
 
     module _ (i : ℕ) (h : i < k) (below : from + k ≤ used) (small : scope + v ≤ 16) where
       -- the next instance
-      pub instance_place : 17 * (from + i) + 17 ≤ length now
-      instance_place = omega (arith, kept.0)
-
       pub instance_tuple :
           (found : List (List ℤ)) → Found scratch scope from v k found → take v (drop (17 * (from + i) + scope) now) ≡ get_or found i []
       instance_tuple found s =
@@ -177,7 +175,6 @@ module _ (table words log : Words) (b : Bool) (level scope v body from k used : 
                 = add (adding state answers (reduce-wide table (rows log) f (ρ ++ τ))) in
                 let more : take i found ++ (τ ∷ []) ≡ take (i + 1) found
                 = sym (rw (add-one i) (take-suc found i [] (omega (arith, s.many)))) in
-                let before = ltb-false places_left (needs table log f ρ (take i found)) (sym state.short ∙ fine) in
                 let here = enough_means ok answers in (
                   subst (λ (l : List (List ℤ)). Joining b (bodies table log f ρ l) (needs table log f ρ l) places_left after j') more
                       (subst (λ (n : ℕ). Joining b (bodies table log f ρ (take i found ++ (τ ∷ []))) n places_left after j')
@@ -186,7 +183,8 @@ module _ (table words log : Words) (b : Bool) (level scope v body from k used : 
                       (sym (each_more (λ (σ : List ℤ). reduce table (rows log) f (ρ ++ σ)) (take i found) τ))
                       state')),
                   λ _. behind ok,
-                  state'.short ∙ le-ltb places_left (max (needs table log f ρ (take i found)) (need table (rows log) f (ρ ++ τ))) (omega arith),
+                  subst (λ (l : List (List ℤ)). needs table log f ρ l ≤ places_left) more
+                      (omega (arith, most-more (λ (σ : List ℤ). need table (rows log) f (ρ ++ σ)) (take i found) τ)),
                 )
 
             -- the places ran out
@@ -200,13 +198,12 @@ module _ (table words log : Words) (b : Bool) (level scope v body from k used : 
                 let (answers, behind) = child_walk ρ found f end o s node in
                 let state' = add (adding (inv ρ found f end o s node).0 answers (reduce-wide table (rows log) f (ρ ++ τ))) in
                 let few : places_left < need table (rows log) f (ρ ++ τ) = short_means e answers in
-                let is : j'.short ≡ true
-                = state'.short ∙ lt-ltb places_left (max (needs table log f ρ (take i found)) (need table (rows log) f (ρ ++ τ))) (omega arith) in
+                let is : j'.state ≡ S.Short = few-short state' (omega arith) in
                 let all = most-at (λ (σ : List ℤ). need table (rows log) f (ρ ++ σ)) found i (omega (arith, s.many)) in
                 record {
                   short = λ _. omega arith;
-                  whole = λ n. absurd (true≢false (sym is ∙ n));
-                  behind = λ n. absurd (true≢false (sym is ∙ n));
+                  whole = λ n. absurd (n is);
+                  behind = λ n. absurd (n is);
                 }
 
   module _ (i next : ℕ) (j : Join) (out : Words) (inv : InstancesSoFar i next j out) where
@@ -223,7 +220,7 @@ module _ (table words log : Words) (b : Bool) (level scope v body from k used : 
         let (state, ends, fine) = inv ρ found f end o s node in
         let all : take i found ≡ found = take_all i found (omega (arith, s.many)) in
         record {
-          short = λ n. absurd (true≢false (sym n ∙ fine));
+          short = λ n. let few = short-few state n in absurd (omega arith);
           whole = λ _. subst (λ (l : List (List ℤ)). Joining b (bodies table log f ρ l) (needs table log f ρ l) places_left out j) all state;
           behind = λ _. is;
         }

@@ -5,9 +5,9 @@ use mathlib.Core.Path.{◌≡◌, refl, sym, ap, ◌∙◌, subst}
 use mathlib.Core.Bool.{Bool, true, true≢false}
 use lib.ListN.{length}
 use lib.IntN.{nat_abs}
-use Rattle.model.specs.Words.{Words, value, scope_limit}
+use Rattle.model.specs.Words.{Words, word, value, scope_limit}
 use Rattle.model.specs.Log.{rows}
-use Rattle.model.specs.Tag.{Tag}
+use Rattle.model.specs.Tag.{Tag, tag_of}
 use Rattle.model.specs.Tree.{Tree, Trees, join, count}
 use Rattle.model.specs.Level.{Role, restriction, formula, operand, under, quantifier_cost, cost}
 use Rattle.model.specs.Reading.{is_formula, own}
@@ -15,7 +15,8 @@ use Rattle.model.specs.Reduction.{reduce, need}
 use Rattle.laws.specs.Reading.Formed.{Formed}
 use Rattle.laws.specs.Reading.Nodes.{Node, Nodes}
 use Rattle.laws.specs.Reading.Parts.{plain-parts, atom-parts, compare-parts, join-parts}
-use Rattle.policies.specs.Standing.{HereAll}
+use Rattle.policies.specs.Node.{Sized}
+use Rattle.policies.specs.Standing.{Here, HereAll}
 use Rattle.policies.proofs.Standing.{has}
 use Rattle.policies.proofs.Stood.{Stood}
 use Rattle.environments.specs.declared.environment.Environment.{Environment}
@@ -33,6 +34,21 @@ unfolding under is_formula
 operand-under restriction b k = absurd (true≢false (sym k))
 operand-under formula b k = refl
 operand-under (operand a) b k = refl
+
+-- the formula whose tag, cost and size are read
+abbrev pub stood :
+    (table words : Words) (role : Role) (above scope at : ℕ) {tag : Tag} {c n : ℕ}
+    (kind : is_formula role ≡ true) (here : Here table words role above scope at) (known : tag ≡ tag_of (word words at))
+    (deep : c ≡ cost role tag) (size : Sized words tag at n) →
+    Stood table words role above scope at tag (above + c) (at + n)
+stood table words role above scope at kind here known deep size =
+    record {
+      kind = kind;
+      here = here;
+      known = known;
+      deep = ap (λ (n : ℕ). above + n) deep;
+      first = ap (λ (n : ℕ). at + n) (size role scope);
+    }
 
 module _ (table words log : Words) {role : Role} {above scope at : ℕ} {tag : Tag} {level next : ℕ}
     (node : Stood table words role above scope at tag level next) where

@@ -3,7 +3,7 @@ use Prim.Native.Nat.{ℕ, ◌+◌, ◌*◌, ◌-◌, ◌≤◌, ◌<◌}
 use native.Mathlib.Omega.{arith}
 use mathlib.Core.Path.{◌≡◌, sym, ap, ap₂, ◌∙◌, subst}
 use mathlib.Core.Logic.{⊎_elim}
-use mathlib.Core.Bool.{Bool, false, cond}
+use mathlib.Core.Bool.{Bool, cond}
 use mathlib.Core.List.{List, [], ◌∷◌, ◌++◌, map}
 use lib.ListN.{length, get_or, take, drop}
 use lib.Dec.{ltb}
@@ -26,8 +26,8 @@ use Rattle.environments.specs.declared.environment.Environment.{Environment}
 use Rattle.joining.specs.declared.answer.Reduced.{Reduced}
 use Rattle.joining.specs.declared.answer.Reduced.TheVariants.{Short}
 use Rattle.nodes.specs.declared.prepare.Placed.{Placed}
-use Rattle.nodes.specs.declared.prepare.Prepared.{Prepared}
-use Rattle.nodes.specs.declared.prepare.Prepared.TheVariants as P
+use Rattle.std.specs.Prelude.{Option, Some, None}
+use Rattle.joining.specs.declared.join.State.TheVariants as S
 use Rattle.reduction.specs.declared.walk.Walked.{Walked}
 use Rattle.reduction.specs.declared.walk.Worked.{Worked}
 use Rattle.joining.specs.Answer.{settled, told, Answers}
@@ -142,7 +142,7 @@ module _ (table words log : Words) (b : Bool) (level scope at u : ℕ) (is : u �
 
       -- what was prepared
       pub prepared_short :
-          (places : ℕ) (scratch : Words) (r : Prepared) → r ≡ P.Short →
+          (places : ℕ) (scratch : Words) (r : Option Placed) → r ≡ None →
           InstancesTell table words log scope u at c ρ body_at places scratch r →
           places < listed table log scope u c ρ + needs table log f ρ found
       prepared_short places scratch r e t =
@@ -150,7 +150,7 @@ module _ (table words log : Words) (b : Bool) (level scope at u : ℕ) (is : u �
           omega arith
 
       pub prepared_stood :
-          (places : ℕ) (scratch : Words) (r : Prepared) (p : Placed) → r ≡ P.Instances p →
+          (places : ℕ) (scratch : Words) (r : Option Placed) (p : Placed) → r ≡ Some p →
           InstancesTell table words log scope u at c ρ body_at places scratch r →
           InstancesStand table words log scope u at c ρ body_at places scratch p
       prepared_stood places scratch r p e t = subst (InstancesTell table words log scope u at c ρ body_at places scratch) e t
@@ -189,7 +189,7 @@ module _ (table words log : Words) (b : Bool) (level scope at u : ℕ) (is : u �
       abbrev pub concluding :
           (scratch now out : Words) (from k used places body : ℕ) (w : Worked) (below : from + k ≤ used)
           (kept : take (17 * used) now ≡ take (17 * used) scratch) (s : Found scratch scope from u k found) (is_Is_body : body ≡ body_at)
-          (works : Works b table log f ρ found places next out w) (e : w.join.short ≡ false) →
+          (works : Works b table log f ρ found places next out w) (e : w.join.state ≡ S.Short → ⊥) →
           Concluding table words now out held scope at body w.next from k w.join
       concluding scratch now out from k used places body w below kept s is_Is_body works e = record {
         b = b;

@@ -1,5 +1,5 @@
 -- What the walks of formulas say: of the tree that stands at an index, its reduction and its need of places.
-use Rattle.std.specs.Prelude.{ℕ, ◌+◌, ◌<◌, ◌≡◌, Bool, true, false, List, ◌++◌, ℤ}
+use Rattle.std.specs.Prelude.{ℕ, ◌<◌, ◌≡◌, Bool, List, ◌++◌, ℤ}
 use Rattle.model.specs.Words.{Words}
 use Rattle.model.specs.Log.{rows}
 use Rattle.model.specs.Tree.{Tree, Trees, join, quantifier, count}
@@ -8,6 +8,7 @@ use Rattle.model.specs.Reduction as M
 use Rattle.laws.specs.Reading.Nodes.{Node, Nodes}
 use Rattle.environments.specs.declared.environment.Environment.{Environment}
 use Rattle.joining.specs.declared.answer.Reduced.TheVariants.{Short}
+use Rattle.joining.specs.declared.join.State.TheVariants as State
 use Rattle.reduction.specs.declared.walk.Walked.{Walked}
 use Rattle.reduction.specs.declared.walk.Worked.{Worked}
 use Rattle.joining.specs.Answer.{Answers}
@@ -62,6 +63,6 @@ abbrev pub needs : (table log : Words) (f : Tree) (ρ : List ℤ) (found : List 
 needs table log f ρ found = M.most (λ τ. M.need table (rows log) f (ρ ++ τ)) found
 
 pub record Works (b : Bool) (table log : Words) (f : Tree) (ρ : List ℤ) (found : List (List ℤ)) (places next : ℕ) (after : Words) (r : Worked) : Type 0 where
-  pub short : r.join.short ≡ true → places < needs table log f ρ found
-  pub whole : r.join.short ≡ false → Joining b (bodies table log f ρ found) (needs table log f ρ found) places after r.join
-  pub behind : r.join.short ≡ false → r.next ≡ next
+  pub short : r.join.state ≡ State.Short → places < needs table log f ρ found
+  pub whole : (r.join.state ≡ State.Short → ⊥) → Joining b (bodies table log f ρ found) (needs table log f ρ found) places after r.join
+  pub behind : (r.join.state ≡ State.Short → ⊥) → r.next ≡ next

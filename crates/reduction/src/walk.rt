@@ -13,8 +13,8 @@ ghost use Rattle.reduction.specs.Walk as R;
 
 use environments::environment::Environment;
 use joining::answer::Reduced;
-use joining::join::Join;
-use nodes::prepare::{Placed, Prepared};
+use joining::join::{Join, State};
+use nodes::prepare::Placed;
 use nodes::{conclude, ground, prepare};
 use policies::node;
 use policies::node::{Role, Tag};
@@ -60,8 +60,7 @@ fn children(
 {
     let mut join = Join::new(kind);
     let mut next = at;
-    let mut i = 0;
-    while i < n {
+    for _ in 0..n {
         let from = join.words;
         let child = formula(
             table,
@@ -82,7 +81,6 @@ fn children(
         }
         join = join.add(out, answer);
         next = child.next;
-        i += 1;
     }
     let answer = join.finish(out);
     Walked { answer, next }
@@ -126,8 +124,7 @@ fn instances(
     let body = placed.body;
     let mut join = Join::new(kind);
     let mut next = body;
-    let mut i = 0;
-    while i < k {
+    for i in 0..k {
         let bound = ground::instance(environment, scratch, from + i, scope, v);
         let room = Environment::WORDS * used;
         let start = join.words;
@@ -150,7 +147,6 @@ fn instances(
             return Worked { join, next };
         }
         next = child.next;
-        i += 1;
     }
     if k == 0 {
         return Worked {
@@ -197,7 +193,7 @@ fn quantifier(
         v,
         at,
     );
-    let Prepared::Instances(placed) = prepared else {
+    let Some(placed) = prepared else {
         return Walked {
             answer: Reduced::Short,
             next: at,
@@ -218,7 +214,7 @@ fn quantifier(
         placed,
     );
     let join = worked.join;
-    if join.short {
+    if join.state == State::Short {
         return Walked {
             answer: Reduced::Short,
             next: at,

@@ -31,11 +31,10 @@ module _ (table policy log : Words) (scratch buffer : ℕ) where
       (after : Words) {a : Answer} {r : Refusal} {p : ℕ} →
       a ≡ check_policy table policy →
       a ≡ Err (refused_at r p) →
-      LeavesResidual table policy log scratch buffer after a
+      LeavesResidual table policy log scratch buffer after (Err (refused_at r p))
   unfolding ask_reduction ◌>>=◌
   policy-refused after {a} {r} {p} e f =
-      let was = policy_was_refused table policy (sym f ∙ e) in
-      subst (LeavesResidual table policy log scratch buffer after) (sym f) (leaves-refused buffer after (rw was refl))
+      let was = policy_was_refused table policy (sym f ∙ e) in leaves-refused buffer after (rw was refl)
 
   pub policy-accepted : {a : Answer} {n : ℕ} → a ≡ check_policy table policy → a ≡ Ok n → Accepts table policy
   policy-accepted e f = policy_was_passed table policy (sym f ∙ e)

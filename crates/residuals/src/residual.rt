@@ -16,20 +16,15 @@ use checks::check_policy;
 use environments::environment::Environment;
 use joining::answer::Reduced;
 use logs::links;
-use model::{Answer, POLICY_LIMIT, Refusal};
+use model::{Answer, POLICY_LIMIT, Refusal, Refused};
 use policies::node::Role;
 use reduction::walk;
-use tables::Checked;
 
 // So many words of a buffer are lent to the walk: no residual has more.
 fn lendable(words: usize) -> usize
     ensures { result ≡ R.lendable words }
 {
-    if words < POLICY_LIMIT {
-        words
-    } else {
-        POLICY_LIMIT
-    }
+    words.min(POLICY_LIMIT)
 }
 
 // The walk of an accepted policy over a chained log.
@@ -67,15 +62,11 @@ fn walk_policy(
 fn write_plain(value: bool, buffer: &mut [i32]) -> Answer
     ensures { R.Leaves (write (length buffer.old) (plain value)) (length buffer.old) buffer.new result }
 {
-    if buffer.len() < 1 {
-        return Answer::Refused(Refusal::Room, 0);
+    if buffer.is_empty() {
+        return Err(Refused(Refusal::Room, 0));
     }
-    if value {
-        buffer[0] = 1;
-        return Answer::Accepted(1);
-    }
-    buffer[0] = 0;
-    Answer::Accepted(1)
+    buffer[0] = i32::from(value);
+    Ok(1)
 }
 
 // Questions 11 and 12, from what the walk answered.
@@ -85,10 +76,10 @@ fn settle(reduced: Reduced, buffer: &mut [i32]) -> Answer
         R.Leaves (R.settled places need (length buffer.old) tree) (length buffer.old) buffer.new result }
 {
     match reduced {
-        Reduced::Short => Answer::Refused(Refusal::Scratch, 0),
+        Reduced::Short => Err(Refused(Refusal::Scratch, 0)),
         Reduced::Plain(value) => write_plain(value, buffer),
-        Reduced::Long => Answer::Refused(Refusal::Room, 0),
-        Reduced::Part(words) => Answer::Accepted(words),
+        Reduced::Long => Err(Refused(Refusal::Room, 0)),
+        Reduced::Part(words) => Ok(words),
     }
 }
 
@@ -104,10 +95,7 @@ fn over_log(
     requires { Accepts table.now policy.now × (links.old ≡ replicate 33026 0) }
     ensures { R.Leaves (ask_reduction table.now policy.now log.now (length scratch.old) (length buffer.old)) (length buffer.old) buffer.new result }
 {
-    let checked = links::check_and_link(table, log, links);
-    if let Checked::Refused(refusal, place) = checked {
-        return Answer::Refused(refusal, place);
-    }
+    links::check_and_link(table, log, links)?;
     let reduced = walk_policy(table, policy, log, links, scratch, buffer);
     settle(reduced, buffer)
 }
@@ -122,10 +110,7 @@ pub fn residual(
 ) -> Answer
     ensures { R.Leaves (ask_reduction table.now policy.now log.now (length scratch.old) (length buffer.old)) (length buffer.old) buffer.new result }
 {
-    let accepted = check_policy(table, policy);
-    let Answer::Accepted(_) = accepted else {
-        return accepted;
-    };
+    check_policy(table, policy)?;
     let mut links = [0; links::LINKS];
     over_log(table, policy, log, &mut links, scratch, buffer)
 }

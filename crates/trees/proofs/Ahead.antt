@@ -1,24 +1,19 @@
 -- The first of the trees that are still to be passed, and what follows its own words.
 use Prim.Native.Nat.{ℕ, suc, ◌+◌, ◌-◌, ◌≤◌, ◌<◌}
 use native.Mathlib.Omega.{arith}
-use mathlib.Core.Path.{◌≡◌, sym, ap, ◌∙◌, subst}
+use mathlib.Core.Path.{◌≡◌, refl, sym, ap, ◌∙◌, subst}
 use lib.ListN.{length}
 use Rattle.model.specs.Words.{Words, word}
 use Rattle.model.specs.Tag.{Tag, tag_of}
-use Rattle.model.specs.Tree.{Tree, Trees, cons, count, encode}
+use Rattle.model.specs.Tree.{Trees, cons, count, encode}
 use Rattle.laws.specs.Reading.Parts.{root}
 use Rattle.policies.specs.Node.{There, Sized}
 use Rattle.trees.specs.Grown.{Grown, below}
 use Rattle.trees.specs.Own.{mine}
-use Rattle.trees.proofs.Rows.{Row, row_first, row-some, row-few, row-children}
+use Rattle.trees.specs.Walk.{Row, Ahead, Passed}
+use Rattle.trees.specs.declared.walk.Walk.{Walk}
+use Rattle.trees.proofs.Rows.{row_first, row-some, row-few, row-children}
 use Rattle.trees.proofs.Rows.{glue, glue_count, children, tree_tag, tree-size, tree-own, tree-below}
-
--- what stands at an index is one tree, then others, up to an end
-pub record Ahead (words : Words) (at left : ℕ) (end : ℕ) : Type 0 where
-  pub first : Tree
-  pub others : Trees
-  pub row : Row words at (cons first others) end
-  pub number : suc (count others) ≡ left
 
 pub ahead : (words : Words) (at left end : ℕ) (ts : Trees) → Row words at ts end → count ts ≡ left → 0 < left → Ahead words at left end
 unfolding count
@@ -75,3 +70,25 @@ module _ (words : Words) (at left end : ℕ) (a : Ahead words at left end) where
 
       pub ahead_fits : at + own + (left - 1 + more) ≤ length words
       ahead_fits = omega (arith, row-few words (at + own) end _ ahead_row, ahead_count)
+
+-- a step of a walk past the node of the first tree
+module _ (words : Words) (at left end : ℕ) (a : Ahead words at left end) (tag : Tag) (e : tag ≡ tag_of (word words at)) where
+  pub passed : (after : Walk) (own more : ℕ) → more ≡ below words tag at → Sized words tag at own → after ≡ record { at = at + own; left = left - 1 + more } → Passed words tag (record { at = at; left = left }) after
+  passed after own more m o is =
+      record {
+        own = own;
+        size = o;
+        some = own-some words at left end a tag e more own m o;
+        at = ap (λ (w : Walk). w.at) is;
+        left = ap (λ (w : Walk). w.left) is ∙ ap (λ (n : ℕ). left - 1 + n) m;
+        fits = subst (λ (w : Walk). w.at + w.left ≤ length words) (sym is) (ahead_fits words at left end a tag e more own m o);
+      }
+
+  module _ (after : Walk) (p : Passed words tag (record { at = at; left = left }) after) where
+    pub passed_row : Row words after.at (glue (children a.first) a.others) end
+    passed_row =
+        subst (λ (n : ℕ). Row words n (glue (children a.first) a.others) end) (sym p.at)
+        (ahead_row words at left end a tag e (below words tag at) p.own refl p.size)
+
+    pub passed_count : count (glue (children a.first) a.others) ≡ after.left
+    passed_count = ahead_count words at left end a tag e (below words tag at) p.own refl p.size ∙ sym p.left

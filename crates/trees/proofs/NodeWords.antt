@@ -19,7 +19,7 @@ use Rattle.trees.proofs.Rows.{children, tree-words, tree_tag, tree-own}
 use Rattle.words.specs.Laying.{laid}
 use Rattle.words.proofs.LayingLaws.{laid-laid, laid-long}
 use Rattle.trees.specs.Own.{Terms, terms, own_words}
-use Rattle.trees.proofs.OwnLaws.{lead, terms_of, mine-parts, mine-long, tree-terms, put-own, put-own-long}
+use Rattle.trees.proofs.OwnLaws.{lead, terms_of, mine-parts, mine-long, tree-terms, put-own}
 
 module _
     (words : Words)
@@ -99,8 +99,3 @@ module _
             ∙ ap₂ (λ (l : Words) (k : ℕ). laid l (to + k) new) (e ∙ ap (laid old to) front_taken) (sym front-is)
             ∙ laid-laid old to front new (omega (arith, long, whole))
             ∙ ap (laid old to) (sym (put-own ρ t))
-
-        pub node-long : (ρ after : Words) → after ≡ laid old to (own_words (put t ρ)) → length after ≡ length old
-        node-long ρ after f =
-            ap length f
-            ∙ laid-long old to (own_words (put t ρ)) (omega (arith, put-own-long ρ t, tree-own words at next t g tag told own o))

@@ -20,6 +20,7 @@ use Rattle.laws.specs.Putting.Modes.{encode_term-length, terms-length}
 use Rattle.policies.specs.Node.{Sized}
 use Rattle.trees.specs.Grown.{Tupled, TupledAll, Grown, below}
 use Rattle.trees.specs.Own.{mine}
+use Rattle.trees.specs.Walk.{Row}
 
 -- trees, then trees
 unfoldable pub glue : Trees → Trees → Trees
@@ -74,12 +75,6 @@ tuples-long : (v : ℕ) (τs : List (List ℤ)) → AllOfLength v τs → length
 unfolding gather AllOfLength
 tuples-long v [] h = omega arith
 tuples-long v (τ ∷ τs) h = length-append τ (gather (λ (tuple : List ℤ). tuple) τs) ∙ omega (arith, h.0, tuples-long v τs h.1)
-
-module _ (words : Words) (at : ℕ) where
-  -- trees stand at an index one behind another, and `end` is the index behind them
-  pub record Row (ts : Trees) (end : ℕ) : Type 0 where
-    pub stands : Stands words at (encode_all ts) end
-    pub tupled : TupledAll ts
 
 module _ (words : Words) (at end : ℕ) (t : Tree) (us : Trees) (row : Row words at (cons t us) end) where
   -- the first of them

@@ -1,9 +1,13 @@
 -- What the words of a term become when numbers are put in: the first word tells a constant from a variable.
-use Prim.Native.Nat.{ℕ, ◌+◌, ◌-◌, ◌≤◌, ◌<◌}
-use mathlib.Core.Path.{◌≡◌, refl, ap, sym, ◌∙◌}
+use Prim.Native.Nat.{ℕ, ◌+◌, ◌-◌, ◌≤◌, ◌<◌, ◌^◌}
+use native.Mathlib.Omega.{arith}
+use mathlib.Core.Path.{◌≡◌, refl, ap, sym, ◌∙◌, subst}
 use mathlib.Core.Bool.{true, false}
 use mathlib.Core.List.{[], ◌∷◌}
 use lib.ListN.{length, get_or, set}
+use lib.Signed.{mag}
+use mir.Syntax.{w32}
+use mir.Val.{SFits}
 use lib.IntN.{ℤ, pos, nat_abs}
 use Rattle.model.specs.Words.{Words, word, value, equal}
 use Rattle.model.specs.Tree.{Term, constant, variable, encode_term}
@@ -42,9 +46,17 @@ module _ (ρ words : Words) (from : ℕ) where
     term-variable (constant k) s = clash (ap (λ (z : ℤ). equal z (pos 0)) (two-stand words _ _ _ s).0) no
     term-variable (variable x) s = (x, refl, (two-stand words _ _ _ s).1)
 
-    pub term-word : (t : Term) → Here t → word words (from + 1) ≡ pos (value words (from + 1))
+    term-word : (t : Term) → Here t → word words (from + 1) ≡ pos (value words (from + 1))
     unfolding value
     term-word t s = let (x, e, w) = term-variable t s in w ∙ ap (λ (z : ℤ). pos (nat_abs z)) (sym w)
+
+    -- a greater variable lowered is a word, as the variable is
+    pub term-fits :
+        (t : Term) → Here t → SFits w32 (word words (from + 1)) →
+        (x : ℕ) → x ≡ value words (from + 1) → SFits w32 (pos (x - length ρ))
+    term-fits t s f x e =
+        let small : value words (from + 1) < 2 ^ 31 = subst (λ (z : ℤ). mag z < 2 ^ 31) (term-word t s) f.sfits in
+        record { sfits = omega (arith, e) }
 
     -- an outer variable becomes its number
     pub term-outer :

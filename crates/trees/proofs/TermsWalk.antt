@@ -11,7 +11,7 @@ use Rattle.model.specs.Putting.{put_term}
 use Rattle.laws.specs.Words.Standing.{Stands, stands-left, stands-right}
 use Rattle.laws.specs.Putting.Modes.{encode_term-length, terms-length}
 use Rattle.words.specs.Laying.{laid}
-use Rattle.words.proofs.LayingLaws.{Filled, fill_start, fill-room, fill-long, fill_more, fill_end}
+use Rattle.words.proofs.LayingLaws.{Filled, fill_start, fill-room, fill-long, fill_more}
 use Rattle.trees.specs.Own.{Terms}
 
 -- the first of some terms, and the others
@@ -81,9 +81,6 @@ module _ (ρ words : Words) (from n : ℕ) (old : Words) (to : ℕ) where
           ),
         )
 
-    pub terms-long : (ts : List Term) × Terms words from n ts → length out ≡ length old
-    terms-long (ts, r) = let (rest, here, fill) = w ts r in fill-long old to (new ts) (new rest) (2 * i) out fill
-
     pub terms-more :
         i < n →
         (after : Words) →
@@ -100,9 +97,3 @@ module _ (ρ words : Words) (from n : ℕ) (old : Words) (to : ℕ) where
               (omega (arith, encode_term-length (put_term ρ t)))
               (put t s),
         )
-
-    pub terms_end : n ≤ i → (ts : List Term) → Terms words from n ts → out ≡ laid old to (new ts)
-    unfolding gather
-    terms_end h ts r =
-        let (rest, here, fill) = w ts r in
-        fill_end old to (new ts) (new rest) (2 * i) out fill (ap new (terms-none words _ _ rest here (omega arith)))

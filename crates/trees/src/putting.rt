@@ -12,7 +12,7 @@ ghost use Rattle.trees.specs.Grown as G;
 ghost use Rattle.words.specs.Laying.{laid};
 ghost use Rattle.trees.specs.Own as O;
 
-use crate::walk;
+use crate::walk::Walk;
 use policies::node;
 use policies::node::Tag;
 use words::copying::copy_words;
@@ -48,10 +48,8 @@ fn put_terms(numbers: &[i32], words: &[i32], from: usize, n: usize, out: &mut [i
         O.Terms words.now from n ts →
         out.new ≡ laid out.old to (gather encode_term (map (P.put_term numbers.now) ts)) }
 {
-    let mut i = 0;
-    while i < n {
+    for i in 0..n {
         put_term(numbers, words, from + 2 * i, out, to + 2 * i);
-        i += 1;
     }
 }
 
@@ -100,15 +98,13 @@ pub fn put(numbers: &[i32], words: &[i32], at: usize, out: &mut [i32])
         out.new
         ≡ encode (P.put tree numbers.now) ++ drop (length (encode tree)) out.old }
 {
-    let mut left = 1;
-    let mut from = at;
-    while 0 < left {
+    let mut walk = Walk::new(at);
+    // By hand: the step is the size of the node that stands there.
+    while 0 < walk.left {
+        let from = walk.at;
         let tag = node::tag_at(words, from);
-        let more = walk::below(words, tag, from);
-        let own = node::size(words, tag, from);
-        put_node(numbers, words, tag, from, own, out, from - at);
-        left = left - 1 + more;
-        from += own;
+        walk = walk.past(words, tag);
+        put_node(numbers, words, tag, from, walk.at - from, out, from - at);
     }
 }
 

@@ -7,7 +7,7 @@ ghost use Rattle.model.specs.Answer.{number};
 ghost use Rattle.model.specs.Calls as C;
 ghost use Rattle.vitrinehawk.specs.Detail.{detailed};
 
-use model::Answer;
+use model::{Answer, Refused};
 
 // The number of an accepted answer.
 const ACCEPTED: u32 = 0;
@@ -18,13 +18,13 @@ fn tell(answer: Answer, detail: &mut u64) -> u32
     ensures detail_after { detail.new ≡ detailed answer }
 {
     match answer {
-        Answer::Accepted(count) => {
+        Ok(count) => {
             *detail = count as u64;
             ACCEPTED
         }
-        Answer::Refused(refusal, place) => {
+        Err(Refused(refusal, place)) => {
             *detail = place as u64;
-            model::number(refusal)
+            u32::from(refusal)
         }
     }
 }

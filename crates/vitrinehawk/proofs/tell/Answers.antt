@@ -5,18 +5,18 @@ use Rattle.model.specs.Answer.{number}
 use Rattle.vitrinehawk.specs.Detail.{detailed}
 use Rattle.vitrinehawk.proofs.tell.Goals as goal
 
-pub returns-in-Accepted : goal.returns-in-Accepted
+pub returns-in-Ok : goal.returns-in-Ok
 unfolding number detailed
-returns-in-Accepted c =
+returns-in-Ok c =
     record {
-      value = omega (arith, ap number c.in-Accepted.is);
-      detail_after = omega (arith, ap detailed c.in-Accepted.is);
+      value = omega (arith, ap number c.in-Ok.is);
+      detail_after = omega (arith, ap detailed c.in-Ok.is);
     }
 
-pub returns-in-Refused : goal.returns-in-Refused
+pub returns-in-Err : goal.returns-in-Err
 unfolding number detailed
-returns-in-Refused c =
+returns-in-Err c =
     record {
-      value = omega (arith, c.number.ensures, ap number c.in-Refused.is);
-      detail_after = omega (arith, ap detailed c.in-Refused.is);
+      value = omega (arith, c.from.ensures, ap number c.in-Err.is);
+      detail_after = omega (arith, ap detailed c.in-Err.is);
     }

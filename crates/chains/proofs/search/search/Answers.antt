@@ -1,7 +1,7 @@
 -- `chains::search::search` meets its contract. The outer invariant: the rows passed don't hold the atom, so the search comes to
 -- that through what is left of the chain. The inner one: the row has the predicate, and holds the atom if its arguments from
--- i on are the atom's. The measures are the link, which falls along a chain, and the arguments left.
-use Prim.Native.Nat.{ℕ, ◌+◌, ◌*◌, ◌-◌, ◌/◌, ◌≤◌, ◌<◌}
+-- i on are the atom's. The measure is the link, which falls along a chain.
+use Prim.Native.Nat.{ℕ, ◌+◌, ◌*◌, ◌-◌, ◌/◌, ◌<◌}
 use native.Mathlib.Omega.{arith}
 use mathlib.Core.Path.{refl, sym, ap, ◌∙◌}
 use lib.ListN.{length}
@@ -18,10 +18,7 @@ pub offset_bounds-links-start : goal.offset_bounds-links-start
 offset_bounds-links-start c = omega (arith, key-small c.args.predicate c.args.arguments.now 0, c.requires.2)
 
 pub bounds-links-start : goal.bounds-links-start
-unfolding row_count
-bounds-links-start c =
-    let a = c.args in
-    omega (arith, key-small a.predicate a.arguments.now 0, c.requires.2, c.requires.0.within)
+bounds-links-start c = omega (arith, key-small c.args.predicate c.args.arguments.now 0, c.requires.2, c.requires.0.within)
 
 pub rows-init : goal.rows-init
 unfolding row_count
@@ -40,143 +37,73 @@ rows-init c =
     )
 
 pub overflow_sub-row : goal.overflow_sub-row
-unfolding row_count
-overflow_sub-row c =
-    let rows = c.rows in
-    let a = c.args in
-    let found =
-    search_row a.log.now a.predicate a.arguments.now a.start (length a.log.now / 8) rows.invariant.0
-    rows.link rows.invariant.1 c.if-link-eq0.false in
-    let inside : ((length a.log.now / 8) - rows.link) < (length a.log.now / 8) = found.0.inside in
-    let few : rows.link ≤ (length a.log.now / 8) = found.1 in
-    let room = c.requires.0.within in
-    omega arith
+overflow_sub-row c = (search_row c.rows.invariant.1 c.if-link-eq0.false).1
 
 pub bounds-links-row : goal.bounds-links-row
 unfolding row_count
-bounds-links-row c =
-    let rows = c.rows in
-    let a = c.args in
-    let found =
-    search_row a.log.now a.predicate a.arguments.now a.start (length a.log.now / 8) rows.invariant.0
-    rows.link rows.invariant.1 c.if-link-eq0.false in
-    let inside : ((length a.log.now / 8) - rows.link) < (length a.log.now / 8) = found.0.inside in
-    let few : rows.link ≤ (length a.log.now / 8) = found.1 in
-    let room = c.requires.0.within in
-    omega arith
+bounds-links-row c = omega (arith, (search_row c.rows.invariant.1 c.if-link-eq0.false).0.inside, c.requires.0.within)
 
 pub rows-smaller-then-not-is : goal.rows-smaller-then-not-is
 unfolding row_count
-rows-smaller-then-not-is c =
-    let rows = c.rows in
-    let a = c.args in
-    search_less a.log.now a.predicate a.arguments.now a.start (length a.log.now / 8) rows.invariant.0
-    rows.link rows.invariant.1 c.if-link-eq0.false a.links.now 16384 _ c.requires.0 refl
+rows-smaller-then-not-is c = search_less c.rows.invariant.1 c.if-link-eq0.false c.requires.0 refl
 
 pub rows-preserved-then-not-is : goal.rows-preserved-then-not-is
 unfolding row_count
 rows-preserved-then-not-is c =
-    let rows = c.rows in
-    let a = c.args in (
-      ((length a.log.now / 8) - rows.link) + 1,
-      search_next a.log.now a.predicate a.arguments.now
-          a.start (length a.log.now / 8) rows.invariant.0 rows.link rows.invariant.1 c.if-link-eq0.false a.links.now
-          16384 _ c.requires.0 refl
-          (holds_not a.log.now a.predicate a.arguments.now ((length a.log.now / 8) - rows.link)
-          (sym c.is.ensures ∙ c.if-not-is.true)),
+    let a = c.args in
+    let row = length a.log.now / 8 - c.rows.link in (
+      row + 1,
+      search_next c.rows.invariant.1 c.if-link-eq0.false c.requires.0 refl
+          (holds_not a.log.now a.predicate a.arguments.now row (sym c.is.ensures ∙ c.if-not-is.true)),
     )
 
 pub loop-i-init : goal.loop-i-init
 loop-i-init c =
-    let rows = c.rows in
-    let a = c.args in (
-      omega arith,
-      holds-here a.log.now a.predicate a.arguments.now ((length a.log.now / 8) - rows.link)
-          (omega (arith, c.requires.1)) (sym c.is.ensures ∙ c.if-not-is.false) ∙ sym
-          (rest-start a.log.now (8 * ((length a.log.now / 8) - rows.link) + 2) a.arguments.now 0),
-    )
+    let a = c.args in
+    let row = length a.log.now / 8 - c.rows.link in
+    holds-here a.log.now a.predicate a.arguments.now row (omega (arith, c.requires.1)) (sym c.is.ensures ∙ c.if-not-is.false)
+    ∙ sym (rest-start a.log.now (8 * row + 2) a.arguments.now 0)
 
 pub same-requires : goal.same-requires
-unfolding row_count
-same-requires c =
-    let rows = c.rows in
-    let a = c.args in
-    let found =
-    search_row a.log.now a.predicate a.arguments.now a.start (length a.log.now / 8) rows.invariant.0
-    rows.link rows.invariant.1 c.if-link-eq0.false in
-    let inside : ((length a.log.now / 8) - rows.link) < (length a.log.now / 8) = found.0.inside in
-    let few : rows.link ≤ (length a.log.now / 8) = found.1 in
-    let room = c.requires.0.within in
-    let six = c.requires.1 in
-    omega arith
+same-requires c = omega (arith, (search_row c.rows.invariant.1 c.if-link-eq0.false).0.inside, c.requires.1)
 
 pub rows-smaller : goal.rows-smaller
 unfolding row_count
-rows-smaller c =
-    let rows = c.rows in
-    let a = c.args in
-    search_less a.log.now a.predicate a.arguments.now a.start (length a.log.now / 8) rows.invariant.0
-    rows.link rows.invariant.1 c.if-link-eq0.false a.links.now 16384 _ c.requires.0 refl
+rows-smaller c = search_less c.rows.invariant.1 c.if-link-eq0.false c.requires.0 refl
 
 pub rows-preserved : goal.rows-preserved
 unfolding row_count
 rows-preserved c =
-    let loop-test = c.loop-i-test in
-    let loop = c.loop-i in
-    let if1 = c.if-link-eq0 in
-    let rows = c.rows in
     let a = c.args in
-    let found =
-    search_row a.log.now a.predicate a.arguments.now a.start (length a.log.now / 8) rows.invariant.0
-    rows.link rows.invariant.1 if1.false in
-    let inside : ((length a.log.now / 8) - rows.link) < (length a.log.now / 8) = found.0.inside in
-    let few : rows.link ≤ (length a.log.now / 8) = found.1 in
-    let room = c.requires.0.within in
+    let row = length a.log.now / 8 - c.rows.link in
+    let found = search_row c.rows.invariant.1 c.if-link-eq0.false in
+    let inside : row < length a.log.now / 8 = found.0.inside in
     let six = c.requires.1 in (
-      ((length a.log.now / 8) - rows.link) + 1,
-      search_next a.log.now a.predicate a.arguments.now
-          a.start (length a.log.now / 8) rows.invariant.0 rows.link rows.invariant.1 if1.false a.links.now 16384 _
-          c.requires.0 refl
-          (loop.invariant.1 ∙ rest-stop a.log.now (8 * ((length a.log.now / 8) - rows.link) + 2) a.arguments.now
-          loop.i (omega (arith, loop-test.true)) (omega (arith, loop-test.true))
+      row + 1,
+      search_next c.rows.invariant.1 c.if-link-eq0.false c.requires.0 refl
+          (c.loop-i.invariant ∙ rest-stop a.log.now (8 * row + 2) a.arguments.now
+          c.loop-i.i (omega (arith, c.loop-i-test.true)) (omega (arith, c.loop-i-test.true))
           (sym c.same.ensures ∙ c.if-not-same.true)),
     )
 
 pub loop-i-preserved : goal.loop-i-preserved
-unfolding row_count
 loop-i-preserved c =
-    let loop-test = c.loop-i-test in
-    let loop = c.loop-i in
-    let rows = c.rows in
     let a = c.args in
-    let found =
-    search_row a.log.now a.predicate a.arguments.now a.start (length a.log.now / 8) rows.invariant.0
-    rows.link rows.invariant.1 c.if-link-eq0.false in
-    let inside : ((length a.log.now / 8) - rows.link) < (length a.log.now / 8) = found.0.inside in
-    let few : rows.link ≤ (length a.log.now / 8) = found.1 in
-    let room = c.requires.0.within in
-    let six = c.requires.1 in (
-      omega arith,
-      loop.invariant.1 ∙ rest-step a.log.now (8 * ((length a.log.now / 8) - rows.link) + 2)
-          a.arguments.now loop.i (omega (arith, loop-test.true)) (omega (arith, loop-test.true))
-          (sym c.same.ensures ∙ c.if-not-same.false),
-    )
+    let row = length a.log.now / 8 - c.rows.link in
+    let found = search_row c.rows.invariant.1 c.if-link-eq0.false in
+    let inside : row < length a.log.now / 8 = found.0.inside in
+    let six = c.requires.1 in
+    c.loop-i.invariant ∙ rest-step a.log.now (8 * row + 2) a.arguments.now c.loop-i.i
+    (omega (arith, c.loop-i-test.true)) (omega (arith, c.loop-i-test.true)) (sym c.same.ensures ∙ c.if-not-same.false)
 
 pub returns-then-link-eq0 : goal.returns-then-link-eq0
 unfolding row_count
-returns-then-link-eq0 c =
-    let rows = c.rows in
-    let a = c.args in
-    search_none a.log.now a.predicate a.arguments.now a.start (length a.log.now / 8) rows.invariant.0
-    rows.link rows.invariant.1 c.if-link-eq0.true
+returns-then-link-eq0 c = search_none c.rows.invariant.1 c.if-link-eq0.true
 
 pub returns-after-loop-i : goal.returns-after-loop-i
 unfolding row_count
 returns-after-loop-i c =
-    let loop = c.loop-i in
-    let rows = c.rows in
     let a = c.args in
-    search_found a.log.now a.predicate a.arguments.now a.start (length a.log.now / 8) rows.invariant.0
-    rows.link rows.invariant.1 c.if-link-eq0.false
-    (loop.invariant.1 ∙ rest_end a.log.now (8 * ((length a.log.now / 8) - rows.link) + 2) a.arguments.now
-    loop.i (omega (arith, c.requires.1, c.loop-i-test.false)))
+    search_found c.rows.invariant.1 c.if-link-eq0.false
+    (c.loop-i.invariant ∙ rest_end a.log.now (8 * (length a.log.now / 8 - c.rows.link) + 2) a.arguments.now
+    c.loop-i.i (omega (arith, c.requires.1, c.loop-i-test.false)))

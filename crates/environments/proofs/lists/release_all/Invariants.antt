@@ -1,6 +1,5 @@
 -- `environments::lists::release_all` meets its contract. The loop's invariant: of every list that stands there, the variable is
 -- dropped in the first i environments.
-use Prim.Native.Nat.{◌-◌, ◌≤◌}
 use mathlib.Core.Path.{◌≡◌}
 use mathlib.Core.List.{List}
 use lib.ListN.{length}
@@ -11,9 +10,4 @@ use Rattle.environments.proofs.lists.release_all.Given as goal
 
 abbrev pub invariant-loop-i : goal.invariant-loop-i
 invariant-loop-i l =
-    (l.i ≤ l.count)
-    × (length l.scratch ≡ length l.initial.scratch)
-    × ((es : List Environment) → Listed l.initial.scratch l.from es → length es ≡ l.i → Released l.variable l.initial.scratch l.scratch l.from es)
-
-abbrev pub decreases-loop-i : goal.decreases-loop-i
-decreases-loop-i l = l.count - l.i
+    (es : List Environment) → Listed l.initial.scratch l.from es → length es ≡ l.i → Released l.variable l.initial.scratch l.scratch l.from es

@@ -1,6 +1,6 @@
 -- `environments::terms::arguments` meets its contract. The loop's invariant: the numbers so far, with those of the terms from
 -- number i on, are what is asked, and zeros stand behind.
-use Prim.Native.Nat.{ℕ, ◌+◌, ◌-◌}
+use Prim.Native.Nat.{ℕ, ◌-◌}
 use native.Mathlib.Omega.{arith}
 use mathlib.Core.Path.{◌≡◌, sym, ap, ap₂, ◌∙◌}
 use mathlib.Core.List.{List, ◌++◌}
@@ -16,7 +16,6 @@ use Rattle.environments.proofs.terms.arguments.Goals as goal
 
 pub loop-i-init : goal.loop-i-init
 loop-i-init c = (
-  omega arith,
   ap length c.requires.4,
   c.requires.4,
   λ e h. numbers-first e c.args.words.now c.args.first c.args.n,
@@ -36,13 +35,12 @@ loop-i-preserved c =
     let i = c.loop-i.i in
     let v = to_z w32 (of_z w32 c.number.result) in
     let back : v ≡ c.number.result = search rules in (
-      omega arith,
-      length-set c.loop-i.arguments i v ∙ c.loop-i.invariant.1,
-      zeros-next c.loop-i.arguments 6 i v (omega (arith, c.requires.1)) c.loop-i.invariant.2,
+      length-set c.loop-i.arguments i v ∙ c.loop-i.invariant.0,
+      zeros-next c.loop-i.arguments 6 i v (omega (arith, c.requires.1)) c.loop-i.invariant.1,
       λ e h.
-          c.loop-i.invariant.3 e h
+          c.loop-i.invariant.2 e h
           ∙ numbers-next e a.words.now a.first a.n c.loop-i.arguments i v
-          c.loop-i-test.true (omega (arith, c.requires.1, c.loop-i.invariant.1)) (back ∙ c.number.ensures e h),
+          c.loop-i-test.true (omega (arith, c.requires.1, c.loop-i.invariant.0)) (back ∙ c.number.ensures e h),
     )
 
 pub returns : goal.returns
@@ -50,5 +48,5 @@ returns c =
     λ e h. let a = c.args in let all : c.loop-i.i ≡ a.n = omega arith in sym
     (take-append-drop c.loop-i.i c.loop-i.arguments) ∙ ap₂ (λ (p q : List ℤ). p ++ q)
     (sym
-    (c.loop-i.invariant.3 e h ∙ numbers-last e a.words.now a.first a.n c.loop-i.arguments c.loop-i.i
-    c.loop-i-test.false)) (c.loop-i.invariant.2 ∙ ap (λ (k : ℕ). replicate (6 - k) (pos 0)) all)
+    (c.loop-i.invariant.2 e h ∙ numbers-last e a.words.now a.first a.n c.loop-i.arguments c.loop-i.i
+    c.loop-i-test.false)) (c.loop-i.invariant.1 ∙ ap (λ (k : ℕ). replicate (6 - k) (pos 0)) all)

@@ -1,6 +1,6 @@
 -- `environments::terms::arguments` meets its contract. The loop's invariant: the numbers so far, with those of the terms from
 -- number i on, are what is asked, and zeros stand behind.
-use Prim.Native.Nat.{◌+◌, ◌-◌, ◌≤◌}
+use Prim.Native.Nat.{◌-◌}
 use mathlib.Core.Path.{◌≡◌}
 use mathlib.Core.List.{◌++◌}
 use lib.ListN.{length, take, drop, replicate}
@@ -13,12 +13,8 @@ use Rattle.environments.proofs.terms.arguments.Given as goal
 
 abbrev pub invariant-loop-i : goal.invariant-loop-i
 invariant-loop-i l =
-    (l.i ≤ l.n)
-    × (length l.arguments ≡ 6)
+    (length l.arguments ≡ 6)
     × (drop l.i l.arguments ≡ replicate (6 - l.i) (pos 0))
     × ((e : Environment) →
     l.numbers ≡ numbers_of e →
     numbers_in e (terms_at l.words l.first l.n) ≡ take l.i l.arguments ++ numbers_from e l.words l.first l.n l.i)
-
-abbrev pub decreases-loop-i : goal.decreases-loop-i
-decreases-loop-i l = l.n - l.i

@@ -1,5 +1,5 @@
 -- `environments::terms::number` meets its contract: a term in scope that is no constant is a variable below 16.
-use Prim.Native.Nat.{ℕ, ◌<◌}
+use Prim.Native.Nat.{ℕ}
 use native.Mathlib.Omega.{arith}
 use mathlib.Core.Path.{◌≡◌, sym, ap, ◌∙◌}
 use mathlib.Core.List.{List}
@@ -7,6 +7,8 @@ use lib.ListN.{get_or}
 use lib.IntN.{ℤ, pos}
 use mir.Syntax.{w32}
 use mir.Val.{to_z, of_z}
+use mathlib.Core.Bool.{false}
+use Rattle.model.specs.Words.{word, equal}
 use Rattle.model.specs.Listing.{number_in}
 use Rattle.policies.proofs.TermLaws.{variable-small}
 use Rattle.environments.proofs.Places.{number_at}
@@ -22,27 +24,22 @@ returns-then-is c = λ e h.
 
 pub offset_bounds-numbers-x : goal.offset_bounds-numbers-x
 offset_bounds-numbers-x c =
-    let small : c.value-x.result < 16 = let v = variable-small c.args.words.now c.args.at 16 c.requires.2 (sym c.is.ensures ∙ c.if-is.false) in
-    omega (arith, c.value-x.ensures) in
-    omega (arith, small)
+    omega (arith, c.value-x.ensures, variable-small c.args.words.now c.args.at 16 c.requires.2 (sym c.is.ensures ∙ c.if-is.false))
 
 pub bounds-numbers-x : goal.bounds-numbers-x
 bounds-numbers-x c =
-    let small : c.value-x.result < 16 = let v = variable-small c.args.words.now c.args.at 16 c.requires.2 (sym c.is.ensures ∙ c.if-is.false) in
-    omega (arith, c.value-x.ensures) in
-    omega (arith, small, c.requires.0)
+    omega (arith, c.requires.0, c.value-x.ensures, variable-small c.args.words.now c.args.at 16 c.requires.2 (sym c.is.ensures ∙ c.if-is.false))
 
 pub returns : goal.returns
-returns c =
-    let small : c.value-x.result < 16 = let v = variable-small c.args.words.now c.args.at 16 c.requires.2 (sym c.is.ensures ∙ c.if-is.false) in
-    omega (arith, c.value-x.ensures) in
-    λ e h.
+returns c = λ e h.
     let a = c.args in
     let x = c.value-x.result in
+    let not : equal (word a.words.now a.at) (pos 0) ≡ false = sym c.is.ensures ∙ c.if-is.false in
+    let small = variable-small a.words.now a.at 16 c.requires.2 not in
     let v = get_or a.numbers.now x (pos 0) in
     let back : to_z w32 (of_z w32 v) ≡ v = search rules in
     back
     ∙ ap (λ (ns : List ℤ). get_or ns x (pos 0)) h
-    ∙ number_at e x (small)
+    ∙ number_at e x (omega (arith, c.value-x.ensures))
     ∙ ap (λ (y : ℕ). number_in (e y)) c.value-x.ensures
-    ∙ variable-number e a.words.now a.at (sym c.is.ensures ∙ c.if-is.false)
+    ∙ variable-number e a.words.now a.at not

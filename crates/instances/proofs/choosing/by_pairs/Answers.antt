@@ -1,89 +1,33 @@
 -- `instances::choosing::by_pairs` meets its contract. The loop's invariant: of the first i places those with fresh tuples stand
 -- in front, and their tuples and the fresh ones of what is left are the fresh ones of the whole list.
-use Prim.Native.Nat.{◌-◌}
 use native.Mathlib.Omega.{arith}
-use Rattle.instances.proofs.InstanceLaws.{Turn, going_first, going_last, on_excluded, on_seen, on_found}
+use Rattle.instances.proofs.InstanceLaws.{turn, going_first, going_last, on_excluded, on_seen, on_found}
 use Rattle.instances.proofs.choosing.by_pairs.Goals as goal
 
 pub loop-i-init : goal.loop-i-init
 loop-i-init c =
     let a = c.args in
-    (omega arith, going_first a.words.now a.from a.m a.v a.scope a.scratch.now a.first a.count)
+    going_first a.words.now a.from a.m a.v a.scope a.scratch.now a.first a.count
 
 pub loop-i-preserved-then-stands : goal.loop-i-preserved-then-stands
 loop-i-preserved-then-stands c =
-    let turn : Turn = let a = c.args in
-    record {
-      words = a.words.now;
-      from = a.from;
-      m = a.m;
-      v = a.v;
-      scope = a.scope;
-      before = a.scratch.now;
-      scratch = c.loop-i.scratch;
-      first = a.first;
-      count = a.count;
-      found = c.loop-i.found;
-      i = c.loop-i.i;
-      small = c.requires.0;
-      room = c.requires.1;
-      more = c.loop-i-test.true;
-      going = c.loop-i.invariant.1;
-    } in
-    (omega arith, on_excluded (turn) c.stands.result c.stands.ensures c.if-stands.true)
+    let t = turn c.requires.0 c.requires.1 c.loop-i-test.true c.loop-i.invariant in
+    on_excluded t c.stands.result c.stands.ensures c.if-stands.true
 
 pub loop-i-preserved-then-stands-2 : goal.loop-i-preserved-then-stands-2
 loop-i-preserved-then-stands-2 c =
-    let turn : Turn = let a = c.args in
-    record {
-      words = a.words.now;
-      from = a.from;
-      m = a.m;
-      v = a.v;
-      scope = a.scope;
-      before = a.scratch.now;
-      scratch = c.loop-i.scratch;
-      first = a.first;
-      count = a.count;
-      found = c.loop-i.found;
-      i = c.loop-i.i;
-      small = c.requires.0;
-      room = c.requires.1;
-      more = c.loop-i-test.true;
-      going = c.loop-i.invariant.1;
-    } in (
-      omega arith,
-      on_seen (turn) c.stands.result c.stands.ensures c.stands-in-loop-i.result
-          c.stands-in-loop-i.ensures c.if-stands-2.true,
-    )
+    let t = turn c.requires.0 c.requires.1 c.loop-i-test.true c.loop-i.invariant in
+    on_seen t c.stands.result c.stands.ensures c.stands-in-loop-i.result
+    c.stands-in-loop-i.ensures c.if-stands-2.true
 
 pub loop-i-preserved : goal.loop-i-preserved
 loop-i-preserved c =
-    let turn : Turn = let a = c.args in
-    record {
-      words = a.words.now;
-      from = a.from;
-      m = a.m;
-      v = a.v;
-      scope = a.scope;
-      before = a.scratch.now;
-      scratch = c.loop-i.scratch;
-      first = a.first;
-      count = a.count;
-      found = c.loop-i.found;
-      i = c.loop-i.i;
-      small = c.requires.0;
-      room = c.requires.1;
-      more = c.loop-i-test.true;
-      going = c.loop-i.invariant.1;
-    } in (
-      omega arith,
-      on_found (turn) c.stands.result c.stands.ensures c.stands-in-loop-i.result c.stands-in-loop-i.ensures
-          c.if-stands.false c.if-stands-2.false _ c.copy_place.ensures,
-    )
+    let t = turn c.requires.0 c.requires.1 c.loop-i-test.true c.loop-i.invariant in
+    on_found t c.stands.result c.stands.ensures c.stands-in-loop-i.result c.stands-in-loop-i.ensures
+    c.if-stands.false c.if-stands-2.false _ c.copy_place.ensures
 
 pub returns : goal.returns
 returns c =
     let a = c.args in
     going_last a.words.now a.from a.m a.v a.scope a.scratch.now c.loop-i.scratch a.first a.count
-    c.loop-i.found c.loop-i.i (omega arith) c.loop-i.invariant.1
+    c.loop-i.found c.loop-i.i (omega arith) c.loop-i.invariant

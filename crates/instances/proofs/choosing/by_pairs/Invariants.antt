@@ -1,12 +1,8 @@
 -- `instances::choosing::by_pairs` meets its contract. The loop's invariant: of the first i places those with fresh tuples stand
 -- in front, and their tuples and the fresh ones of what is left are the fresh ones of the whole list.
-use Prim.Native.Nat.{◌-◌, ◌≤◌}
 use Rattle.instances.proofs.InstanceLaws.{Going}
 use Rattle.instances.proofs.choosing.by_pairs.Given as goal
 
 abbrev pub invariant-loop-i : goal.invariant-loop-i
 invariant-loop-i l =
-    (l.i ≤ l.count) × Going l.words l.from l.m l.v l.scope l.initial.scratch l.scratch l.first l.count l.found l.i
-
-abbrev pub decreases-loop-i : goal.decreases-loop-i
-decreases-loop-i l = l.count - l.i
+    Going l.words l.from l.m l.v l.scope l.initial.scratch l.scratch l.first l.count l.found l.i

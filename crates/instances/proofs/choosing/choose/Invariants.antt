@@ -1,15 +1,11 @@
 -- `instances::choosing::choose` meets its contract. The loop's invariant: that of `by_pairs`, and the excluded tuples and those found are
 -- entered in the table.
-use Prim.Native.Nat.{◌+◌, ◌*◌, ◌-◌, ◌≤◌}
+use Prim.Native.Nat.{◌+◌, ◌*◌}
 use Rattle.instances.specs.Keyed.{Keyed, entry_at}
 use Rattle.instances.proofs.InstanceLaws.{Going}
 use Rattle.instances.proofs.choosing.choose.Given as goal
 
 abbrev pub invariant-loop-i : goal.invariant-loop-i
 invariant-loop-i l =
-    (l.i ≤ l.count)
-    × Going l.words l.from l.m l.v l.scope l.initial.scratch l.scratch l.first l.count l.found l.i
+    Going l.words l.from l.m l.v l.scope l.initial.scratch l.scratch l.first l.count l.found l.i
     × Keyed (entry_at l.words l.from l.m l.v l.scratch (17 * l.first + l.scope)) (l.m + l.found) l.heads l.links
-
-abbrev pub decreases-loop-i : goal.decreases-loop-i
-decreases-loop-i l = l.count - l.i

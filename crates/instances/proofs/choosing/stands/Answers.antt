@@ -1,38 +1,21 @@
--- `instances::choosing::stands` meets its contract. The loop's invariant: the tuple is among all if it is among those from number i on.
-use Prim.Native.Nat.{◌-◌}
+-- `instances::choosing::stands` meets its contract: some tuple of those at even distances is the one looked for.
 use native.Mathlib.Omega.{arith}
-use mathlib.Core.Path.{sym, ◌∙◌}
+use mathlib.Core.Path.{◌∙◌}
 use lib.ListN.{take, drop}
-use Rattle.instances.proofs.InstanceLaws.{among_first_lem, among_found, among_on, among_last}
+use Prim.Native.Nat.{◌+◌, ◌*◌}
+use borrow.Author.Rules.{rules}
+use borrow.Author.Tests.{tests}
+use Rattle.std.proofs.lemmas.Iterator.{YieldsList-from_range}
+use Rattle.std.proofs.lemmas.Iterator.Search.{any_from_yields_List}
+use Rattle.model.specs.Words.{equal_all}
+use Rattle.instances.proofs.InstanceLaws.{among_all}
 use Rattle.instances.proofs.choosing.stands.Goals as goal
-
-pub loop-i-init : goal.loop-i-init
-loop-i-init c =
-    let a = c.args in
-    (omega arith, among_first_lem (take a.v (drop a.at a.a.now)) a.b.now a.v a.from a.step a.m)
-
-pub returns-then-equal_words : goal.returns-then-equal_words
-returns-then-equal_words c =
-    let a_2 = c.args in
-    let a = a_2 in
-    sym
-    (c.loop-i.invariant.1 ∙ among_found (take a.v (drop a.at a.a.now)) a.b.now a.v a.from a.step a.m
-    c.loop-i.i c.loop-i-test.true c.equal_words.result c.equal_words.ensures c.if-equal_words.true)
-
-pub loop-i-preserved : goal.loop-i-preserved
-loop-i-preserved c =
-    let a_2 = c.args in
-    let a = a_2 in (
-      omega arith,
-      c.loop-i.invariant.1 ∙ among_on (take a.v (drop a.at a.a.now)) a.b.now a.v a.from
-          a.step a.m c.loop-i.i c.loop-i-test.true c.equal_words.result c.equal_words.ensures
-          c.if-equal_words.false,
-    )
 
 pub returns : goal.returns
 returns c =
     let a_2 = c.args in
-    let a = a_2 in
-    sym
-    (c.loop-i.invariant.1 ∙ among_last (take a.v (drop a.at a.a.now)) a.b.now a.v a.from a.step a.m
-    c.loop-i.i c.loop-i-test.false)
+    let τ = take a_2.v (drop a_2.at a_2.a.now) in
+    any_from_yields_List (λ i. equal_all τ (take a_2.v (drop (a_2.from + a_2.step * i) a_2.b.now))) _ _ _ c.any.ensures.ran
+    (YieldsList-from_range 0 a_2.m a_2.m (cc) (omega arith))
+    (λ x b q k. search (rules, tests))
+    ∙ among_all τ a_2.b.now a_2.v a_2.from a_2.step a_2.m

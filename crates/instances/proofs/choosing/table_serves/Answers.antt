@@ -1,13 +1,13 @@
--- `instances::choosing::table_serves` meets its contract, test by test.
+-- `instances::choosing::table_serves` meets its contract, by the first test.
 use native.Mathlib.Omega.{arith}
-use Rattle.instances.proofs.KeyLaws.{serves-over, serves-within}
+use Rattle.std.proofs.lemmas.Bool.Decides.{nat_tests}
+use Rattle.instances.specs.Keyed.{serves}
 use Rattle.instances.proofs.choosing.table_serves.Goals as goal
 
-pub returns-then-m-gt8192 : goal.returns-then-m-gt8192
-returns-then-m-gt8192 c = serves-over _ (omega arith)
+pub returns-then-n-gt32 : goal.returns-then-n-gt32
+unfolding serves
+returns-then-n-gt32 c = grind (arith, nat_tests)
 
-pub returns-then-m-count : goal.returns-then-m-count
-returns-then-m-count c = serves-over _ (omega arith)
-
-pub returns : goal.returns
-returns c = serves-within _ (omega arith)
+pub returns-else-n-gt32 : goal.returns-else-n-gt32
+unfolding serves
+returns-else-n-gt32 c = grind (arith, nat_tests)

@@ -1,5 +1,5 @@
 -- `instances::seen::enter_excluded` meets its contract. The loop's invariant: the first e tuples are entered.
-use Prim.Native.Nat.{◌+◌, ◌*◌, ◌-◌}
+use Prim.Native.Nat.{◌+◌, ◌*◌}
 use native.Mathlib.Omega.{arith}
 use mathlib.Core.Path.{refl}
 use lib.ListN.{take, drop}
@@ -8,26 +8,22 @@ use Rattle.instances.proofs.seen.enter_excluded.Goals as goal
 
 pub loop-e-init : goal.loop-e-init
 loop-e-init c =
-    let a = c.args in (
-      omega arith,
-      keyed-none (λ e. take a.v (drop (a.from + a.v * e) a.words.now)) 8192 a.heads.now
-          a.links.now refl c.requires.2 c.requires.3,
-    )
+    let a = c.args in
+    keyed-none (λ e. take a.v (drop (a.from + a.v * e) a.words.now)) 8192 a.heads.now
+    a.links.now refl c.requires.2 c.requires.3
 
 pub enter-requires : goal.enter-requires
 enter-requires c =
     let a = c.args in
     let small = key-small 0 (take a.v (drop (a.from + a.v * c.loop-e.e) a.words.now)) in (
-      omega (arith, small, c.key-k.ensures, c.loop-e.invariant.1.keys),
-      omega (arith, c.loop-e.invariant.1.room, c.requires.1),
+      omega (arith, small, c.key-k.ensures, c.loop-e.invariant.keys),
+      omega (arith, c.loop-e.invariant.room, c.requires.1),
       omega (arith, c.requires.1),
     )
 
 pub loop-e-preserved : goal.loop-e-preserved
 loop-e-preserved c =
-    let a = c.args in (
-      omega arith,
-      keyed_entered (λ e. take a.v (drop (a.from + a.v * e) a.words.now)) c.loop-e.e c.key-k.result
-          c.loop-e.heads c.loop-e.links (omega (arith, c.requires.1)) c.key-k.ensures c.loop-e.invariant.1 _ _ c.enter.ensures.heads_after
-          c.enter.ensures.links_after,
-    )
+    let a = c.args in
+    keyed_entered (λ e. take a.v (drop (a.from + a.v * e) a.words.now)) c.loop-e.e c.key-k.result
+    c.loop-e.heads c.loop-e.links (omega (arith, c.requires.1)) c.key-k.ensures c.loop-e.invariant _ _ c.enter.ensures.heads_after
+    c.enter.ensures.links_after

@@ -1,6 +1,5 @@
 -- `instances::seen::seen` meets its contract. The loop's invariant: the tuple is one of the entries if it is one of those below the link,
 -- the last of which has its key. The measure is the link, which falls along a chain.
-use Prim.Native.Nat.{◌-◌}
 use lib.ListN.{take, drop}
 use Rattle.instances.specs.Keyed.{entry_at}
 use Rattle.instances.proofs.KeyLaws.{Walking}

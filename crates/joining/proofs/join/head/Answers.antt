@@ -1,8 +1,8 @@
 -- `joining::join::head` meets its contract: the words move to the right, and the two words of the header are stored.
 use native.Mathlib.Omega.{arith}
-use mathlib.Core.Path.{◌≡◌, sym, ap, ap₂, ◌∙◌}
-use mathlib.Core.Bool.{Bool, cond}
-use mathlib.Core.List.{◌∷◌}
+use mathlib.Core.Path.{◌≡◌, ap, ap₂, ◌∙◌}
+use mathlib.Core.Bool.{Bool, true, false, cond}
+use Prim.Native.Nat.{ℕ, ◌≤◌}
 use lib.ListN.{take, set}
 use lib.IntN.{ℤ, pos}
 use mir.Syntax.{w32}
@@ -13,20 +13,19 @@ use Rattle.words.specs.Laying.{laid}
 use Rattle.words.proofs.MovingLaws.{headed}
 use Rattle.joining.proofs.join.head.Goals as goal
 
-pub returns-then-kind : goal.returns-then-kind
-returns-then-kind c =
-    let fits : SFits w32 (pos c.args.parts) = record { sfits = omega (arith, c.requires.1) } in
-    let a = c.args in
-    let back : to_z w32 (of_z w32 (pos a.parts)) ≡ pos a.parts = to_z-of_z (fits) in
-    ap₂ (λ (l : Words) (y : ℤ). set (set l 1 y) 0 (pos 6)) c.right.ensures back
-    ∙ headed a.out.now a.n (pos 6) (pos a.parts) c.requires.0
-    ∙ ap (λ (kind : Bool). laid a.out.now 0 (pos (cond kind 6 7) ∷ pos a.parts ∷ take a.n a.out.now)) (sym c.if-kind.true)
+-- a small number is stored as it is
+stored : (n : ℕ) → n ≤ 1048576 → to_z w32 (of_z w32 (pos n)) ≡ pos n
+stored n h = let fits : SFits w32 (pos n) = record { sfits = omega arith } in to_z-of_z (fits)
+
+small : (kind : Bool) → cond kind 6 7 ≤ 1048576
+small true = omega arith
+small false = omega arith
 
 pub returns : goal.returns
 returns c =
-    let fits : SFits w32 (pos c.args.parts) = record { sfits = omega (arith, c.requires.1) } in
     let a = c.args in
-    let back : to_z w32 (of_z w32 (pos a.parts)) ≡ pos a.parts = to_z-of_z (fits) in
-    ap₂ (λ (l : Words) (y : ℤ). set (set l 1 y) 0 (pos 7)) c.right.ensures back
-    ∙ headed a.out.now a.n (pos 7) (pos a.parts) c.requires.0
-    ∙ ap (λ (kind : Bool). laid a.out.now 0 (pos (cond kind 6 7) ∷ pos a.parts ∷ take a.n a.out.now)) (sym c.if-kind.false)
+    let tag : to_z w32 (of_z w32 (pos c.tag.result)) ≡ pos (cond a.kind 6 7)
+    = ap (λ (n : ℕ). to_z w32 (of_z w32 (pos n))) c.tag.ensures ∙ stored (cond a.kind 6 7) (small a.kind) in
+    ap (λ (l : Words). set (set l 1 (to_z w32 (of_z w32 (pos a.parts)))) 0 (to_z w32 (of_z w32 (pos c.tag.result)))) c.right.ensures
+    ∙ ap₂ (λ (x y : ℤ). set (set (laid a.out.now 2 (take a.n a.out.now)) 1 x) 0 y) (stored a.parts c.requires.1) tag
+    ∙ headed a.out.now a.n (pos (cond a.kind 6 7)) (pos a.parts) c.requires.0

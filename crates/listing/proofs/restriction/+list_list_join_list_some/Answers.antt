@@ -2,10 +2,10 @@
 -- `list_join`, which calls `list` at its own level, and one less for `list_some`, which calls it a level down.
 -- The loop: the children passed made the lists that stand, and those left stand at the index reached.
 use Rattle.std.specs.Prelude.{Bool}
-use Prim.Native.Nat.{ℕ, ◌+◌, ◌-◌}
+use Prim.Native.Nat.{ℕ, ◌+◌}
 use native.Mathlib.Omega.{arith}
 use mathlib.Core.Path.{◌≡◌, refl, sym, ap, ◌∙◌, subst}
-use mathlib.Core.Bool.{true, false}
+use mathlib.Core.Bool.{false}
 use Rattle.model.specs.Level.{restriction}
 use Rattle.model.specs.Tag as T
 use Rattle.policies.specs.Standing.{HereAll}
@@ -14,7 +14,6 @@ use Rattle.policies.specs.declared.node.Tag.{Tag}
 use Rattle.policies.specs.declared.node.Tag.TheVariants.{Plain, Atom, Compare, Join, Quantifier, Some, Unused}
 use Rattle.policies.proofs.Standing.{here-atom, here-join, here-some, low}
 use Rattle.listing.proofs.Leaves.{LeafTag}
-use Rattle.listing.specs.Restrictions.{MakesTree}
 use Rattle.listing.proofs.AtomLaws.{terms-there}
 use Rattle.listing.proofs.JoinLaws.{join_first, join_asks, join-stop, join_passing, join-next, join_close}
 use Rattle.listing.proofs.WalkLaws.{from-atom, from-kept, from-join, from_some}
@@ -117,94 +116,71 @@ list-returns-in_default t c =
     a.scratch.now _ _ (as_tag c.tag_at-tag.result) c.tag_at-tag.ensures (other c.tag_at-tag.result (c.in_default.not-Atom, c.in_default.not-Join, c.in_default.not-Some))
     (c.list_kept-in_default.ensures es h)
 
-pub list_join-loop-i-init : goal.list_join-loop-i-init
-list_join-loop-i-init t c =
-    let a = c.args in (
-      omega arith,
-      refl,
-      join_first a.table.now a.words.now a.log.now a.above a.scope a.n a.at a.room
-          a.scratch.now c.requires.5 a.every,
-    )
-
-pub list_join-list-child-requires : goal.list_join-list-child-requires
-list_join-list-child-requires t c =
+pub list_join-loop-init : goal.list_join-loop-init
+list_join-loop-init t c =
     let a = c.args in
+    join_first a.table.now a.words.now a.log.now a.above a.scope a.n a.at a.room a.scratch.now c.requires.5 a.every
+
+pub list_join-list-requires : goal.list_join-list-requires
+list_join-list-requires t c =
+    let a = c.args in
+    let l = c.loop in
     let (here, roomy, holds) =
     join_asks a.table.now a.words.now a.log.now a.above a.scope a.n a.at a.room
-    a.scratch.now c.requires.5 c.requires.4 c.requires.6 c.loop-i.i c.loop-i.next c.loop-i.handed c.loop-i.scratch
-    c.loop-i.invariant.1 a.every c.loop-i.invariant.2
-    c.loop-i-test.true in (
+    a.scratch.now c.requires.5 c.requires.4 c.requires.6 l.counter l.next l.handed l.scratch
+    l.auto.scratch a.every l.invariant c.loop-test.true in (
       omega (arith, c.decreases, c.requires.1),
       (c.requires.0, c.requires.1, c.requires.2, here, roomy, holds),
     )
 
-pub list_join-returns-in_default : goal.list_join-returns-in_default
-list_join-returns-in_default t c =
+pub list_join-returns-in_err-child : goal.list_join-returns-in_err-child
+list_join-returns-in_err-child t c =
     let a = c.args in
+    let l = c.loop in
     join-stop a.table.now a.words.now a.log.now a.above a.scope a.n a.at a.room
-    a.scratch.now c.requires.5 c.requires.4 c.requires.6 c.loop-i.i c.loop-i.next c.loop-i.handed c.loop-i.scratch
-    c.loop-i.invariant.1 a.every c.loop-i.invariant.2
-    c.loop-i-test.true c.in_default.is c.list-child.ensures
+    a.scratch.now c.requires.5 c.requires.4 c.requires.6 l.counter l.next l.handed l.scratch
+    l.auto.scratch a.every l.invariant c.loop-test.true _ c.in_err-child.ensures _ c.from_residual.ensures
 
 pub list_join-pass_on-handed-requires : goal.list_join-pass_on-handed-requires
 list_join-pass_on-handed-requires t c =
     let a = c.args in
+    let l = c.loop in
     join_passing a.table.now a.words.now a.log.now a.above a.scope a.n a.at a.room
-    a.scratch.now c.requires.5 c.requires.4 c.requires.6 c.loop-i.i c.loop-i.next c.loop-i.handed c.loop-i.scratch
-    c.loop-i.invariant.1 a.every c.loop-i.invariant.2
-    c.loop-i-test.true c.in-List.is c.list-child.ensures
-    c.list-child.auto.scratch
+    a.scratch.now c.requires.5 c.requires.4 c.requires.6 l.counter l.next l.handed l.scratch
+    l.auto.scratch a.every l.invariant c.loop-test.true _ _ c.in_ok-child.ensures c.list.auto.scratch
 
-pub list_join-loop-i-preserved : goal.list_join-loop-i-preserved
-list_join-loop-i-preserved t c =
-    let a = c.args in (
-      omega (arith, c.loop-i-test.true),
-      c.pass_on-handed.auto.scratch ∙ c.list-child.auto.scratch ∙ c.loop-i.invariant.1,
-      join-next a.table.now a.words.now a.log.now a.above a.scope a.n a.at a.room
-          a.scratch.now c.requires.5 c.requires.4 c.requires.6 c.loop-i.i c.loop-i.next c.loop-i.handed c.loop-i.scratch
-          c.loop-i.invariant.1 a.every c.loop-i.invariant.2
-          c.loop-i-test.true c.in-List.is c.list-child.ensures _ _ c.pass_on-handed.ensures,
-    )
+pub list_join-loop-preserved : goal.list_join-loop-preserved
+list_join-loop-preserved t c =
+    let a = c.args in
+    let l = c.loop in
+    join-next a.table.now a.words.now a.log.now a.above a.scope a.n a.at a.room
+    a.scratch.now c.requires.5 c.requires.4 c.requires.6 l.counter l.next l.handed l.scratch
+    l.auto.scratch a.every l.invariant c.loop-test.true _ _ c.in_ok-child.ensures _ _ c.pass_on-handed.ensures
 
 pub list_join-returns : goal.list_join-returns
 list_join-returns t c =
     let a = c.args in
+    let l = c.loop in
     join_close a.table.now a.words.now a.log.now a.above a.scope a.n a.at a.room
-    a.scratch.now c.requires.5 c.requires.4 c.requires.6 c.loop-i.i c.loop-i.next c.loop-i.handed c.loop-i.scratch
-    c.loop-i.invariant.1 a.every c.loop-i.invariant.2
-    c.loop-i-test.false c.requires.3 c.loop-i.invariant.0 _ c.close.ensures
+    a.scratch.now c.requires.5 c.requires.4 c.requires.6 l.counter l.next l.handed l.scratch
+    l.auto.scratch a.every l.invariant c.loop-test.false c.requires.3 (omega arith) _ c.close.ensures
 
-pub list_some-returns-in_default : goal.list_some-returns-in_default
-list_some-returns-in_default t c =
+pub list_some-returns-in_err-to : goal.list_some-returns-in_err-to
+list_some-returns-in_err-to t c = λ es h d next node.
     let a = c.args in
-    λ es h d next node. some-short a.table.now a.log.now a.scope d es a.room a.scratch.now _ next
-    (subst (MakesTree a.table.now a.log.now d (a.scope + 1) next es a.room a.scratch.now _)
-    c.in_default.is (c.list-child.ensures es h d next node))
+    some-short a.table.now a.log.now a.scope d es a.room a.scratch.now _ next (c.in_err-to.ensures es h d next node) c.from_residual.ensures
 
 pub list_some-returns-then-to : goal.list_some-returns-then-to
-list_some-returns-then-to t c =
+list_some-returns-then-to t c = λ es h d next node.
     let a = c.args in
-    λ es h d next node. some-full a.table.now a.log.now a.scope d es a.room a.scratch.now _ next _ _
-    (subst (MakesTree a.table.now a.log.now d (a.scope + 1) next es a.room a.scratch.now _)
-    c.in-List.is (c.list-child.ensures es h d next node)) _
-    (c.release_all.ensures _
-    (some_holds a.table.now a.log.now a.scope d es a.room a.scratch.now _ next _ _
-    (subst (MakesTree a.table.now a.log.now d (a.scope + 1) next es a.room a.scratch.now _)
-    c.in-List.is (c.list-child.ensures es h d next node))).listed
-    (some_holds a.table.now a.log.now a.scope d es a.room a.scratch.now _ next _ _
-    (subst (MakesTree a.table.now a.log.now d (a.scope + 1) next es a.room a.scratch.now _)
-    c.in-List.is (c.list-child.ensures es h d next node))).long) c.if-to.true
+    let m = c.in_ok-to.ensures es h d next node in
+    let made = some_holds a.table.now a.log.now a.scope d es a.room a.scratch.now _ next _ _ m in
+    some-full a.table.now a.log.now a.scope d es a.room a.scratch.now _ next _ _ m _ (c.release_all.ensures _ made.listed made.long) c.if-to.true
 
 pub list_some-returns : goal.list_some-returns
-list_some-returns t c =
+list_some-returns t c = λ es h d next node.
     let a = c.args in
-    λ es h d next node. some_end a.table.now a.log.now a.scope d es a.room a.scratch.now _ next _ _
-    (subst (MakesTree a.table.now a.log.now d (a.scope + 1) next es a.room a.scratch.now _)
-    c.in-List.is (c.list-child.ensures es h d next node)) _
-    (c.release_all.ensures _
-    (some_holds a.table.now a.log.now a.scope d es a.room a.scratch.now _ next _ _
-    (subst (MakesTree a.table.now a.log.now d (a.scope + 1) next es a.room a.scratch.now _)
-    c.in-List.is (c.list-child.ensures es h d next node))).listed
-    (some_holds a.table.now a.log.now a.scope d es a.room a.scratch.now _ next _ _
-    (subst (MakesTree a.table.now a.log.now d (a.scope + 1) next es a.room a.scratch.now _)
-    c.in-List.is (c.list-child.ensures es h d next node))).long) c.if-to.false c.counted.ensures
+    let m = c.in_ok-to.ensures es h d next node in
+    let made = some_holds a.table.now a.log.now a.scope d es a.room a.scratch.now _ next _ _ m in
+    some_end a.table.now a.log.now a.scope d es a.room a.scratch.now _ next _ _ m _ (c.release_all.ensures _ made.listed made.long)
+    c.if-to.false c.counted.ensures

@@ -1,9 +1,7 @@
 -- The proof of the cycle of calls {list, list_join, list_some}. The measure is twice the levels left: one more for
 -- `list_join`, which calls `list` at its own level, and one less for `list_some`, which calls it a level down.
 -- The loop: the children passed made the lists that stand, and those left stand at the index reached.
-use Prim.Native.Nat.{◌*◌, ◌-◌, ◌≤◌}
-use mathlib.Core.Path.{◌≡◌}
-use lib.ListN.{length}
+use Prim.Native.Nat.{◌*◌, ◌-◌}
 use Rattle.listing.proofs.JoinLaws.{SoFar}
 use Rattle.listing.proofs.restriction.+list_list_join_list_some.Given as goal
 
@@ -16,9 +14,6 @@ decreases-list_join l = 131 - 2 * l.above
 abbrev pub decreases-list_some : goal.decreases-list_some
 decreases-list_some l = 129 - 2 * l.above
 
-abbrev pub invariant-list_join-loop-i : goal.invariant-list_join-loop-i
-invariant-list_join-loop-i l =
-    (l.i ≤ l.n) × (length l.scratch ≡ length l.initial.scratch) × SoFar l.every l.table l.words l.log l.above l.scope l.n l.at l.room l.initial.scratch l.i l.next l.handed l.scratch
-
-abbrev pub decreases-list_join-loop-i : goal.decreases-list_join-loop-i
-decreases-list_join-loop-i l = l.n - l.i
+abbrev pub invariant-list_join-loop : goal.invariant-list_join-loop
+invariant-list_join-loop l =
+    SoFar l.every l.table l.words l.log l.above l.scope l.n l.at l.room l.initial.scratch l.counter l.next l.handed l.scratch

@@ -1,9 +1,7 @@
 -- `listing::restriction::list_kept` meets its contract. The invariant: the environments kept of those before the i-th stand from
--- the first free place on. The measure is the number of environments left.
+-- the first free place on.
 use Prim.Native.Nat.{ℕ, ◌-◌, ◌≤◌}
-use mathlib.Core.Path.{◌≡◌}
 use mathlib.Core.List.{List}
-use lib.ListN.{length}
 use Rattle.model.specs.Log.{rows}
 use Rattle.model.specs.Tree.{Tree}
 use Rattle.model.specs.Level.{restriction}
@@ -17,14 +15,9 @@ use Rattle.listing.proofs.restriction.list_kept.Given as goal
 
 abbrev pub invariant-loop-i : goal.invariant-loop-i
 invariant-loop-i l =
-    (l.i ≤ l.room.count)
-    × (l.made ≤ l.room.limit - l.room.used)
-    × (length l.scratch ≡ length l.initial.scratch)
+    (l.made ≤ l.room.limit - l.room.used)
     × ((es : List Environment) →
     R.Holding l.room l.initial.scratch es →
     (above scope : ℕ) (t : Tree) (next : ℕ) →
     Node l.table l.words restriction above scope l.at t next →
     Mapping (kept (keeps_of l.table (rows l.log) t)) es l.i l.room.base l.made l.initial.scratch l.scratch)
-
-abbrev pub decreases-loop-i : goal.decreases-loop-i
-decreases-loop-i l = l.room.count - l.i

@@ -19,6 +19,3 @@ row-questions table log r = do
 
 abbrev pub invariant-loop-row : goal.invariant-loop-row
 invariant-loop-row l = (l.row ≤ l.n) × (ask_rows l.table l.log ≡ in_turn (row-questions l.table l.log) (span l.row (l.n - l.row)))
-
-abbrev pub decreases-loop-row : goal.decreases-loop-row
-decreases-loop-row l = l.n - l.row

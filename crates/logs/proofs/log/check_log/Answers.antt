@@ -10,7 +10,8 @@ use Rattle.model.specs.declared.Refusal.TheVariants.{LogLength}
 use Rattle.model.specs.Words.{Words}
 use Rattle.model.specs.Answer.{refused, ask, ◌>>=◌}
 use Rattle.model.specs.Log.{row_count, ask_log}
-use Rattle.tables.specs.declared.Checked.TheVariants.{Passed, Refused}
+use Rattle.std.specs.Prelude.{Result, Ok, Err}
+use Rattle.model.specs.declared.Refused.{Refused}
 use Rattle.logs.specs.Log.{ask_rows, repeats_at}
 use Rattle.chains.proofs.Keys.{zeros-empty}
 use Rattle.logs.proofs.log.check_log.Goals as goal
@@ -29,7 +30,7 @@ module _ (table log : Words) where
   ask-rows e f = rw (e, f)
 
 -- a refusal is no pass
-never : {X : Type 0} {p : ℕ} → Refused LogLength p ≡ Passed → X
+never : {X : Type 0} {f : Refused} → ◌≡◌ {A = Result (Unit {0}) Refused} (Err f) (Ok tt) → X
 never e = let z : ◌≡◌ {A = ℕ} 0 1 = cc in absurd (omega arith)
 
 pub returns-then-log-ne0 : goal.returns-then-log-ne0

@@ -71,8 +71,8 @@ search-found-requires c =
           (ap₂ (λ (p n : ℕ). atom_key p (take n (drop (8 * row + 2) log)) 0) c.value.ensures six),
     )
 
-pub returns-in-At : goal.returns-in-At
-returns-in-At c =
+pub returns-in-Some : goal.returns-in-Some
+returns-in-Some c =
     let found : let a = c.args in repeats_at a.log.now a.row ≡ earlier a.row c.search-found.result = let a = c.args in
     let log = a.log.now in
     let row = a.row in
@@ -81,10 +81,10 @@ returns-in-At c =
     (c.search-found.ensures ∙ ap₂ (λ (p n : ℕ). first_row log p (take n (drop (8 * row + 2) log)) (span 0 (row_count log)))
     c.value.ensures six) in
     let a = c.args in
-    sym (found ∙ ap (earlier a.row) c.in-At.is)
+    sym (found ∙ ap (earlier a.row) c.in-Some.is)
 
-pub returns-in-Nothing : goal.returns-in-Nothing
-returns-in-Nothing c =
+pub returns-in-None : goal.returns-in-None
+returns-in-None c =
     let found : let a = c.args in repeats_at a.log.now a.row ≡ earlier a.row c.search-found.result = let a = c.args in
     let log = a.log.now in
     let row = a.row in
@@ -93,4 +93,4 @@ returns-in-Nothing c =
     (c.search-found.ensures ∙ ap₂ (λ (p n : ℕ). first_row log p (take n (drop (8 * row + 2) log)) (span 0 (row_count log)))
     c.value.ensures six) in
     let a = c.args in
-    sym (found ∙ ap (earlier a.row) c.in-Nothing.is)
+    sym (found ∙ ap (earlier a.row) c.in-None.is)

@@ -1,6 +1,6 @@
 -- `logs::log::unused` meets its contract. The invariant: the test comes to whether the arguments that are not 0 so far stand
 -- before the n-th, and the test of those from i on that are unused.
-use Prim.Native.Nat.{ℕ, ◌+◌, ◌-◌, max}
+use Prim.Native.Nat.{ℕ, ◌+◌, max}
 use native.Mathlib.Omega.{arith}
 use mathlib.Core.Path.{sym, ap, ◌∙◌}
 use mathlib.Core.Bool.{◌&&◌}

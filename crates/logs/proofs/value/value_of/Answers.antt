@@ -1,7 +1,6 @@
 -- `logs::value::value_of` meets its contract: what the row found says, or the predicate's completeness, is the atom's value.
 use native.Mathlib.Omega.{arith}
 use mathlib.Core.Path.{sym, ◌∙◌}
-use mathlib.Core.Bool.{true, false}
 use Rattle.model.specs.Log.{row_count}
 use Rattle.logs.proofs.Values.{first-inside, value_found, by_row, by_complete, by_nothing}
 use Rattle.logs.proofs.value.value_of.Goals as goal
@@ -10,48 +9,30 @@ pub overflow_mul-row : goal.overflow_mul-row
 unfolding row_count
 overflow_mul-row c =
     let a = c.args in
-    let b =
-    first-inside a.log.now a.predicate a.arguments.now _ (row_count a.log.now) 0
-    (sym c.search-found.ensures ∙ c.in-At.is) in
+    let b = first-inside a.log.now a.predicate a.arguments.now _ (row_count a.log.now) 0 (sym c.search.ensures ∙ c.in-Some.is) in
     omega arith
 
 pub overflow_add-row : goal.overflow_add-row
 unfolding row_count
 overflow_add-row c =
     let a = c.args in
-    let b =
-    first-inside a.log.now a.predicate a.arguments.now _ (row_count a.log.now) 0
-    (sym c.search-found.ensures ∙ c.in-At.is) in
+    let b = first-inside a.log.now a.predicate a.arguments.now _ (row_count a.log.now) 0 (sym c.search.ensures ∙ c.in-Some.is) in
     omega arith
 
-pub returns-then-is : goal.returns-then-is
-returns-then-is c =
+pub returns-in-Some : goal.returns-in-Some
+returns-in-Some c =
     let a = c.args in
-    λ ns long filled. sym
-    (value_found a.table.now a.log.now a.predicate c.requires.2 a.arguments.now ns c.requires.1
-    c.search-found.ensures long filled ∙ by_row a.table.now a.log.now a.predicate _ true
-    c.in-At.is (sym c.is.ensures ∙ c.if-is.true))
-
-pub returns-else-is : goal.returns-else-is
-returns-else-is c =
-    let a = c.args in
-    λ ns long filled. sym
-    (value_found a.table.now a.log.now a.predicate c.requires.2 a.arguments.now ns c.requires.1
-    c.search-found.ensures long filled ∙ by_row a.table.now a.log.now a.predicate _ false
-    c.in-At.is (sym c.is.ensures ∙ c.if-is.false))
+    value_found a.table.now a.log.now a.predicate c.requires.2 a.arguments.now c.requires.1 c.search.ensures
+    (by_row a.table.now a.log.now a.predicate _ _ c.in-Some.is (sym c.is.ensures))
 
 pub returns-then-complete : goal.returns-then-complete
 returns-then-complete c =
     let a = c.args in
-    λ ns long filled. sym
-    (value_found a.table.now a.log.now a.predicate c.requires.2 a.arguments.now ns c.requires.1
-    c.search-found.ensures long filled ∙ by_complete a.table.now a.log.now a.predicate
-    c.in-Nothing.is (sym c.complete.ensures ∙ c.if-complete.true))
+    value_found a.table.now a.log.now a.predicate c.requires.2 a.arguments.now c.requires.1 c.search.ensures
+    (by_complete a.table.now a.log.now a.predicate c.in-None.is (sym c.complete.ensures ∙ c.if-complete.true))
 
 pub returns-else-complete : goal.returns-else-complete
 returns-else-complete c =
     let a = c.args in
-    λ ns long filled. sym
-    (value_found a.table.now a.log.now a.predicate c.requires.2 a.arguments.now ns c.requires.1
-    c.search-found.ensures long filled ∙ by_nothing a.table.now a.log.now a.predicate
-    c.in-Nothing.is (sym c.complete.ensures ∙ c.if-complete.false))
+    value_found a.table.now a.log.now a.predicate c.requires.2 a.arguments.now c.requires.1 c.search.ensures
+    (by_nothing a.table.now a.log.now a.predicate c.in-None.is (sym c.complete.ensures ∙ c.if-complete.false))

@@ -3,10 +3,11 @@
 -- The loops: the children left tell what all of them do, given the marks of those behind.
 use Rattle.std.proofs.Common.{refl}
 use Rattle.std.specs.Prelude.{Bool}
-use Prim.Native.Nat.{ℕ, ◌+◌, ◌-◌}
+use Prim.Native.Nat.{ℕ, ◌+◌}
 use native.Mathlib.Omega.{arith}
 use mathlib.Core.Path.{◌≡◌, sym, ap, ◌∙◌, subst}
 use borrow.Author.Rules.{rules}
+use Rattle.laws.specs.Answer.{passed_on}
 use Rattle.model.specs.Level.{restriction}
 use Rattle.model.specs.Tag as T
 use Rattle.policies.specs.Standing.{HereAll}
@@ -132,47 +133,48 @@ bind-returns-in_default t c =
     (as_tag c.tag_at-tag.result) c.tag_at-tag.ensures
     (other c.tag_at-tag.result (c.in_default.not-Atom, c.in_default.not-Compare, c.in_default.not-Join, c.in_default.not-Some)) c.args.bound (search rules)
 
-pub bind_all-bind-child-requires : goal.bind_all-bind-child-requires
-bind_all-bind-child-requires t c = (
+pub bind_all-bind-requires : goal.bind_all-bind-requires
+bind_all-bind-requires t c = (
   omega (arith, c.decreases, c.requires.1),
   (
     c.requires.0,
     c.requires.1,
     c.requires.2,
     all_here c.args.table.now c.args.words.now c.args.above
-        c.args.scope c.args.n c.args.at c.loop-i.i c.loop-i.next c.args.bound c.loop-i.set
-        c.loop-i.invariant.2 c.loop-i-test.true c.requires.3,
+        c.args.scope c.args.n c.args.at c.loop.counter c.loop.next c.args.bound c.loop.set
+        c.loop.invariant.2 c.loop-test.true c.requires.3,
   ),
 )
 
-pub bind_all-returns-in-Refused : goal.bind_all-returns-in-Refused
-bind_all-returns-in-Refused t c =
-    all-stop c.args.table.now c.args.words.now c.args.above c.args.scope c.args.n c.args.at
-    c.loop-i.i c.loop-i.next c.args.bound c.loop-i.set c.loop-i.invariant.2 c.loop-i-test.true
-    c.bind-child.result c.bind-child.ensures c.in-Refused.is
+pub bind_all-returns-in_err-child : goal.bind_all-returns-in_err-child
+bind_all-returns-in_err-child t c =
+    rw (passed_on _ c.from_residual.ensures.1)
+    (all-stop c.args.table.now c.args.words.now c.args.above c.args.scope c.args.n c.args.at
+    c.loop.counter c.loop.next c.args.bound c.loop.set c.loop.invariant.2 c.loop-test.true
+    c.bind.result c.bind.ensures c.in_err-child.was)
 
-pub bind_all-loop-i-preserved : goal.bind_all-loop-i-preserved
-bind_all-loop-i-preserved t c = (
-  omega (arith, c.loop-i-test.true),
+pub bind_all-loop-preserved : goal.bind_all-loop-preserved
+bind_all-loop-preserved t c = (
+  omega (arith, c.loop-test.true),
   came-marks c.args.table.now c.args.words.now
-      c.args.above c.args.scope c.loop-i.next _ _
+      c.args.above c.args.scope c.loop.next _ _
       (all_here c.args.table.now c.args.words.now c.args.above c.args.scope c.args.n c.args.at
-      c.loop-i.i c.loop-i.next c.args.bound c.loop-i.set c.loop-i.invariant.2 c.loop-i-test.true
-      c.requires.3) c.bind-child.ensures,
+      c.loop.counter c.loop.next c.args.bound c.loop.set c.loop.invariant.2 c.loop-test.true
+      c.requires.3) c.bind.ensures c.in_ok-child.was,
   all-step c.args.table.now c.args.words.now c.args.above
-      c.args.scope c.args.n c.args.at c.loop-i.i c.loop-i.next c.args.bound c.loop-i.set
-      c.loop-i.invariant.2 c.loop-i-test.true c.bind-child.result c.bind-child.ensures
-      c.in_default.is,
+      c.args.scope c.args.n c.args.at c.loop.counter c.loop.next c.args.bound c.loop.set
+      c.loop.invariant.2 c.loop-test.true c.bind.result c.bind.ensures
+      c.in_ok-child.was,
 )
 
 pub bind_all-returns : goal.bind_all-returns
 bind_all-returns t c =
     all_end c.args.table.now c.args.words.now c.args.above c.args.scope c.args.n c.args.at
-    c.loop-i.i c.loop-i.next c.args.bound c.loop-i.set c.loop-i.invariant.2 c.loop-i-test.false
-    c.loop-i.invariant.1
+    c.loop.counter c.loop.next c.args.bound c.loop.set c.loop.invariant.2 c.loop-test.false
+    c.loop.invariant.1
 
-pub bind_any-bind-first-requires : goal.bind_any-bind-first-requires
-bind_any-bind-first-requires t c = (
+pub bind_any-bind-requires : goal.bind_any-bind-requires
+bind_any-bind-requires t c = (
   omega (arith, c.decreases, c.requires.1),
   (
     c.requires.0,
@@ -183,71 +185,74 @@ bind_any-bind-first-requires t c = (
   ),
 )
 
-pub bind_any-returns-in-Refused : goal.bind_any-returns-in-Refused
-bind_any-returns-in-Refused t c =
-    any-first-stop c.args.table.now c.args.words.now c.args.above c.args.scope c.args.n
-    c.args.at c.args.bound c.requires.3 c.bind-first.result c.bind-first.ensures c.in-Refused.is
+pub bind_any-returns-in_err-first : goal.bind_any-returns-in_err-first
+bind_any-returns-in_err-first t c =
+    rw (passed_on _ c.from_residual.ensures.1)
+    (any-first-stop c.args.table.now c.args.words.now c.args.above c.args.scope c.args.n
+    c.args.at c.args.bound c.requires.3 c.bind.result c.bind.ensures c.in_err-first.was)
 
-pub bind_any-loop-i-init : goal.bind_any-loop-i-init
-bind_any-loop-i-init t c = (
+pub bind_any-loop-init : goal.bind_any-loop-init
+bind_any-loop-init t c = (
   c.requires.3,
   came-marks c.args.table.now c.args.words.now c.args.above c.args.scope
       c.args.at _ _
       (any_here c.args.table.now c.args.words.now c.args.above c.args.scope c.args.n c.args.at
-      c.args.bound c.requires.3 c.requires.4) c.bind-first.ensures,
+      c.args.bound c.requires.3 c.requires.4) c.bind.ensures c.in_ok-first.was,
   any-start c.args.table.now
       c.args.words.now c.args.above c.args.scope c.args.n c.args.at c.args.bound c.requires.3
-      c.bind-first.result c.bind-first.ensures c.in_default.is,
+      c.bind.result c.bind.ensures c.in_ok-first.was,
 )
 
-pub bind_any-bind-child-requires : goal.bind_any-bind-child-requires
-bind_any-bind-child-requires t c = (
+pub bind_any-bind-requires-in-loop : goal.bind_any-bind-requires-in-loop
+bind_any-bind-requires-in-loop t c = (
   omega (arith, c.decreases, c.requires.1),
   (
     c.requires.0,
     c.requires.1,
     c.requires.2,
     any-next-here c.args.table.now c.args.words.now
-        c.args.above c.args.scope c.args.n c.args.at c.args.bound c.requires.3 c.loop-i.i
-        c.loop-i.next c.loop-i.set c.loop-i.invariant.2 c.loop-i-test.true c.requires.4,
+        c.args.above c.args.scope c.args.n c.args.at c.args.bound c.requires.3 c.loop.counter
+        c.loop.next c.loop.set c.loop.invariant.2 c.loop-test.true c.requires.4,
   ),
 )
 
-pub bind_any-returns-in-Refused-asked : goal.bind_any-returns-in-Refused-asked
-bind_any-returns-in-Refused-asked t c =
-    any-stop c.args.table.now c.args.words.now c.args.above c.args.scope c.args.n c.args.at
-    c.args.bound c.requires.3 c.loop-i.i c.loop-i.next c.loop-i.set c.loop-i.invariant.2
-    c.loop-i-test.true c.bind-child.result c.bind-child.ensures c.in-Refused-asked.is
+pub bind_any-returns-in_err-child : goal.bind_any-returns-in_err-child
+bind_any-returns-in_err-child t c =
+    rw (passed_on _ c.from_residual-in_err-child.ensures.1)
+    (any-stop c.args.table.now c.args.words.now c.args.above c.args.scope c.args.n c.args.at
+    c.args.bound c.requires.3 c.loop.counter c.loop.next c.loop.set c.loop.invariant.2
+    c.loop-test.true c.bind-in-loop.result c.bind-in-loop.ensures c.in_err-child.was)
 
-pub bind_any-loop-i-preserved : goal.bind_any-loop-i-preserved
-bind_any-loop-i-preserved t c = (
-  omega (arith, c.loop-i-test.true),
+pub bind_any-loop-preserved : goal.bind_any-loop-preserved
+bind_any-loop-preserved t c = (
+  omega (arith, c.loop-test.true),
   c.both-joint.ensures.0,
   any_step c.args.table.now
       c.args.words.now c.args.above c.args.scope c.args.n c.args.at c.args.bound c.requires.3
-      c.loop-i.i c.loop-i.next c.loop-i.set c.loop-i.invariant.2 c.loop-i-test.true c.bind-child.result
-      c.bind-child.ensures c.in_default-asked.is c.both-joint.result c.both-joint.ensures.1,
+      c.loop.counter c.loop.next c.loop.set c.loop.invariant.2 c.loop-test.true c.bind-in-loop.result
+      c.bind-in-loop.ensures c.in_ok-child.was c.both-joint.result c.both-joint.ensures.1,
 )
 
 pub bind_any-returns : goal.bind_any-returns
 bind_any-returns t c =
     any_end c.args.table.now c.args.words.now c.args.above c.args.scope c.args.n c.args.at
-    c.args.bound c.requires.3 c.loop-i.i c.loop-i.next c.loop-i.set c.loop-i.invariant.2 c.loop-i-test.false
-    c.loop-i.invariant.1
+    c.args.bound c.requires.3 c.loop.counter c.loop.next c.loop.set c.loop.invariant.2 c.loop-test.false
+    c.loop.invariant.1
 
-pub bind_some-returns-in-Refused : goal.bind_some-returns-in-Refused
-bind_some-returns-in-Refused t c =
-    some-stop c.args.table.now c.args.words.now c.args.above c.args.scope c.args.at
-    (set_of c.args.bound) c.bind-child.result c.bind-child.ensures c.in-Refused.is
+pub bind_some-returns-in_err-child : goal.bind_some-returns-in_err-child
+bind_some-returns-in_err-child t c =
+    rw (passed_on _ c.from_residual.ensures.1)
+    (some-stop c.args.table.now c.args.words.now c.args.above c.args.scope c.args.at
+    (set_of c.args.bound) c.bind.result c.bind.ensures c.in_err-child.was)
 
 pub bind_some-returns-then-not-set-scope : goal.bind_some-returns-then-not-set-scope
 bind_some-returns-then-not-set-scope t c =
     some_unbound c.args.table.now c.args.words.now c.args.above c.args.scope c.args.at
-    (set_of c.args.bound) c.bind-child.result c.bind-child.ensures c.in_default.is
+    (set_of c.args.bound) c.bind.result c.bind.ensures c.in_ok-child.was
     (c.if-not-set-scope.true)
 
 pub bind_some-returns : goal.bind_some-returns
 bind_some-returns t c =
     some-bound c.args.table.now c.args.words.now c.args.above c.args.scope c.args.at
-    (set_of c.args.bound) c.bind-child.result c.bind-child.ensures c.in_default.is
+    (set_of c.args.bound) c.bind.result c.bind.ensures c.in_ok-child.was
     (c.if-not-set-scope.false) c.requires.2

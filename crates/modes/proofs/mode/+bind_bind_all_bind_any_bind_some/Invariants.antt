@@ -20,16 +20,10 @@ decreases-bind_any l = 131 - 2 * l.above
 abbrev pub decreases-bind_some : goal.decreases-bind_some
 decreases-bind_some l = 129 - 2 * l.above
 
-abbrev pub invariant-bind_all-loop-i : goal.invariant-bind_all-loop-i
-invariant-bind_all-loop-i l =
-    (l.i ≤ l.n) × (length l.set ≡ 16) × AllSoFar l.table l.words l.above l.scope l.n l.at l.initial.set l.i l.next l.set
+abbrev pub invariant-bind_all-loop : goal.invariant-bind_all-loop
+invariant-bind_all-loop l =
+    (l.counter ≤ l.n) × (length l.set ≡ 16) × AllSoFar l.table l.words l.above l.scope l.n l.at l.initial.set l.counter l.next l.set
 
-abbrev pub decreases-bind_all-loop-i : goal.decreases-bind_all-loop-i
-decreases-bind_all-loop-i l = l.n - l.i
-
-abbrev pub invariant-bind_any-loop-i : goal.invariant-bind_any-loop-i
-invariant-bind_any-loop-i l =
-    (l.i ≤ l.n) × (length l.set ≡ 16) × AnySoFar l.table l.words l.above l.scope l.n l.at l.bound l.i l.next l.set
-
-abbrev pub decreases-bind_any-loop-i : goal.decreases-bind_any-loop-i
-decreases-bind_any-loop-i l = l.n - l.i
+abbrev pub invariant-bind_any-loop : goal.invariant-bind_any-loop
+invariant-bind_any-loop l =
+    (l.counter ≤ l.n) × (length l.set ≡ 16) × AnySoFar l.table l.words l.above l.scope l.n l.at l.bound l.counter l.next l.set

@@ -4,13 +4,13 @@
 use Rattle.std.proofs.Common.{refl}
 use Rattle.std.specs.Prelude.{◌≡◌}
 use Rattle.std.specs.Prelude.{Bool}
-use Prim.Native.Nat.{ℕ, ◌+◌, ◌-◌}
 use native.Mathlib.Omega.{arith}
 use mathlib.Core.Path.{sym, ap, ◌∙◌}
+use Rattle.laws.specs.Answer.{passed_on}
 use Rattle.policies.specs.Node.{as_tag, as_role}
 use Rattle.policies.specs.declared.node.Tag.{Tag}
 use Rattle.policies.specs.declared.node.Tag.TheVariants.{Plain, Atom, Compare, Join, Quantifier, Some, Unused}
-use Rattle.policies.proofs.Stood.{Stood, formula-kind, level-fits, own-fits, next_in, level_in, level_down}
+use Rattle.policies.proofs.Stood.{stood, formula-kind, level-fits, own-fits, next_in, level_in, level_down}
 use Rattle.modes.proofs.ModeFormula.{Leaf}
 use Rattle.modes.proofs.ModeFormula.{join-kind, join-here, join_asks, quantifier-range, quantifier-here, quantifier_asks}
 use Rattle.modes.proofs.ModeFormula.{leaf_asks}
@@ -41,27 +41,12 @@ formula-size-requires t c =
 
 pub formula-overflow_add-next : goal.formula-overflow_add-next
 formula-overflow_add-next t c =
-    let formula_stood : Stood c.args.table.now c.args.words.now (as_role c.args.role) c.args.above c.args.scope c.args.at (as_tag
-    c.tag_at-tag.result) (c.args.above + c.cost.result) (c.args.at + c.size.result) = record {
-      kind = c.requires.3;
-      here = c.requires.4;
-      known = c.tag_at-tag.ensures;
-      deep = ap (λ (n : ℕ). c.args.above + n) c.cost.ensures;
-      first = ap (λ (n : ℕ). c.args.at + n) (c.size.ensures (as_role c.args.role) c.args.scope);
-    } in
-    omega (arith, next_in (formula_stood))
+    let node = stood c.requires.3 c.requires.4 c.tag_at-tag.ensures c.cost.ensures c.size.ensures in
+    omega (arith, next_in node)
 
 pub formula-formulas-requires : goal.formula-formulas-requires
 formula-formulas-requires t c =
-    let formula_stood : Stood c.args.table.now c.args.words.now (as_role c.args.role) c.args.above c.args.scope c.args.at (as_tag
-    c.tag_at-tag.result) (c.args.above + c.cost.result) (c.args.at + c.size.result) = record {
-      kind = c.requires.3;
-      here = c.requires.4;
-      known = c.tag_at-tag.ensures;
-      deep = ap (λ (n : ℕ). c.args.above + n) c.cost.ensures;
-      first = ap (λ (n : ℕ). c.args.at + n) (c.size.ensures (as_role c.args.role) c.args.scope);
-    } in
-    let node = formula_stood in
+    let node = stood c.requires.3 c.requires.4 c.tag_at-tag.ensures c.cost.ensures c.size.ensures in
     let e = ap as_tag c.in-Join.is in (
       omega (arith, level_down node, level_in node, c.decreases),
       (
@@ -75,15 +60,7 @@ formula-formulas-requires t c =
 
 pub formula-quantified-requires : goal.formula-quantified-requires
 formula-quantified-requires t c =
-    let formula_stood : Stood c.args.table.now c.args.words.now (as_role c.args.role) c.args.above c.args.scope c.args.at (as_tag
-    c.tag_at-tag.result) (c.args.above + c.cost.result) (c.args.at + c.size.result) = record {
-      kind = c.requires.3;
-      here = c.requires.4;
-      known = c.tag_at-tag.ensures;
-      deep = ap (λ (n : ℕ). c.args.above + n) c.cost.ensures;
-      first = ap (λ (n : ℕ). c.args.at + n) (c.size.ensures (as_role c.args.role) c.args.scope);
-    } in
-    let node = formula_stood in
+    let node = stood c.requires.3 c.requires.4 c.tag_at-tag.ensures c.cost.ensures c.size.ensures in
     let e = ap as_tag c.in-Quantifier.is in (
       omega (arith, level_down node, level_in node, c.decreases),
       (
@@ -96,43 +73,22 @@ formula-quantified-requires t c =
 
 pub formula-returns-in-Join : goal.formula-returns-in-Join
 formula-returns-in-Join t c =
-    let formula_stood : Stood c.args.table.now c.args.words.now (as_role c.args.role) c.args.above c.args.scope c.args.at (as_tag
-    c.tag_at-tag.result) (c.args.above + c.cost.result) (c.args.at + c.size.result) = record {
-      kind = c.requires.3;
-      here = c.requires.4;
-      known = c.tag_at-tag.ensures;
-      deep = ap (λ (n : ℕ). c.args.above + n) c.cost.ensures;
-      first = ap (λ (n : ℕ). c.args.at + n) (c.size.ensures (as_role c.args.role) c.args.scope);
-    } in
-    join_asks (formula_stood) (ap as_tag c.in-Join.is) c.under.ensures c.value-n.ensures
+    let node = stood c.requires.3 c.requires.4 c.tag_at-tag.ensures c.cost.ensures c.size.ensures in
+    join_asks node (ap as_tag c.in-Join.is) c.under.ensures c.value-n.ensures
     c.formulas.ensures
 
 pub formula-returns-in-Quantifier : goal.formula-returns-in-Quantifier
 formula-returns-in-Quantifier t c =
-    let formula_stood : Stood c.args.table.now c.args.words.now (as_role c.args.role) c.args.above c.args.scope c.args.at (as_tag
-    c.tag_at-tag.result) (c.args.above + c.cost.result) (c.args.at + c.size.result) = record {
-      kind = c.requires.3;
-      here = c.requires.4;
-      known = c.tag_at-tag.ensures;
-      deep = ap (λ (n : ℕ). c.args.above + n) c.cost.ensures;
-      first = ap (λ (n : ℕ). c.args.at + n) (c.size.ensures (as_role c.args.role) c.args.scope);
-    } in
-    quantifier_asks (formula_stood) (ap as_tag c.in-Quantifier.is) c.value-v.ensures c.quantified.ensures
+    let node = stood c.requires.3 c.requires.4 c.tag_at-tag.ensures c.cost.ensures c.size.ensures in
+    quantifier_asks node (ap as_tag c.in-Quantifier.is) c.value-v.ensures c.quantified.ensures
 
 pub formula-returns-in_default : goal.formula-returns-in_default
 formula-returns-in_default t c =
-    let formula_stood : Stood c.args.table.now c.args.words.now (as_role c.args.role) c.args.above c.args.scope c.args.at (as_tag
-    c.tag_at-tag.result) (c.args.above + c.cost.result) (c.args.at + c.size.result) = record {
-      kind = c.requires.3;
-      here = c.requires.4;
-      known = c.tag_at-tag.ensures;
-      deep = ap (λ (n : ℕ). c.args.above + n) c.cost.ensures;
-      first = ap (λ (n : ℕ). c.args.at + n) (c.size.ensures (as_role c.args.role) c.args.scope);
-    } in
-    leaf_asks (formula_stood) (leaf c.tag_at-tag.result (c.in_default.not-Join, c.in_default.not-Quantifier))
+    let node = stood c.requires.3 c.requires.4 c.tag_at-tag.ensures c.cost.ensures c.size.ensures in
+    leaf_asks node (leaf c.tag_at-tag.result (c.in_default.not-Join, c.in_default.not-Quantifier))
 
-pub formulas-formula-child-requires : goal.formulas-formula-child-requires
-formulas-formula-child-requires t c =
+pub formulas-formula-requires : goal.formulas-formula-requires
+formulas-formula-requires t c =
     let s = c.args in (
       omega (arith, c.decreases, c.requires.1),
       (
@@ -140,49 +96,51 @@ formulas-formula-child-requires t c =
         c.requires.1,
         c.requires.2,
         c.requires.3,
-        next_here s.table.now s.words.now (as_role s.role) s.above s.scope s.n s.at c.loop-i.i c.loop-i.next
-            c.loop-i.invariant.1
-            c.loop-i-test.true
+        next_here s.table.now s.words.now (as_role s.role) s.above s.scope s.n s.at c.loop.counter c.loop.next
+            c.loop.invariant.1
+            c.loop-test.true
             c.requires.4,
       ),
     )
 
-pub formulas-returns-in_default : goal.formulas-returns-in_default
-formulas-returns-in_default t c =
+pub formulas-returns-in_err-next : goal.formulas-returns-in_err-next
+formulas-returns-in_err-next t c =
     let s = c.args in
-    next-refused s.table.now s.words.now (as_role s.role) s.above s.scope s.n s.at c.loop-i.i c.loop-i.next
-    c.loop-i.invariant.1
-    c.loop-i-test.true
-    c.in_default.is
-    c.formula-child.ensures
+    rw (passed_on _ c.from_residual.ensures.1)
+    (next-refused s.table.now s.words.now (as_role s.role) s.above s.scope s.n s.at c.loop.counter c.loop.next
+    c.loop.invariant.1
+    c.loop-test.true
+    c.in_err-next.was
+    c.formula.ensures)
 
-pub formulas-loop-i-preserved : goal.formulas-loop-i-preserved
-formulas-loop-i-preserved t c =
+pub formulas-loop-preserved : goal.formulas-loop-preserved
+formulas-loop-preserved t c =
     let s = c.args in (
-      omega (arith, c.loop-i-test.true),
-      next-passed s.table.now s.words.now (as_role s.role) s.above s.scope s.n s.at c.loop-i.i c.loop-i.next
-          c.loop-i.invariant.1
-          c.loop-i-test.true
-          c.in-Passed.is
-          c.formula-child.ensures,
+      omega (arith, c.loop-test.true),
+      next-passed s.table.now s.words.now (as_role s.role) s.above s.scope s.n s.at c.loop.counter c.loop.next
+          c.loop.invariant.1
+          c.loop-test.true
+          c.in_ok-next.was
+          c.formula.ensures,
     )
 
 pub formulas-returns : goal.formulas-returns
 formulas-returns t c =
     let s = c.args in
-    all-passed s.table.now s.words.now (as_role s.role) s.above s.scope s.n s.at c.loop-i.i c.loop-i.next
-    c.loop-i.invariant.1
-    c.loop-i-test.false
+    all-passed s.table.now s.words.now (as_role s.role) s.above s.scope s.n s.at c.loop.counter c.loop.next
+    c.loop.invariant.1
+    c.loop-test.false
 
-pub quantified-returns-in-Refused : goal.quantified-returns-in-Refused
-quantified-returns-in-Refused t c =
+pub quantified-returns-in_err-restriction : goal.quantified-returns-in_err-restriction
+quantified-returns-in_err-restriction t c =
     let s = c.args in
-    restriction-refused s.table.now s.words.now s.level s.scope s.v s.at s.first
+    rw (passed_on _ c.from_residual.ensures.1)
+    (restriction-refused s.table.now s.words.now s.level s.scope s.v s.at s.first
     c.outer.result
     c.outer.ensures.1
-    c.bind-restriction.result
-    c.bind-restriction.ensures
-    c.in-Refused.is
+    c.bind.result
+    c.bind.ensures
+    c.in_err-restriction.was)
 
 pub quantified-returns-then-not-introduced : goal.quantified-returns-then-not-introduced
 quantified-returns-then-not-introduced t c =
@@ -190,9 +148,9 @@ quantified-returns-then-not-introduced t c =
     variables-missed s.table.now s.words.now s.level s.scope s.v s.at s.first
     c.outer.result
     c.outer.ensures.1
-    c.bind-restriction.result
-    c.bind-restriction.ensures
-    c.in_default.is
+    c.bind.result
+    c.bind.ensures
+    c.in_ok-restriction.was
     (sym c.introduced.ensures ∙ c.if-not-introduced.true)
 
 pub quantified-formula-requires : goal.quantified-formula-requires
@@ -207,9 +165,9 @@ quantified-formula-requires t c =
         body-here s.table.now s.words.now s.level s.scope s.v s.at s.first
             c.outer.result
             c.outer.ensures.1
-            c.bind-restriction.result
-            c.bind-restriction.ensures
-            c.in_default.is
+            c.bind.result
+            c.bind.ensures
+            c.in_ok-restriction.was
             c.requires.3,
       ),
     )
@@ -220,9 +178,9 @@ quantified-returns t c =
     body-asked s.table.now s.words.now s.level s.scope s.v s.at s.first
     c.outer.result
     c.outer.ensures.1
-    c.bind-restriction.result
-    c.bind-restriction.ensures
-    c.in_default.is
+    c.bind.result
+    c.bind.ensures
+    c.in_ok-restriction.was
     (sym c.introduced.ensures ∙ c.if-not-introduced.false)
     c.formula.result
     c.formula.ensures

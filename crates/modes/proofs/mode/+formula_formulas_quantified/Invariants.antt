@@ -15,9 +15,6 @@ decreases-formulas l = 131 - 2 * l.above
 abbrev pub decreases-quantified : goal.decreases-quantified
 decreases-quantified l = 131 - 2 * l.level
 
-abbrev pub invariant-formulas-loop-i : goal.invariant-formulas-loop-i
-invariant-formulas-loop-i l =
-    (l.i ≤ l.n) × SoFar l.table l.words (as_role l.role) l.above l.scope l.n l.at l.i l.next
-
-abbrev pub decreases-formulas-loop-i : goal.decreases-formulas-loop-i
-decreases-formulas-loop-i l = l.n - l.i
+abbrev pub invariant-formulas-loop : goal.invariant-formulas-loop
+invariant-formulas-loop l =
+    (l.counter ≤ l.n) × SoFar l.table l.words (as_role l.role) l.above l.scope l.n l.at l.counter l.next

@@ -1,5 +1,5 @@
 -- `modes::mode::all_bound` meets its contract. The loop's invariant: the terms from number i on decide.
-use Prim.Native.Nat.{◌-◌, ◌≤◌}
+use Prim.Native.Nat.{◌≤◌}
 use mathlib.Core.Path.{◌≡◌}
 use Rattle.model.specs.Lists.{all}
 use Rattle.model.specs.Reading.{term_at}
@@ -13,6 +13,3 @@ abbrev pub invariant-loop-i : goal.invariant-loop-i
 invariant-loop-i l =
     (l.i ≤ l.n)
     × (all (is_bound (set_of l.bound)) (terms_at l.words l.first l.n) ≡ from (λ k. is_bound (set_of l.bound) (term_at l.words k)) l.first l.n l.i)
-
-abbrev pub decreases-loop-i : goal.decreases-loop-i
-decreases-loop-i l = l.n - l.i

@@ -1,6 +1,5 @@
 -- `modes::mode::bind_atom` meets its contract, by the tests on its terms.
 use mathlib.Core.Path.{sym, ◌∙◌}
-use mathlib.Core.Bool.{true}
 use Rattle.modes.proofs.ModeAtoms.{atom_inputs_no, atom_inputs_yes, atom-all-no, atom-all-yes}
 use borrow.Author.Rules.{rules}
 use Rattle.modes.proofs.mode.bind_atom.Goals as goal

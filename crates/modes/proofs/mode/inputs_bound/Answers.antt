@@ -1,5 +1,4 @@
 -- `modes::mode::inputs_bound` meets its contract. The loop's invariant: the terms from number i on decide.
-use Prim.Native.Nat.{◌-◌}
 use native.Mathlib.Omega.{arith}
 use mathlib.Core.Path.{sym, ap, ◌∙◌}
 use Rattle.model.specs.Reading.{in_scope}

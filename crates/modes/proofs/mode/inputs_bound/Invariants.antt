@@ -1,5 +1,5 @@
 -- `modes::mode::inputs_bound` meets its contract. The loop's invariant: the terms from number i on decide.
-use Prim.Native.Nat.{◌-◌, ◌≤◌}
+use Prim.Native.Nat.{◌≤◌}
 use mathlib.Core.Path.{◌≡◌}
 use Rattle.model.specs.Mode.{inputs_bound}
 use Rattle.policies.specs.Standing.{terms_at}
@@ -11,6 +11,3 @@ abbrev pub invariant-loop-i : goal.invariant-loop-i
 invariant-loop-i l =
     (l.i ≤ l.n)
     × (inputs_bound l.table l.p (set_of l.bound) 0 (terms_at l.words l.first l.n) ≡ inputs_bound l.table l.p (set_of l.bound) l.i (terms_from l.words l.first l.n l.i))
-
-abbrev pub decreases-loop-i : goal.decreases-loop-i
-decreases-loop-i l = l.n - l.i

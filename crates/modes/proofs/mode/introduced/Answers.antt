@@ -1,5 +1,4 @@
 -- `modes::mode::introduced` meets its contract. The loop's invariant: the variables from number i on decide.
-use Prim.Native.Nat.{◌-◌}
 use native.Mathlib.Omega.{arith}
 use mathlib.Core.Path.{sym, ◌∙◌}
 use Rattle.modes.proofs.ModeFormulaSets.{left-last, left-yes, left-no}

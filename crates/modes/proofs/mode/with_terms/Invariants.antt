@@ -1,7 +1,7 @@
 -- `modes::mode::with_terms` meets its contract. The loop's invariant: the set so far, with the terms from number i on, is what is asked.
-use Prim.Native.Nat.{◌-◌, ◌≤◌}
+use Prim.Native.Nat.{◌≤◌}
 use mathlib.Core.Path.{◌≡◌}
-use lib.ListN.{length, set}
+use lib.ListN.{length}
 use Rattle.policies.specs.Standing.{terms_at}
 use Rattle.modes.specs.Mode.{set_of, with_terms}
 use Rattle.policies.proofs.TermLaws.{terms_from}
@@ -12,6 +12,3 @@ invariant-loop-i l =
     (l.i ≤ l.n)
     × (length l.set ≡ 16)
     × (with_terms (set_of l.initial.set) (terms_at l.words l.first l.n) ≡ with_terms (set_of l.set) (terms_from l.words l.first l.n l.i))
-
-abbrev pub decreases-loop-i : goal.decreases-loop-i
-decreases-loop-i l = l.n - l.i

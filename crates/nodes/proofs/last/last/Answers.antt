@@ -2,57 +2,64 @@
 -- the quantifier with the tuples found.
 use native.Mathlib.Omega.{arith}
 use lib.ListN.{length}
-use Rattle.nodes.proofs.LastLaws.{Sizes, here_sizes, here_fronts, here-restriction, here-body, remains_long, remains_part}
+use Rattle.nodes.proofs.LastLaws.{here_sizes, here_fronts, here-restriction, here-body, remains_long, remains_part}
 use Rattle.nodes.proofs.last.last.Goals as goal
 
 pub overflow_mul-start : goal.overflow_mul-start
 overflow_mul-start c =
-    let sizes_read : let a = c.args in Sizes a.words.now a.scope a.at a.placed.body a.next a.placed.count c.value-v.result c.value-m.result = let a = c.args in
+    let a = c.args in
+    let h =
     here_sizes a.words.now a.scope a.at a.placed.body a.next a.placed.count c.value-v.result c.value-m.result
     c.value-v.ensures c.value-m.ensures c.requires.2 in
-    let h = sizes_read in omega (arith, c.ranges, c.requires.1)
+    omega (arith, c.ranges, c.requires.1)
 
 pub overflow_add-start-2 : goal.overflow_add-start-2
 overflow_add-start-2 c =
-    let sizes_read : let a = c.args in Sizes a.words.now a.scope a.at a.placed.body a.next a.placed.count c.value-v.result c.value-m.result = let a = c.args in
+    let a = c.args in
+    let h =
     here_sizes a.words.now a.scope a.at a.placed.body a.next a.placed.count c.value-v.result c.value-m.result
     c.value-v.ensures c.value-m.ensures c.requires.2 in
-    let h = sizes_read in omega (arith, c.ranges, c.requires.1)
+    omega (arith, c.ranges, c.requires.1)
 
 pub overflow_add-to : goal.overflow_add-to
 overflow_add-to c =
-    let sizes_read : let a = c.args in Sizes a.words.now a.scope a.at a.placed.body a.next a.placed.count c.value-v.result c.value-m.result = let a = c.args in
+    let a = c.args in
+    let h =
     here_sizes a.words.now a.scope a.at a.placed.body a.next a.placed.count c.value-v.result c.value-m.result
     c.value-v.ensures c.value-m.ensures c.requires.2 in
-    let h = sizes_read in omega (arith, c.ranges, c.requires.1)
+    omega (arith, c.ranges, c.requires.1)
 
 pub overflow_mul-to : goal.overflow_mul-to
 overflow_mul-to c =
-    let sizes_read : let a = c.args in Sizes a.words.now a.scope a.at a.placed.body a.next a.placed.count c.value-v.result c.value-m.result = let a = c.args in
+    let a = c.args in
+    let h =
     here_sizes a.words.now a.scope a.at a.placed.body a.next a.placed.count c.value-v.result c.value-m.result
     c.value-v.ensures c.value-m.ensures c.requires.2 in
-    let h = sizes_read in omega (arith, c.ranges, c.requires.1)
+    omega (arith, c.ranges, c.requires.1)
 
 pub overflow_add-to-2 : goal.overflow_add-to-2
 overflow_add-to-2 c =
-    let sizes_read : let a = c.args in Sizes a.words.now a.scope a.at a.placed.body a.next a.placed.count c.value-v.result c.value-m.result = let a = c.args in
+    let a = c.args in
+    let h =
     here_sizes a.words.now a.scope a.at a.placed.body a.next a.placed.count c.value-v.result c.value-m.result
     c.value-v.ensures c.value-m.ensures c.requires.2 in
-    let h = sizes_read in omega (arith, c.ranges, c.requires.1)
+    omega (arith, c.ranges, c.requires.1)
 
 pub overflow_sub-size : goal.overflow_sub-size
 overflow_sub-size c =
-    let sizes_read : let a = c.args in Sizes a.words.now a.scope a.at a.placed.body a.next a.placed.count c.value-v.result c.value-m.result = let a = c.args in
+    let a = c.args in
+    let h =
     here_sizes a.words.now a.scope a.at a.placed.body a.next a.placed.count c.value-v.result c.value-m.result
     c.value-v.ensures c.value-m.ensures c.requires.2 in
-    let h = sizes_read in omega (arith, c.ranges, c.requires.1)
+    omega (arith, c.ranges, c.requires.1)
 
 pub overflow_add-size : goal.overflow_add-size
 overflow_add-size c =
-    let sizes_read : let a = c.args in Sizes a.words.now a.scope a.at a.placed.body a.next a.placed.count c.value-v.result c.value-m.result = let a = c.args in
+    let a = c.args in
+    let h =
     here_sizes a.words.now a.scope a.at a.placed.body a.next a.placed.count c.value-v.result c.value-m.result
     c.value-v.ensures c.value-m.ensures c.requires.2 in
-    let h = sizes_read in omega (arith, c.ranges, c.requires.1)
+    omega (arith, c.ranges, c.requires.1)
 
 pub returns-then-out-size : goal.returns-then-out-size
 returns-then-out-size c =
@@ -70,11 +77,10 @@ front-requires c =
 
 pub copy_at-requires : goal.copy_at-requires
 copy_at-requires c =
-    let sizes_read : let a = c.args in Sizes a.words.now a.scope a.at a.placed.body a.next a.placed.count c.value-v.result c.value-m.result = let a = c.args in
-    here_sizes a.words.now a.scope a.at a.placed.body a.next a.placed.count c.value-v.result c.value-m.result
-    c.value-v.ensures c.value-m.ensures c.requires.2 in
     let a = c.args in
-    let h = sizes_read in (
+    let h =
+    here_sizes a.words.now a.scope a.at a.placed.body a.next a.placed.count c.value-v.result c.value-m.result
+    c.value-v.ensures c.value-m.ensures c.requires.2 in (
       omega arith,
       here-restriction a.words.now a.scope a.at a.placed.body a.next a.placed.count c.value-v.result
           c.value-m.result c.value-v.ensures c.value-m.ensures _ (omega (arith, c.front.auto.out))
@@ -83,27 +89,26 @@ copy_at-requires c =
 
 pub overflow_sub-body : goal.overflow_sub-body
 overflow_sub-body c =
-    let sizes_read : let a = c.args in Sizes a.words.now a.scope a.at a.placed.body a.next a.placed.count c.value-v.result c.value-m.result = let a = c.args in
+    let a = c.args in
+    let h =
     here_sizes a.words.now a.scope a.at a.placed.body a.next a.placed.count c.value-v.result c.value-m.result
     c.value-v.ensures c.value-m.ensures c.requires.2 in
-    let h = sizes_read in
     omega (arith, c.ranges, c.requires.1)
 
 pub overflow_add-to-3 : goal.overflow_add-to-3
 overflow_add-to-3 c =
-    let sizes_read : let a = c.args in Sizes a.words.now a.scope a.at a.placed.body a.next a.placed.count c.value-v.result c.value-m.result = let a = c.args in
+    let a = c.args in
+    let h =
     here_sizes a.words.now a.scope a.at a.placed.body a.next a.placed.count c.value-v.result c.value-m.result
     c.value-v.ensures c.value-m.ensures c.requires.2 in
-    let h = sizes_read in
     omega (arith, c.ranges, c.requires.1)
 
 pub copy_at-requires-2 : goal.copy_at-requires-2
 copy_at-requires-2 c =
-    let sizes_read : let a = c.args in Sizes a.words.now a.scope a.at a.placed.body a.next a.placed.count c.value-v.result c.value-m.result = let a = c.args in
-    here_sizes a.words.now a.scope a.at a.placed.body a.next a.placed.count c.value-v.result c.value-m.result
-    c.value-v.ensures c.value-m.ensures c.requires.2 in
     let a = c.args in
-    let h = sizes_read in (
+    let h =
+    here_sizes a.words.now a.scope a.at a.placed.body a.next a.placed.count c.value-v.result c.value-m.result
+    c.value-v.ensures c.value-m.ensures c.requires.2 in (
       omega arith,
       here-body a.words.now a.scope a.at a.placed.body a.next a.placed.count c.value-v.result
           c.value-m.result c.value-v.ensures c.value-m.ensures _

@@ -1,5 +1,5 @@
--- `nodes::last::tuples` meets its contract. The loop's invariant: the first j tuples stand one behind another, up to `end`.
-use Prim.Native.Nat.{◌+◌, ◌*◌, ◌-◌, ◌≤◌}
+-- `nodes::last::tuples` meets its contract. The loop's invariant: the first j tuples stand one behind another.
+use Prim.Native.Nat.{◌+◌, ◌*◌, ◌≤◌}
 use native.Mathlib.Omega.{arith}
 use lib.ListN.{length}
 use mathlib.Core.Path.{◌≡◌}
@@ -17,10 +17,10 @@ copy_words-requires c =
     let there : 17 * a.from + a.scope + 17 * a.k + a.v ≤ length a.scratch.now + 17 =
     omega (arith, c.requires) in
     let room =
-    copied_room a.scratch.now a.v (17 * a.from + a.scope) a.k a.out.now a.to there c.loop-j.end c.loop-j.j
+    copied_room a.scratch.now a.v (17 * a.from + a.scope) a.k a.out.now a.to there c.loop-j.j
     c.loop-j.out c.loop-j.invariant c.loop-j-test.true in
     let long =
-    copied_long a.scratch.now a.v (17 * a.from + a.scope) a.k a.out.now a.to there c.loop-j.end c.loop-j.j
+    copied_long a.scratch.now a.v (17 * a.from + a.scope) a.k a.out.now a.to there c.loop-j.j
     c.loop-j.out c.loop-j.invariant in
     (omega (arith, c.requires), omega arith)
 
@@ -30,11 +30,11 @@ loop-j-preserved c =
     let there : 17 * a.from + a.scope + 17 * a.k + a.v ≤ length a.scratch.now + 17 =
     omega (arith, c.requires) in
     let place : 17 * (a.from + c.loop-j.j) + a.scope ≡ 17 * a.from + a.scope + 17 * c.loop-j.j = omega arith in
-    copied_more a.scratch.now a.v (17 * a.from + a.scope) a.k a.out.now a.to there c.loop-j.end c.loop-j.j
+    copied_more a.scratch.now a.v (17 * a.from + a.scope) a.k a.out.now a.to there c.loop-j.j
     c.loop-j.out c.loop-j.invariant c.loop-j-test.true _ _ place c.copy_words.ensures
 
 pub returns : goal.returns
 returns c =
     let a = c.args in
     copied_end a.scratch.now a.v (17 * a.from + a.scope) a.k a.out.now a.to
-    (omega (arith, c.requires)) c.loop-j.end c.loop-j.j c.loop-j.out c.loop-j.invariant (omega arith)
+    (omega (arith, c.requires)) c.loop-j.j c.loop-j.out c.loop-j.invariant (omega arith)

@@ -1,10 +1,7 @@
--- `nodes::last::tuples` meets its contract. The loop's invariant: the first j tuples stand one behind another, up to `end`.
-use Prim.Native.Nat.{◌+◌, ◌*◌, ◌-◌}
+-- `nodes::last::tuples` meets its contract. The loop's invariant: the first j tuples stand one behind another.
+use Prim.Native.Nat.{◌+◌, ◌*◌}
 use Rattle.nodes.proofs.LastLaws.{Copied}
 use Rattle.nodes.proofs.last.tuples.Given as goal
 
 abbrev pub invariant-loop-j : goal.invariant-loop-j
-invariant-loop-j l = Copied l.scratch l.v (17 * l.from + l.scope) l.k l.initial.out l.to l.end l.j l.out
-
-abbrev pub decreases-loop-j : goal.decreases-loop-j
-decreases-loop-j l = l.k - l.j
+invariant-loop-j l = Copied l.scratch l.v (17 * l.from + l.scope) l.k l.initial.out l.to l.j l.out

@@ -2,7 +2,7 @@
 use Prim.Native.Nat.{ℕ, ◌+◌}
 use mathlib.Core.Path.{◌≡◌, sym, ap, ◌∙◌}
 use Rattle.model.specs.Words.{word, below}
-use Rattle.model.specs.Table.{predicates, arity}
+use Rattle.model.specs.Table.{predicates}
 use Rattle.model.specs.Reading.{good_predicate}
 use Rattle.policies.proofs.node.arity_fits.Goals as goal
 

@@ -1,5 +1,4 @@
 -- `policies::node::kinds` meets its contract. The loop's invariant: the terms from number i on decide. The measure is their number.
-use Prim.Native.Nat.{◌-◌}
 use native.Mathlib.Omega.{arith}
 use mathlib.Core.Path.{sym, ◌∙◌}
 use borrow.Author.Rules.{rules}

@@ -1,5 +1,5 @@
--- `policies::node::kinds` meets its contract. The loop's invariant: the terms from number i on decide. The measure is their number.
-use Prim.Native.Nat.{◌-◌, ◌≤◌}
+-- `policies::node::kinds` meets its contract. The loop's invariant: the terms from number i on decide.
+use Prim.Native.Nat.{◌≤◌}
 use mathlib.Core.Path.{◌≡◌}
 use Rattle.model.specs.Lists.{all}
 use Rattle.model.specs.Reading.{places, good_kind}
@@ -9,6 +9,3 @@ use Rattle.policies.proofs.node.kinds.Given as goal
 abbrev pub invariant-loop-i : goal.invariant-loop-i
 invariant-loop-i l =
     (l.i ≤ l.n) × (all (good_kind l.words) (places l.first l.n) ≡ from (good_kind l.words) l.first l.n l.i)
-
-abbrev pub decreases-loop-i : goal.decreases-loop-i
-decreases-loop-i l = l.n - l.i

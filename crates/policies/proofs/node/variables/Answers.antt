@@ -1,9 +1,7 @@
 -- `policies::node::variables` meets its contract. The loop's invariant: the terms from number i on decide. The measure is their number.
-use Prim.Native.Nat.{◌-◌}
 use native.Mathlib.Omega.{arith}
 use mathlib.Core.Path.{sym, ◌∙◌}
 use borrow.Author.Rules.{rules}
-use Rattle.model.specs.Reading.{in_scope}
 use Rattle.policies.proofs.NodeTerms.{from_first, from_last, from-yes, from-no}
 use Rattle.policies.proofs.node.variables.Goals as goal
 

@@ -1,5 +1,5 @@
--- `policies::node::variables` meets its contract. The loop's invariant: the terms from number i on decide. The measure is their number.
-use Prim.Native.Nat.{◌-◌, ◌≤◌}
+-- `policies::node::variables` meets its contract. The loop's invariant: the terms from number i on decide.
+use Prim.Native.Nat.{◌≤◌}
 use mathlib.Core.Path.{◌≡◌}
 use Rattle.model.specs.Lists.{all}
 use Rattle.model.specs.Reading.{places, in_scope}
@@ -9,6 +9,3 @@ use Rattle.policies.proofs.node.variables.Given as goal
 abbrev pub invariant-loop-i : goal.invariant-loop-i
 invariant-loop-i l =
     (l.i ≤ l.n) × (all (in_scope l.words l.scope) (places l.first l.n) ≡ from (in_scope l.words l.scope) l.first l.n l.i)
-
-abbrev pub decreases-loop-i : goal.decreases-loop-i
-decreases-loop-i l = l.n - l.i

@@ -16,12 +16,9 @@ decreases-quantified l = 131 - 2 * l.level
 abbrev pub decreases-walk : goal.decreases-walk
 decreases-walk l = 130 - 2 * l.above
 
-abbrev pub invariant-children-loop-i : goal.invariant-children-loop-i
-invariant-children-loop-i l =
-    (l.i ≤ l.n)
+abbrev pub invariant-children-loop : goal.invariant-children-loop
+invariant-children-loop l =
+    (l.counter ≤ l.n)
     × (l.next ≤ length l.words)
     × (l.above ≤ l.level)
-    × Left l.table l.words (as_role l.role) l.above l.scope l.n l.at l.i l.next l.level
-
-abbrev pub decreases-children-loop-i : goal.decreases-children-loop-i
-decreases-children-loop-i l = l.n - l.i
+    × Left l.table l.words (as_role l.role) l.above l.scope l.n l.at l.counter l.next l.level

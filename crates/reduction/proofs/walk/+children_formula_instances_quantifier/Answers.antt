@@ -16,12 +16,15 @@ use Rattle.policies.specs.declared.node.Tag.{Tag}
 use Rattle.policies.specs.declared.node.Tag.TheVariants.{Plain, Atom, Compare, Join, Quantifier, Some, Unused}
 use Rattle.model.specs.Tag as T
 use mathlib.Core.Logic.{◌⊎◌, inl, inr, ⊎_elim}
-use Rattle.policies.proofs.Stood.{Stood, formula-kind, level-fits, own-fits, next_in, level_in, level_down}
+use Rattle.policies.proofs.Stood.{formula-kind, level-fits, own-fits, next_in, level_in, level_down}
 use Rattle.reduction.specs.Walk.{ReducesNode}
 use Rattle.joining.proofs.Lending.{rest, rest-long, lent_long}
 use Rattle.reduction.proofs.WalkChildren.{children-start, children-within, children-here, children-short}
 use Rattle.reduction.proofs.WalkChildren.{children_adding, children-next, children_end}
-use Rattle.reduction.proofs.WalkNodes.{node-plain, atom-here, node-atom, compare-here, node-compare, join-here, node-join}
+use denote.Enum.Bare.{same_true, same_false}
+use borrow.Author.Rules.{rules}
+use Rattle.joining.specs.contracts.join.State.{the_type}
+use Rattle.reduction.proofs.WalkNodes.{stood, node-plain, atom-here, node-atom, compare-here, node-compare, join-here, node-join}
 use Rattle.reduction.proofs.WalkNodes.{quantifier-here, node-quantifier, node-some, node-unused}
 use Rattle.reduction.proofs.WalkInstances.{instances-start, kept-start}
 use Rattle.reduction.proofs.WalkInstances.{kept_lent, instance_some, instances_adding, instances-next}
@@ -53,15 +56,11 @@ other_tag (Quantifier b) k = absurd (k.4 b refl)
 other_tag Some k = inl refl
 other_tag Unused k = inr refl
 
-pub children-loop-i-init : goal.children-loop-i-init
-children-loop-i-init t c =
-    let a = c.args in (
-      omega arith,
-      refl,
-      refl,
-      children-start a.table.now a.words.now a.log.now a.kind a.above
-          a.scope a.environment (length a.scratch.now / 17) a.n a.at c.new-join.ensures,
-    )
+pub children-loop-init : goal.children-loop-init
+children-loop-init t c =
+    let a = c.args in
+    children-start a.table.now a.words.now a.log.now a.kind a.above a.scope a.environment (length a.scratch.now / 17) a.n a.at
+    c.new-join.ensures
 
 pub children-formula-child-requires : goal.children-formula-child-requires
 children-formula-child-requires t c =
@@ -72,85 +71,74 @@ children-formula-child-requires t c =
         c.requires.1,
         c.requires.2,
         omega
-            (arith, rest-long c.loop-i.out c.loop-i.join.words, c.loop-i.invariant.2, c.requires.3),
+            (arith, rest-long c.loop.out c.loop.join.words, c.loop.auto.out, c.requires.3),
         operand-kind a.kind,
         children-here a.table.now a.words.now a.log.now a.kind a.above a.scope a.environment
-            (length a.scratch.now / 17) a.n a.at c.loop-i.i c.loop-i.next c.loop-i.join c.loop-i.out c.loop-i.invariant.3
-            c.loop-i-test.true c.requires.4 c.requires.5,
+            (length a.scratch.now / 17) a.n a.at c.loop.counter c.loop.next c.loop.join c.loop.out c.loop.invariant
+            c.loop-test.true c.requires.4 c.requires.5,
         c.requires.5,
       ),
     )
 
 pub children-returns-in-Short : goal.children-returns-in-Short
 children-returns-in-Short t c =
-    let child : let a = c.args in ReducesNode a.table.now a.words.now a.log.now (L.Role.operand a.kind) a.above a.scope c.loop-i.next a.environment
-    (length a.scratch.now / 17) (rest c.loop-i.out c.loop-i.join.words) c.formula-child.new.out c.formula-child.result = let a = c.args in
+    let a = c.args in
+    let child =
     subst
     (λ (n : ℕ). ReducesNode a.table.now a.words.now a.log.now (L.Role.operand a.kind) a.above
-    a.scope c.loop-i.next a.environment (n / 17) (rest c.loop-i.out c.loop-i.join.words)
-    c.formula-child.new.out c.formula-child.result) c.loop-i.invariant.1 c.formula-child.ensures in
-    let a = c.args in
+    a.scope c.loop.next a.environment (n / 17) (rest c.loop.out c.loop.join.words)
+    c.formula-child.new.out c.formula-child.result) c.loop.auto.scratch c.formula-child.ensures in
     children-short a.table.now a.words.now a.log.now a.kind a.above a.scope a.environment
-    (length a.scratch.now / 17) a.n a.at c.loop-i.i c.loop-i.next c.loop-i.join c.loop-i.out c.loop-i.invariant.3
-    c.loop-i-test.true c.formula-child.new.out c.formula-child.result (child) c.in-Short.is
-    (lent_long c.loop-i.out c.loop-i.join.words c.formula-child.new.out
+    (length a.scratch.now / 17) a.n a.at c.loop.counter c.loop.next c.loop.join c.loop.out c.loop.invariant
+    c.loop-test.true c.formula-child.new.out c.formula-child.result child c.in-Short.is
+    (lent_long c.loop.out c.loop.join.words c.formula-child.new.out
     (children-within a.table.now a.words.now a.log.now a.kind a.above a.scope a.environment
-    (length a.scratch.now / 17) a.n a.at c.loop-i.i c.loop-i.next c.loop-i.join c.loop-i.out c.loop-i.invariant.3
-    c.requires.4 c.requires.5) c.formula-child.auto.out ∙ c.loop-i.invariant.2) _ c.in-Short.is
+    (length a.scratch.now / 17) a.n a.at c.loop.counter c.loop.next c.loop.join c.loop.out c.loop.invariant
+    c.requires.4 c.requires.5) c.formula-child.auto.out ∙ c.loop.auto.out) _ c.in-Short.is
 
 pub children-add-join-requires : goal.children-add-join-requires
 children-add-join-requires t c =
-    let child : let a = c.args in ReducesNode a.table.now a.words.now a.log.now (L.Role.operand a.kind) a.above a.scope c.loop-i.next a.environment
-    (length a.scratch.now / 17) (rest c.loop-i.out c.loop-i.join.words) c.formula-child.new.out c.formula-child.result = let a = c.args in
+    let a = c.args in
+    let child =
     subst
     (λ (n : ℕ). ReducesNode a.table.now a.words.now a.log.now (L.Role.operand a.kind) a.above
-    a.scope c.loop-i.next a.environment (n / 17) (rest c.loop-i.out c.loop-i.join.words)
-    c.formula-child.new.out c.formula-child.result) c.loop-i.invariant.1 c.formula-child.ensures in
-    let a = c.args in (
+    a.scope c.loop.next a.environment (n / 17) (rest c.loop.out c.loop.join.words)
+    c.formula-child.new.out c.formula-child.result) c.loop.auto.scratch c.formula-child.ensures in (
       omega (
         arith,
-        lent_long c.loop-i.out c.loop-i.join.words c.formula-child.new.out
+        lent_long c.loop.out c.loop.join.words c.formula-child.new.out
             (children-within a.table.now a.words.now a.log.now a.kind a.above a.scope a.environment
-            (length a.scratch.now / 17) a.n a.at c.loop-i.i c.loop-i.next c.loop-i.join c.loop-i.out c.loop-i.invariant.3
+            (length a.scratch.now / 17) a.n a.at c.loop.counter c.loop.next c.loop.join c.loop.out c.loop.invariant
             c.requires.4 c.requires.5) c.formula-child.auto.out,
-        c.loop-i.invariant.2,
+        c.loop.auto.out,
         c.requires.3,
       ),
       children_adding a.table.now a.words.now a.log.now a.kind a.above a.scope a.environment
-          (length a.scratch.now / 17) a.n a.at c.loop-i.i c.loop-i.next c.loop-i.join c.loop-i.out c.loop-i.invariant.3
-          c.loop-i-test.true c.formula-child.new.out c.formula-child.result (child)
+          (length a.scratch.now / 17) a.n a.at c.loop.counter c.loop.next c.loop.join c.loop.out c.loop.invariant
+          c.loop-test.true c.formula-child.new.out c.formula-child.result child
           c.requires.4 c.requires.5,
     )
 
-pub children-loop-i-preserved : goal.children-loop-i-preserved
-children-loop-i-preserved t c =
-    let child : let a = c.args in ReducesNode a.table.now a.words.now a.log.now (L.Role.operand a.kind) a.above a.scope c.loop-i.next a.environment
-    (length a.scratch.now / 17) (rest c.loop-i.out c.loop-i.join.words) c.formula-child.new.out c.formula-child.result = let a = c.args in
+pub children-loop-preserved : goal.children-loop-preserved
+children-loop-preserved t c =
+    let a = c.args in
+    let child =
     subst
     (λ (n : ℕ). ReducesNode a.table.now a.words.now a.log.now (L.Role.operand a.kind) a.above
-    a.scope c.loop-i.next a.environment (n / 17) (rest c.loop-i.out c.loop-i.join.words)
-    c.formula-child.new.out c.formula-child.result) c.loop-i.invariant.1 c.formula-child.ensures in
-    let a = c.args in (
-      omega (arith, c.loop-i-test.true),
-      c.formula-child.auto.scratch ∙ c.loop-i.invariant.1,
-      c.add-join.auto.out ∙ lent_long
-          c.loop-i.out c.loop-i.join.words c.formula-child.new.out
-          (children-within a.table.now a.words.now a.log.now a.kind a.above a.scope a.environment
-          (length a.scratch.now / 17) a.n a.at c.loop-i.i c.loop-i.next c.loop-i.join c.loop-i.out c.loop-i.invariant.3
-          c.requires.4 c.requires.5) c.formula-child.auto.out ∙ c.loop-i.invariant.2,
-      children-next
-          a.table.now a.words.now a.log.now a.kind a.above a.scope a.environment
-          (length a.scratch.now / 17) a.n a.at c.loop-i.i c.loop-i.next c.loop-i.join c.loop-i.out c.loop-i.invariant.3
-          c.loop-i-test.true c.formula-child.new.out c.formula-child.result (child)
-          c.in_default.not-Short _ _ c.add-join.ensures,
-    )
+    a.scope c.loop.next a.environment (n / 17) (rest c.loop.out c.loop.join.words)
+    c.formula-child.new.out c.formula-child.result) c.loop.auto.scratch c.formula-child.ensures in
+    children-next
+    a.table.now a.words.now a.log.now a.kind a.above a.scope a.environment
+    (length a.scratch.now / 17) a.n a.at c.loop.counter c.loop.next c.loop.join c.loop.out c.loop.invariant
+    c.loop-test.true c.formula-child.new.out c.formula-child.result child
+    c.in_default.not-Short _ _ c.add-join.ensures
 
 pub children-returns : goal.children-returns
 children-returns t c =
     let a = c.args in
     children_end a.table.now a.words.now a.log.now a.kind a.above a.scope a.environment
-    (length a.scratch.now / 17) a.n a.at c.loop-i.i c.loop-i.next c.loop-i.join c.loop-i.out c.loop-i.invariant.3
-    c.loop-i-test.false c.loop-i.invariant.2 _ _ c.finish-answer.ensures
+    (length a.scratch.now / 17) a.n a.at c.loop.counter c.loop.next c.loop.join c.loop.out c.loop.invariant
+    c.loop-test.false c.loop.auto.out _ _ c.finish-answer.ensures
 
 pub formula-overflow_add-level : goal.formula-overflow_add-level
 formula-overflow_add-level t c =
@@ -165,78 +153,46 @@ formula-size-requires t c =
 
 pub formula-overflow_add-next : goal.formula-overflow_add-next
 formula-overflow_add-next t c =
-    let formula_stood : let a = c.args in Stood a.table.now a.words.now (as_role a.role) a.above a.scope a.at (as_tag c.tag_at-tag.result) (a.above +
-    c.cost.result) (a.at + c.size.result) = let a = c.args in
-    record {
-      kind = c.requires.4;
-      here = c.requires.5;
-      known = c.tag_at-tag.ensures;
-      deep = ap
-          (λ (n : ℕ). a.above + n) c.cost.ensures;
-      first = ap (λ (n : ℕ). a.at + n)
-          (c.size.ensures (as_role a.role) a.scope);
-    } in
-    omega (arith, next_in (formula_stood))
+    let node =
+    stood c.args.table.now c.args.words.now (as_role c.args.role) c.args.above c.args.scope c.args.at c.requires.4 c.requires.5
+    c.tag_at-tag.ensures c.cost.ensures c.size.ensures in
+    omega (arith, next_in node)
 
 pub formula-atom-requires : goal.formula-atom-requires
 formula-atom-requires t c =
-    let formula_stood : let a = c.args in Stood a.table.now a.words.now (as_role a.role) a.above a.scope a.at (as_tag c.tag_at-tag.result) (a.above +
-    c.cost.result) (a.at + c.size.result) = let a = c.args in
-    record {
-      kind = c.requires.4;
-      here = c.requires.5;
-      known = c.tag_at-tag.ensures;
-      deep = ap
-          (λ (n : ℕ). a.above + n) c.cost.ensures;
-      first = ap (λ (n : ℕ). a.at + n)
-          (c.size.ensures (as_role a.role) a.scope);
-    } in
+    let node =
+    stood c.args.table.now c.args.words.now (as_role c.args.role) c.args.above c.args.scope c.args.at c.requires.4 c.requires.5
+    c.tag_at-tag.ensures c.cost.ensures c.size.ensures in
     let a = c.args in (
       c.requires.0,
       c.requires.2,
       atom-here a.table.now a.words.now a.log.now
-          (formula_stood) a.environment (length a.scratch.now / 17) (ap as_tag c.in-Atom.is),
+          node a.environment (length a.scratch.now / 17) (ap as_tag c.in-Atom.is),
     )
 
 pub formula-compare-requires : goal.formula-compare-requires
 formula-compare-requires t c =
-    let formula_stood : let a = c.args in Stood a.table.now a.words.now (as_role a.role) a.above a.scope a.at (as_tag c.tag_at-tag.result) (a.above +
-    c.cost.result) (a.at + c.size.result) = let a = c.args in
-    record {
-      kind = c.requires.4;
-      here = c.requires.5;
-      known = c.tag_at-tag.ensures;
-      deep = ap
-          (λ (n : ℕ). a.above + n) c.cost.ensures;
-      first = ap (λ (n : ℕ). a.at + n)
-          (c.size.ensures (as_role a.role) a.scope);
-    } in
+    let node =
+    stood c.args.table.now c.args.words.now (as_role c.args.role) c.args.above c.args.scope c.args.at c.requires.4 c.requires.5
+    c.tag_at-tag.ensures c.cost.ensures c.size.ensures in
     let a = c.args in
-    compare-here a.table.now a.words.now a.log.now (formula_stood) a.environment
+    compare-here a.table.now a.words.now a.log.now node a.environment
     (length a.scratch.now / 17) c.requires.2 (ap as_tag c.in-Compare.is)
 
 pub formula-children-requires : goal.formula-children-requires
 formula-children-requires t c =
-    let formula_stood : let a = c.args in Stood a.table.now a.words.now (as_role a.role) a.above a.scope a.at (as_tag c.tag_at-tag.result) (a.above +
-    c.cost.result) (a.at + c.size.result) = let a = c.args in
-    record {
-      kind = c.requires.4;
-      here = c.requires.5;
-      known = c.tag_at-tag.ensures;
-      deep = ap
-          (λ (n : ℕ). a.above + n) c.cost.ensures;
-      first = ap (λ (n : ℕ). a.at + n)
-          (c.size.ensures (as_role a.role) a.scope);
-    } in
+    let node =
+    stood c.args.table.now c.args.words.now (as_role c.args.role) c.args.above c.args.scope c.args.at c.requires.4 c.requires.5
+    c.tag_at-tag.ensures c.cost.ensures c.size.ensures in
     let a = c.args in (
-      omega (arith, level_down (formula_stood), level_in (formula_stood), c.decreases),
+      omega (arith, level_down node, level_in node, c.decreases),
       (
         c.requires.0,
-        level_in (formula_stood),
+        level_in node,
         c.requires.2,
         c.requires.3,
         join-here a.table.now
-            a.words.now a.log.now (formula_stood) a.environment (length a.scratch.now / 17)
+            a.words.now a.log.now node a.environment (length a.scratch.now / 17)
             (ap as_tag c.in-Join.is) c.value-n.ensures,
         c.requires.6,
       ),
@@ -244,26 +200,18 @@ formula-children-requires t c =
 
 pub formula-quantifier-requires : goal.formula-quantifier-requires
 formula-quantifier-requires t c =
-    let formula_stood : let a = c.args in Stood a.table.now a.words.now (as_role a.role) a.above a.scope a.at (as_tag c.tag_at-tag.result) (a.above +
-    c.cost.result) (a.at + c.size.result) = let a = c.args in
-    record {
-      kind = c.requires.4;
-      here = c.requires.5;
-      known = c.tag_at-tag.ensures;
-      deep = ap
-          (λ (n : ℕ). a.above + n) c.cost.ensures;
-      first = ap (λ (n : ℕ). a.at + n)
-          (c.size.ensures (as_role a.role) a.scope);
-    } in
+    let node =
+    stood c.args.table.now c.args.words.now (as_role c.args.role) c.args.above c.args.scope c.args.at c.requires.4 c.requires.5
+    c.tag_at-tag.ensures c.cost.ensures c.size.ensures in
     let a = c.args in (
-      omega (arith, level_down (formula_stood), level_in (formula_stood), c.decreases),
+      omega (arith, level_down node, level_in node, c.decreases),
       (
         c.requires.0,
-        level_in (formula_stood),
+        level_in node,
         c.requires.2,
         c.requires.3,
         quantifier-here
-            a.table.now a.words.now a.log.now (formula_stood) a.environment
+            a.table.now a.words.now a.log.now node a.environment
             (length a.scratch.now / 17) (ap as_tag c.in-Quantifier.is),
         c.requires.6,
       ),
@@ -271,117 +219,67 @@ formula-quantifier-requires t c =
 
 pub formula-returns-in-Plain : goal.formula-returns-in-Plain
 formula-returns-in-Plain t c =
-    let formula_stood : let a = c.args in Stood a.table.now a.words.now (as_role a.role) a.above a.scope a.at (as_tag c.tag_at-tag.result) (a.above +
-    c.cost.result) (a.at + c.size.result) = let a = c.args in
-    record {
-      kind = c.requires.4;
-      here = c.requires.5;
-      known = c.tag_at-tag.ensures;
-      deep = ap
-          (λ (n : ℕ). a.above + n) c.cost.ensures;
-      first = ap (λ (n : ℕ). a.at + n)
-          (c.size.ensures (as_role a.role) a.scope);
-    } in
+    let node =
+    stood c.args.table.now c.args.words.now (as_role c.args.role) c.args.above c.args.scope c.args.at c.requires.4 c.requires.5
+    c.tag_at-tag.ensures c.cost.ensures c.size.ensures in
     let a = c.args in
-    node-plain a.table.now a.words.now a.log.now (formula_stood) a.environment
+    node-plain a.table.now a.words.now a.log.now node a.environment
     (length a.scratch.now / 17) (ap as_tag c.in-Plain.is) a.out.now
 
 pub formula-returns-in-Atom : goal.formula-returns-in-Atom
 formula-returns-in-Atom t c =
-    let formula_stood : let a = c.args in Stood a.table.now a.words.now (as_role a.role) a.above a.scope a.at (as_tag c.tag_at-tag.result) (a.above +
-    c.cost.result) (a.at + c.size.result) = let a = c.args in
-    record {
-      kind = c.requires.4;
-      here = c.requires.5;
-      known = c.tag_at-tag.ensures;
-      deep = ap
-          (λ (n : ℕ). a.above + n) c.cost.ensures;
-      first = ap (λ (n : ℕ). a.at + n)
-          (c.size.ensures (as_role a.role) a.scope);
-    } in
+    let node =
+    stood c.args.table.now c.args.words.now (as_role c.args.role) c.args.above c.args.scope c.args.at c.requires.4 c.requires.5
+    c.tag_at-tag.ensures c.cost.ensures c.size.ensures in
     let a = c.args in
-    node-atom a.table.now a.words.now a.log.now (formula_stood) a.environment
+    node-atom a.table.now a.words.now a.log.now node a.environment
     (length a.scratch.now / 17) (ap as_tag c.in-Atom.is) a.out.now _ _ c.atom.ensures
 
 pub formula-returns-in-Compare : goal.formula-returns-in-Compare
 formula-returns-in-Compare t c =
-    let formula_stood : let a = c.args in Stood a.table.now a.words.now (as_role a.role) a.above a.scope a.at (as_tag c.tag_at-tag.result) (a.above +
-    c.cost.result) (a.at + c.size.result) = let a = c.args in
-    record {
-      kind = c.requires.4;
-      here = c.requires.5;
-      known = c.tag_at-tag.ensures;
-      deep = ap
-          (λ (n : ℕ). a.above + n) c.cost.ensures;
-      first = ap (λ (n : ℕ). a.at + n)
-          (c.size.ensures (as_role a.role) a.scope);
-    } in
+    let node =
+    stood c.args.table.now c.args.words.now (as_role c.args.role) c.args.above c.args.scope c.args.at c.requires.4 c.requires.5
+    c.tag_at-tag.ensures c.cost.ensures c.size.ensures in
     let a = c.args in
-    node-compare a.table.now a.words.now a.log.now (formula_stood) a.environment
+    node-compare a.table.now a.words.now a.log.now node a.environment
     (length a.scratch.now / 17) (ap as_tag c.in-Compare.is) a.out.now _ c.compare.ensures
 
 pub formula-returns-in-Join : goal.formula-returns-in-Join
 formula-returns-in-Join t c =
-    let formula_stood : let a = c.args in Stood a.table.now a.words.now (as_role a.role) a.above a.scope a.at (as_tag c.tag_at-tag.result) (a.above +
-    c.cost.result) (a.at + c.size.result) = let a = c.args in
-    record {
-      kind = c.requires.4;
-      here = c.requires.5;
-      known = c.tag_at-tag.ensures;
-      deep = ap
-          (λ (n : ℕ). a.above + n) c.cost.ensures;
-      first = ap (λ (n : ℕ). a.at + n)
-          (c.size.ensures (as_role a.role) a.scope);
-    } in
+    let node =
+    stood c.args.table.now c.args.words.now (as_role c.args.role) c.args.above c.args.scope c.args.at c.requires.4 c.requires.5
+    c.tag_at-tag.ensures c.cost.ensures c.size.ensures in
     let a = c.args in
-    node-join a.table.now a.words.now a.log.now (formula_stood) a.environment
+    node-join a.table.now a.words.now a.log.now node a.environment
     (length a.scratch.now / 17) (ap as_tag c.in-Join.is) c.value-n.ensures
     c.children.ensures
 
 pub formula-returns-in-Quantifier : goal.formula-returns-in-Quantifier
 formula-returns-in-Quantifier t c =
-    let formula_stood : let a = c.args in Stood a.table.now a.words.now (as_role a.role) a.above a.scope a.at (as_tag c.tag_at-tag.result) (a.above +
-    c.cost.result) (a.at + c.size.result) = let a = c.args in
-    record {
-      kind = c.requires.4;
-      here = c.requires.5;
-      known = c.tag_at-tag.ensures;
-      deep = ap
-          (λ (n : ℕ). a.above + n) c.cost.ensures;
-      first = ap (λ (n : ℕ). a.at + n)
-          (c.size.ensures (as_role a.role) a.scope);
-    } in
+    let node =
+    stood c.args.table.now c.args.words.now (as_role c.args.role) c.args.above c.args.scope c.args.at c.requires.4 c.requires.5
+    c.tag_at-tag.ensures c.cost.ensures c.size.ensures in
     let a = c.args in
-    node-quantifier a.table.now a.words.now a.log.now (formula_stood) a.environment
+    node-quantifier a.table.now a.words.now a.log.now node a.environment
     (length a.scratch.now / 17) (ap as_tag c.in-Quantifier.is) c.quantifier.ensures
 
 pub formula-returns-in_default : goal.formula-returns-in_default
 formula-returns-in_default t c =
-    let formula_stood : let a = c.args in Stood a.table.now a.words.now (as_role a.role) a.above a.scope a.at (as_tag c.tag_at-tag.result) (a.above +
-    c.cost.result) (a.at + c.size.result) = let a = c.args in
-    record {
-      kind = c.requires.4;
-      here = c.requires.5;
-      known = c.tag_at-tag.ensures;
-      deep = ap
-          (λ (n : ℕ). a.above + n) c.cost.ensures;
-      first = ap (λ (n : ℕ). a.at + n)
-          (c.size.ensures (as_role a.role) a.scope);
-    } in
+    let node =
+    stood c.args.table.now c.args.words.now (as_role c.args.role) c.args.above c.args.scope c.args.at c.requires.4 c.requires.5
+    c.tag_at-tag.ensures c.cost.ensures c.size.ensures in
     let a = c.args in
     ⊎_elim
-    (λ e. node-some a.table.now a.words.now a.log.now (formula_stood) a.environment
+    (λ e. node-some a.table.now a.words.now a.log.now node a.environment
     (length a.scratch.now / 17) e)
-    (λ e. node-unused a.table.now a.words.now a.log.now (formula_stood) a.environment
+    (λ e. node-unused a.table.now a.words.now a.log.now node a.environment
     (length a.scratch.now / 17) e) (other_tag c.tag_at-tag.result (c.in_default.not-Plain, c.in_default.not-Atom, c.in_default.not-Compare, c.in_default.not-Join, c.in_default.not-Quantifier))
 
 pub instances-loop-i-init : goal.instances-loop-i-init
 instances-loop-i-init t c =
     let a = c.args in (
-      omega arith,
       kept-start a.table.now a.words.now a.log.now a.kind a.level a.scope a.v
           a.placed.body a.placed.from a.placed.count a.placed.used a.environment a.scratch.now,
-      refl,
       instances-start a.table.now
           a.words.now a.log.now a.kind a.level a.scope a.v a.placed.body a.placed.from a.placed.count a.placed.used
           a.environment a.scratch.now a.placed.body c.new-join.result a.out.now c.new-join.ensures,
@@ -394,8 +292,8 @@ instances-offset_bounds-out-start t c =
       arith,
       instances-within a.table.now a.words.now a.log.now a.kind a.level a.scope a.v
           a.placed.body a.placed.from a.placed.count a.placed.used a.environment a.scratch.now c.loop-i.i c.loop-i.next c.loop-i.join
-          c.loop-i.out c.loop-i.invariant.3 c.requires.4 c.requires.7 c.requires.8,
-      c.loop-i.invariant.2,
+          c.loop-i.out c.loop-i.invariant.1 c.requires.4 c.requires.7 c.requires.8,
+      c.loop-i.auto.out,
       c.requires.3,
     )
 
@@ -404,14 +302,14 @@ instances-slice_bounds-formula-count-in-loop-i t c =
     let a = c.args in
     instances-within a.table.now a.words.now a.log.now a.kind a.level a.scope a.v a.placed.body
     a.placed.from a.placed.count a.placed.used a.environment a.scratch.now c.loop-i.i c.loop-i.next c.loop-i.join c.loop-i.out
-    c.loop-i.invariant.3 c.requires.4 c.requires.7 c.requires.8
+    c.loop-i.invariant.1 c.requires.4 c.requires.7 c.requires.8
 
 pub instances-slice_bounds-formula-start-in-loop-i : goal.instances-slice_bounds-formula-start-in-loop-i
 instances-slice_bounds-formula-start-in-loop-i t c =
     let a = c.args in
     instances-within a.table.now a.words.now a.log.now a.kind a.level a.scope a.v a.placed.body
     a.placed.from a.placed.count a.placed.used a.environment a.scratch.now c.loop-i.i c.loop-i.next c.loop-i.join c.loop-i.out
-    c.loop-i.invariant.3 c.requires.4 c.requires.7 c.requires.8
+    c.loop-i.invariant.1 c.requires.4 c.requires.7 c.requires.8
 
 pub instances-formula-child-requires : goal.instances-formula-child-requires
 instances-formula-child-requires t c =
@@ -422,11 +320,11 @@ instances-formula-child-requires t c =
         c.requires.1,
         c.requires.2,
         omega
-            (arith, rest-long c.loop-i.out c.loop-i.join.words, c.loop-i.invariant.2, c.requires.3),
+            (arith, rest-long c.loop-i.out c.loop-i.join.words, c.loop-i.auto.out, c.requires.3),
         formula-kind,
         c.requires.4,
         instance_some a.table.now a.words.now a.log.now a.kind a.level a.scope
-            a.v a.placed.body a.placed.from a.placed.count a.placed.used a.environment a.scratch.now c.loop-i.scratch c.loop-i.invariant.1
+            a.v a.placed.body a.placed.from a.placed.count a.placed.used a.environment a.scratch.now c.loop-i.scratch c.loop-i.invariant.0
             c.requires.6 c.loop-i.i c.loop-i-test.true c.requires.5 c.requires.2
             c.instance-bound.result c.instance-bound.ensures c.requires.7,
       ),
@@ -440,14 +338,14 @@ instances-add-join-requires t c =
         lent_long c.loop-i.out c.loop-i.join.words c.formula-child.new.out
             (instances-within a.table.now a.words.now a.log.now a.kind a.level a.scope a.v a.placed.body
             a.placed.from a.placed.count a.placed.used a.environment a.scratch.now c.loop-i.i c.loop-i.next c.loop-i.join c.loop-i.out
-            c.loop-i.invariant.3 c.requires.4 c.requires.7 c.requires.8) c.formula-child.auto.out,
-        c.loop-i.invariant.2,
+            c.loop-i.invariant.1 c.requires.4 c.requires.7 c.requires.8) c.formula-child.auto.out,
+        c.loop-i.auto.out,
         c.requires.3,
       ),
       instances_adding a.table.now a.words.now a.log.now a.kind
           a.level a.scope a.v a.placed.body a.placed.from a.placed.count a.placed.used a.environment a.scratch.now
-          c.loop-i.scratch c.loop-i.invariant.1 c.requires.6 c.loop-i.i c.loop-i-test.true c.requires.5
-          c.requires.2 c.instance-bound.result c.instance-bound.ensures c.loop-i.next c.loop-i.join c.loop-i.out c.loop-i.invariant.3
+          c.loop-i.scratch c.loop-i.invariant.0 c.requires.6 c.loop-i.i c.loop-i-test.true c.requires.5
+          c.requires.2 c.instance-bound.result c.instance-bound.ensures c.loop-i.next c.loop-i.join c.loop-i.out c.loop-i.invariant.1
           c.formula-child.new.out c.formula-child.result c.formula-child.ensures c.requires.4 c.requires.7
           c.requires.8,
     )
@@ -455,19 +353,13 @@ instances-add-join-requires t c =
 pub instances-loop-i-preserved : goal.instances-loop-i-preserved
 instances-loop-i-preserved t c =
     let a = c.args in (
-      omega (arith, c.loop-i-test.true),
       kept_lent a.table.now a.words.now a.log.now a.kind a.level
           a.scope a.v a.placed.body a.placed.from a.placed.count a.placed.used a.environment a.scratch.now c.loop-i.scratch
-          c.loop-i.invariant.1 c.requires.6 c.formula-child.new.scratch c.formula-child.auto.scratch,
-      c.add-join.auto.out ∙ lent_long c.loop-i.out c.loop-i.join.words c.formula-child.new.out
-          (instances-within a.table.now a.words.now a.log.now a.kind a.level a.scope a.v a.placed.body
-          a.placed.from a.placed.count a.placed.used a.environment a.scratch.now c.loop-i.i c.loop-i.next c.loop-i.join c.loop-i.out
-          c.loop-i.invariant.3 c.requires.4 c.requires.7 c.requires.8) c.formula-child.auto.out
-          ∙ c.loop-i.invariant.2,
+          c.loop-i.invariant.0 c.requires.6 c.formula-child.new.scratch c.formula-child.auto.scratch,
       instances-next a.table.now a.words.now a.log.now a.kind a.level a.scope
-          a.v a.placed.body a.placed.from a.placed.count a.placed.used a.environment a.scratch.now c.loop-i.scratch c.loop-i.invariant.1
+          a.v a.placed.body a.placed.from a.placed.count a.placed.used a.environment a.scratch.now c.loop-i.scratch c.loop-i.invariant.0
           c.requires.6 c.loop-i.i c.loop-i-test.true c.requires.5 c.requires.2 c.instance-bound.result
-          c.instance-bound.ensures c.loop-i.next c.loop-i.join c.loop-i.out c.loop-i.invariant.3 c.formula-child.new.out
+          c.instance-bound.ensures c.loop-i.next c.loop-i.join c.loop-i.out c.loop-i.invariant.1 c.formula-child.new.out
           c.formula-child.result c.formula-child.ensures _ _ c.add-join.ensures c.in_default.not-Short,
     )
 
@@ -517,11 +409,11 @@ quantifier-instances-worked-requires t c =
     let stood : let a = c.args in (ρ : List ℤ) (v : ℕ) (excluded : List (List ℤ)) (d f : Tree) (next : ℕ) (o : Outer a.environment a.scope ρ) (q :
     Quantified a.table.now a.words.now a.kind a.level a.scope a.at v excluded d f next) → PS.InstancesStand a.table.now a.words.now a.log.now
     a.scope c.value-v.result a.at d ρ (body_at a.table.now a.words.now a.log.now a.kind a.level a.scope a.at c.value-v.result c.value-v.ensures v
-    excluded d f next q) (length a.scratch.now / 17) c.prepare-prepared.new.scratch c.in-Instances.placed = let a = c.args in
+    excluded d f next q) (length a.scratch.now / 17) c.prepare-prepared.new.scratch c.in-Some.placed = let a = c.args in
     λ ρ v excluded d f next o q.
     (prepared_stood a.table.now a.words.now a.log.now a.kind a.level a.scope a.at
     c.value-v.result c.value-v.ensures v excluded d f next q a.environment ρ o (length a.scratch.now / 17)
-    c.prepare-prepared.new.scratch c.prepare-prepared.result c.in-Instances.placed c.in-Instances.is
+    c.prepare-prepared.new.scratch c.prepare-prepared.result c.in-Some.placed c.in-Some.is
     (c.prepare-prepared.ensures ρ d _ o
     (restriction-here a.table.now a.words.now a.log.now a.kind a.level a.scope a.at
     c.value-v.result c.value-v.ensures v excluded d f next q))) in
@@ -560,23 +452,23 @@ quantifier-instances-worked-requires t c =
       ),
     )
 
-pub quantifier-returns-then-join : goal.quantifier-returns-then-join
-quantifier-returns-then-join t c =
+pub quantifier-returns-then-eq : goal.quantifier-returns-then-eq
+quantifier-returns-then-eq t c =
     let stood : let a = c.args in (ρ : List ℤ) (v : ℕ) (excluded : List (List ℤ)) (d f : Tree) (next : ℕ) (o : Outer a.environment a.scope ρ) (q :
     Quantified a.table.now a.words.now a.kind a.level a.scope a.at v excluded d f next) → PS.InstancesStand a.table.now a.words.now a.log.now
     a.scope c.value-v.result a.at d ρ (body_at a.table.now a.words.now a.log.now a.kind a.level a.scope a.at c.value-v.result c.value-v.ensures v
-    excluded d f next q) (length a.scratch.now / 17) c.prepare-prepared.new.scratch c.in-Instances.placed = let a = c.args in
+    excluded d f next q) (length a.scratch.now / 17) c.prepare-prepared.new.scratch c.in-Some.placed = let a = c.args in
     λ ρ v excluded d f next o q.
     (prepared_stood a.table.now a.words.now a.log.now a.kind a.level a.scope a.at
     c.value-v.result c.value-v.ensures v excluded d f next q a.environment ρ o (length a.scratch.now / 17)
-    c.prepare-prepared.new.scratch c.prepare-prepared.result c.in-Instances.placed c.in-Instances.is
+    c.prepare-prepared.new.scratch c.prepare-prepared.result c.in-Some.placed c.in-Some.is
     (c.prepare-prepared.ensures ρ d _ o
     (restriction-here a.table.now a.words.now a.log.now a.kind a.level a.scope a.at
     c.value-v.result c.value-v.ensures v excluded d f next q))) in
     let worked : let a = c.args in (ρ : List ℤ) (v : ℕ) (excluded : List (List ℤ)) (d f : Tree) (next : ℕ) (o : Outer a.environment a.scope ρ) (q :
     Quantified a.table.now a.words.now a.kind a.level a.scope a.at v excluded d f next) → Works a.kind a.table.now a.log.now f ρ (found
     a.table.now a.words.now a.log.now a.kind a.level a.scope a.at c.value-v.result c.value-v.ensures v excluded d f next q a.environment ρ o)
-    (length c.prepare-prepared.new.scratch / 17 - c.in-Instances.placed.used) next c.instances-worked.new.out c.instances-worked.result = let a =
+    (length c.prepare-prepared.new.scratch / 17 - c.in-Some.placed.used) next c.instances-worked.new.out c.instances-worked.result = let a =
     c.args in
     λ ρ v excluded d f next o q.
     (c.instances-worked.ensures.works ρ
@@ -594,7 +486,7 @@ quantifier-returns-then-join t c =
     d f next q a.environment ρ o (length a.scratch.now / 17) _
     (omega (
       arith,
-      (worked ρ v excluded d f next o q).short c.if-join.true,
+      (worked ρ v excluded d f next o q).short (same_true the_type (search rules) _ _ (sym c.eq.ensures ∙ c.if-eq.true)),
       s.counted,
       s.fits,
       c.prepare-prepared.auto.scratch,
@@ -605,18 +497,18 @@ quantifier-conclude-answer-requires t c =
     let stood : let a = c.args in (ρ : List ℤ) (v : ℕ) (excluded : List (List ℤ)) (d f : Tree) (next : ℕ) (o : Outer a.environment a.scope ρ) (q :
     Quantified a.table.now a.words.now a.kind a.level a.scope a.at v excluded d f next) → PS.InstancesStand a.table.now a.words.now a.log.now
     a.scope c.value-v.result a.at d ρ (body_at a.table.now a.words.now a.log.now a.kind a.level a.scope a.at c.value-v.result c.value-v.ensures v
-    excluded d f next q) (length a.scratch.now / 17) c.prepare-prepared.new.scratch c.in-Instances.placed = let a = c.args in
+    excluded d f next q) (length a.scratch.now / 17) c.prepare-prepared.new.scratch c.in-Some.placed = let a = c.args in
     λ ρ v excluded d f next o q.
     (prepared_stood a.table.now a.words.now a.log.now a.kind a.level a.scope a.at
     c.value-v.result c.value-v.ensures v excluded d f next q a.environment ρ o (length a.scratch.now / 17)
-    c.prepare-prepared.new.scratch c.prepare-prepared.result c.in-Instances.placed c.in-Instances.is
+    c.prepare-prepared.new.scratch c.prepare-prepared.result c.in-Some.placed c.in-Some.is
     (c.prepare-prepared.ensures ρ d _ o
     (restriction-here a.table.now a.words.now a.log.now a.kind a.level a.scope a.at
     c.value-v.result c.value-v.ensures v excluded d f next q))) in
     let worked : let a = c.args in (ρ : List ℤ) (v : ℕ) (excluded : List (List ℤ)) (d f : Tree) (next : ℕ) (o : Outer a.environment a.scope ρ) (q :
     Quantified a.table.now a.words.now a.kind a.level a.scope a.at v excluded d f next) → Works a.kind a.table.now a.log.now f ρ (found
     a.table.now a.words.now a.log.now a.kind a.level a.scope a.at c.value-v.result c.value-v.ensures v excluded d f next q a.environment ρ o)
-    (length c.prepare-prepared.new.scratch / 17 - c.in-Instances.placed.used) next c.instances-worked.new.out c.instances-worked.result = let a =
+    (length c.prepare-prepared.new.scratch / 17 - c.in-Some.placed.used) next c.instances-worked.new.out c.instances-worked.result = let a =
     c.args in
     λ ρ v excluded d f next o q.
     (c.instances-worked.ensures.works ρ
@@ -639,11 +531,11 @@ quantifier-conclude-answer-requires t c =
           c.value-v.ensures c.requires.4.0 c.requires.4.1 c.requires.4.2 c.requires.4.3
           c.requires.4.4 c.requires.4.5 a.environment c.requires.5.0 c.requires.5.1
           c.prepare-prepared.new.scratch c.instances-worked.new.scratch c.instances-worked.new.out
-          c.in-Instances.placed.from c.in-Instances.placed.count c.in-Instances.placed.used
-          (length c.prepare-prepared.new.scratch / 17 - c.in-Instances.placed.used) c.in-Instances.placed.body
+          c.in-Some.placed.from c.in-Some.placed.count c.in-Some.placed.used
+          (length c.prepare-prepared.new.scratch / 17 - c.in-Some.placed.used) c.in-Some.placed.body
           c.instances-worked.result s.below c.instances-worked.ensures.scratch_unchanged s.found s.behind
           (worked c.requires.5.0 c.requires.4.0 c.requires.4.1 c.requires.4.2
-          c.requires.4.3 c.requires.4.4 c.requires.5.1 c.requires.4.5) c.if-join.false),
+          c.requires.4.3 c.requires.4.4 c.requires.5.1 c.requires.4.5) (same_false the_type _ _ (sym c.eq.ensures ∙ c.if-eq.false))),
     )
 
 pub quantifier-returns : goal.quantifier-returns
@@ -651,18 +543,18 @@ quantifier-returns t c =
     let stood : let a = c.args in (ρ : List ℤ) (v : ℕ) (excluded : List (List ℤ)) (d f : Tree) (next : ℕ) (o : Outer a.environment a.scope ρ) (q :
     Quantified a.table.now a.words.now a.kind a.level a.scope a.at v excluded d f next) → PS.InstancesStand a.table.now a.words.now a.log.now
     a.scope c.value-v.result a.at d ρ (body_at a.table.now a.words.now a.log.now a.kind a.level a.scope a.at c.value-v.result c.value-v.ensures v
-    excluded d f next q) (length a.scratch.now / 17) c.prepare-prepared.new.scratch c.in-Instances.placed = let a = c.args in
+    excluded d f next q) (length a.scratch.now / 17) c.prepare-prepared.new.scratch c.in-Some.placed = let a = c.args in
     λ ρ v excluded d f next o q.
     (prepared_stood a.table.now a.words.now a.log.now a.kind a.level a.scope a.at
     c.value-v.result c.value-v.ensures v excluded d f next q a.environment ρ o (length a.scratch.now / 17)
-    c.prepare-prepared.new.scratch c.prepare-prepared.result c.in-Instances.placed c.in-Instances.is
+    c.prepare-prepared.new.scratch c.prepare-prepared.result c.in-Some.placed c.in-Some.is
     (c.prepare-prepared.ensures ρ d _ o
     (restriction-here a.table.now a.words.now a.log.now a.kind a.level a.scope a.at
     c.value-v.result c.value-v.ensures v excluded d f next q))) in
     let worked : let a = c.args in (ρ : List ℤ) (v : ℕ) (excluded : List (List ℤ)) (d f : Tree) (next : ℕ) (o : Outer a.environment a.scope ρ) (q :
     Quantified a.table.now a.words.now a.kind a.level a.scope a.at v excluded d f next) → Works a.kind a.table.now a.log.now f ρ (found
     a.table.now a.words.now a.log.now a.kind a.level a.scope a.at c.value-v.result c.value-v.ensures v excluded d f next q a.environment ρ o)
-    (length c.prepare-prepared.new.scratch / 17 - c.in-Instances.placed.used) next c.instances-worked.new.out c.instances-worked.result = let a =
+    (length c.prepare-prepared.new.scratch / 17 - c.in-Some.placed.used) next c.instances-worked.new.out c.instances-worked.result = let a =
     c.args in
     λ ρ v excluded d f next o q.
     (c.instances-worked.ensures.works ρ
@@ -675,31 +567,31 @@ quantifier-returns t c =
     (body-here a.table.now a.words.now a.log.now a.kind a.level a.scope a.at c.value-v.result
     c.value-v.ensures v excluded d f next q))) in
     let a = c.args in
-    let the-length = length c.prepare-prepared.new.scratch / 17 - c.in-Instances.placed.used in
+    let the-length = length c.prepare-prepared.new.scratch / 17 - c.in-Some.placed.used in
     λ ρ v excluded d f next o q. let s = (stood ρ v excluded d f next o q) in quantifier-whole a.table.now
     a.words.now a.log.now a.kind a.level a.scope a.at c.value-v.result c.value-v.ensures v excluded
-    d f next q a.environment ρ o (length a.scratch.now / 17) c.in-Instances.placed.used the-length _ _
-    (ap (λ (n : ℕ). n / 17 - c.in-Instances.placed.used) c.prepare-prepared.auto.scratch) s.counted s.fits
+    d f next q a.environment ρ o (length a.scratch.now / 17) c.in-Some.placed.used the-length _ _
+    (ap (λ (n : ℕ). n / 17 - c.in-Some.placed.used) c.prepare-prepared.auto.scratch) s.counted s.fits
     c.instances-worked.auto.out
     (c.conclude-answer.ensures
     (concluding a.table.now a.words.now a.log.now a.kind a.level a.scope a.at c.value-v.result
     c.value-v.ensures v excluded d f next q a.environment ρ o c.prepare-prepared.new.scratch
-    c.instances-worked.new.scratch c.instances-worked.new.out c.in-Instances.placed.from
-    c.in-Instances.placed.count c.in-Instances.placed.used the-length c.in-Instances.placed.body
+    c.instances-worked.new.scratch c.instances-worked.new.out c.in-Some.placed.from
+    c.in-Some.placed.count c.in-Some.placed.used the-length c.in-Some.placed.body
     c.instances-worked.result s.below c.instances-worked.ensures.scratch_unchanged s.found s.behind
-    (worked ρ v excluded d f next o q) c.if-join.false))
-    ((worked ρ v excluded d f next o q).behind c.if-join.false)
+    (worked ρ v excluded d f next o q) (same_false the_type _ _ (sym c.eq.ensures ∙ c.if-eq.false))))
+    ((worked ρ v excluded d f next o q).behind (same_false the_type _ _ (sym c.eq.ensures ∙ c.if-eq.false)))
 
 pub instances-returns-in-Short : goal.instances-returns-in-Short
 instances-returns-in-Short t c =
     let a = c.args in record {
       works = instances-short a.table.now a.words.now a.log.now a.kind a.level a.scope a.v a.placed.body
-          a.placed.from a.placed.count a.placed.used a.environment a.scratch.now c.loop-i.scratch c.loop-i.invariant.1 c.requires.6
+          a.placed.from a.placed.count a.placed.used a.environment a.scratch.now c.loop-i.scratch c.loop-i.invariant.0 c.requires.6
           c.loop-i.i c.loop-i-test.true c.requires.5 c.requires.2 c.instance-bound.result
-          c.instance-bound.ensures c.loop-i.next c.loop-i.join c.loop-i.out c.loop-i.invariant.3 c.formula-child.new.out
+          c.instance-bound.ensures c.loop-i.next c.loop-i.join c.loop-i.out c.loop-i.invariant.1 c.formula-child.new.out
           c.formula-child.result c.formula-child.ensures _ _ c.add-join.ensures c.in-Short.is c.loop-i.next;
       scratch_unchanged = (kept_lent a.table.now a.words.now a.log.now a.kind a.level a.scope a.v a.placed.body a.placed.from
-          a.placed.count a.placed.used a.environment a.scratch.now c.loop-i.scratch c.loop-i.invariant.1 c.requires.6
+          a.placed.count a.placed.used a.environment a.scratch.now c.loop-i.scratch c.loop-i.invariant.0 c.requires.6
           c.formula-child.new.scratch c.formula-child.auto.scratch).1;
     }
 
@@ -708,8 +600,8 @@ instances-returns-then-k-eq0 t c =
     let a = c.args in record {
       works = instances-none a.table.now a.words.now a.log.now a.kind a.level a.scope a.v a.placed.body
           a.placed.from a.placed.count a.placed.used a.environment a.scratch.now c.loop-i.i c.loop-i.next c.loop-i.join c.loop-i.out
-          c.loop-i.invariant.3 c.if-k-eq0.true _ c.tree_end.ensures;
-      scratch_unchanged = c.loop-i.invariant.1.1;
+          c.loop-i.invariant.1 c.if-k-eq0.true _ c.tree_end.ensures;
+      scratch_unchanged = c.loop-i.invariant.0.1;
     }
 
 pub instances-returns : goal.instances-returns
@@ -717,6 +609,6 @@ instances-returns t c =
     let a = c.args in record {
       works = instances_end a.table.now a.words.now a.log.now a.kind a.level a.scope a.v a.placed.body
           a.placed.from a.placed.count a.placed.used a.environment a.scratch.now c.loop-i.i c.loop-i.next c.loop-i.join c.loop-i.out
-          c.loop-i.invariant.3 c.loop-i-test.false (omega (arith, c.if-k-eq0.false));
-      scratch_unchanged = c.loop-i.invariant.1.1;
+          c.loop-i.invariant.1 c.loop-i-test.false (omega (arith, c.if-k-eq0.false));
+      scratch_unchanged = c.loop-i.invariant.0.1;
     }

@@ -2,8 +2,7 @@
 -- one more for `children` and `instances`, which call `formula` at their own level, and two for `quantifier`, which calls
 -- `instances` there; `formula` calls each of them a level down.
 -- The loops: the children or instances passed are in the state of the join.
-use Prim.Native.Nat.{◌*◌, ◌-◌, ◌/◌, ◌≤◌}
-use mathlib.Core.Path.{◌≡◌}
+use Prim.Native.Nat.{◌*◌, ◌-◌, ◌/◌}
 use lib.ListN.{length}
 use Rattle.reduction.proofs.WalkChildren.{ChildrenSoFar}
 use Rattle.reduction.proofs.WalkInstances.{ScratchKept, InstancesSoFar}
@@ -21,20 +20,11 @@ decreases-instances l = 201 - 3 * l.level
 abbrev pub decreases-quantifier : goal.decreases-quantifier
 decreases-quantifier l = 202 - 3 * l.level
 
-abbrev pub invariant-children-loop-i : goal.invariant-children-loop-i
-invariant-children-loop-i l =
-    (l.i ≤ l.n) × (length l.scratch ≡ length l.initial.scratch) × (length l.out ≡ length l.initial.out)
-    × ChildrenSoFar l.table l.words l.log l.kind l.above l.scope l.environment (length l.initial.scratch / 17) l.n l.at l.i l.next l.join l.out
-
-abbrev pub decreases-children-loop-i : goal.decreases-children-loop-i
-decreases-children-loop-i l = l.n - l.i
+abbrev pub invariant-children-loop : goal.invariant-children-loop
+invariant-children-loop l =
+    ChildrenSoFar l.table l.words l.log l.kind l.above l.scope l.environment (length l.initial.scratch / 17) l.n l.at l.counter l.next l.join l.out
 
 abbrev pub invariant-instances-loop-i : goal.invariant-instances-loop-i
 invariant-instances-loop-i l =
-    (l.i ≤ l.k)
-    × ScratchKept l.table l.words l.log l.kind l.level l.scope l.v l.body l.from l.k l.used l.environment l.initial.scratch l.scratch
-    × (length l.out ≡ length l.initial.out)
+    ScratchKept l.table l.words l.log l.kind l.level l.scope l.v l.body l.from l.k l.used l.environment l.initial.scratch l.scratch
     × InstancesSoFar l.table l.words l.log l.kind l.level l.scope l.v l.body l.from l.k l.used l.environment l.initial.scratch l.i l.next l.join l.out
-
-abbrev pub decreases-instances-loop-i : goal.decreases-instances-loop-i
-decreases-instances-loop-i l = l.k - l.i

@@ -5,8 +5,8 @@ use lib.ListN.{length}
 use Rattle.trees.proofs.TreeWalk.{Treewise}
 use Rattle.trees.proofs.putting.put.Given as goal
 
-abbrev pub invariant-loop-left : goal.invariant-loop-left
-invariant-loop-left l = Treewise l.numbers l.words l.at l.initial.out l.left l.from l.out
+abbrev pub invariant-loop-walk : goal.invariant-loop-walk
+invariant-loop-walk l = Treewise l.numbers l.words l.at l.initial.out l.walk l.out
 
-abbrev pub decreases-loop-left : goal.decreases-loop-left
-decreases-loop-left l = length l.words - l.from
+abbrev pub decreases-loop-walk : goal.decreases-loop-walk
+decreases-loop-walk l = length l.words - l.walk.at

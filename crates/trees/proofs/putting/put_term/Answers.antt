@@ -1,16 +1,15 @@
 -- `trees::putting::put_term` meets its contract: by the first word, and by the number of the variable.
-use Prim.Native.Nat.{◌+◌, ◌-◌, ◌<◌, ◌^◌}
+use Prim.Native.Nat.{◌+◌, ◌-◌}
 use native.Mathlib.Omega.{arith}
-use mathlib.Core.Path.{◌≡◌, sym, ap, ◌∙◌, subst}
+use mathlib.Core.Path.{◌≡◌, sym, ap, ◌∙◌}
 use mathlib.Core.Bool.{false}
-use lib.Signed.{mag}
 use lib.ListN.{length, get_or}
-use lib.IntN.{ℤ, pos}
+use lib.IntN.{pos}
 use mir.Syntax.{w32}
 use mir.Val.{SFits, to_z, of_z}
 use mir.Facts.{to_z-of_z}
-use Rattle.model.specs.Words.{word, value, equal}
-use Rattle.trees.proofs.TermWords.{stored, term-constant, term-word, term-outer, term-inner}
+use Rattle.model.specs.Words.{word, equal}
+use Rattle.trees.proofs.TermWords.{stored, term-constant, term-fits, term-outer, term-inner}
 use borrow.Author.Rules.{rules}
 use Rattle.trees.proofs.putting.put_term.Goals as goal
 
@@ -39,27 +38,21 @@ returns-then-x-numbers c =
 pub overflow_cast-out : goal.overflow_cast-out
 unfolding word
 overflow_cast-out c =
-    let other : let a = c.args in equal (word a.words.now a.from) (pos 0) ≡ false = sym c.is.ensures ∙ c.if-is.false in
-    let fits : SFits w32 (pos (c.value-x.result - length c.args.numbers.now)) = let a = c.args in
+    let a = c.args in
     let (t, stands) = c.requires.0 in
-    let is = term-word a.numbers.now a.words.now a.from (other) t stands in
-    let small : value a.words.now (a.from + 1) < 2 ^ 31
-    = subst (λ (z : ℤ). mag z < 2 ^ 31) is c.second-1.given in
-    record { sfits = omega (arith, c.value-x.ensures) } in
-    fits
+    let z = get_or a.words.now (a.from + 1) (pos 0) in
+    let fits : SFits w32 z = search rules in
+    term-fits a.numbers.now a.words.now a.from (sym c.is.ensures ∙ c.if-is.false) t stands fits _ c.value-x.ensures
 
 pub returns : goal.returns
 unfolding word
 returns c =
-    let other : let a = c.args in equal (word a.words.now a.from) (pos 0) ≡ false = sym c.is.ensures ∙ c.if-is.false in
-    let fits : SFits w32 (pos (c.value-x.result - length c.args.numbers.now)) = let a = c.args in
-    let (t, stands) = c.requires.0 in
-    let is = term-word a.numbers.now a.words.now a.from (other) t stands in
-    let small : value a.words.now (a.from + 1) < 2 ^ 31
-    = subst (λ (z : ℤ). mag z < 2 ^ 31) is c.second-1.given in
-    record { sfits = omega (arith, c.value-x.ensures) } in
     let a = c.args in
+    let z = get_or a.words.now (a.from + 1) (pos 0) in
+    let fits : SFits w32 z = search rules in
+    let other : equal (word a.words.now a.from) (pos 0) ≡ false = sym c.is.ensures ∙ c.if-is.false in
     λ t stands.
     stored a.out.now a.to _ _ _ _ c.requires.1
-    (to_z-of_z (fits) ∙ ap (λ n. pos (n - length a.numbers.now)) c.value-x.ensures)
-    (term-inner a.numbers.now a.words.now a.from (other) t stands (omega (arith, c.value-x.ensures, c.if-x-numbers.false)))
+    (to_z-of_z (term-fits a.numbers.now a.words.now a.from other t stands fits c.value-x.result c.value-x.ensures)
+    ∙ ap (λ n. pos (n - length a.numbers.now)) c.value-x.ensures)
+    (term-inner a.numbers.now a.words.now a.from other t stands (omega (arith, c.value-x.ensures, c.if-x-numbers.false)))

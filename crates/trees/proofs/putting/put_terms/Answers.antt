@@ -1,20 +1,13 @@
 -- `trees::putting::put_terms` meets its contract. The loop's invariant: the first i terms are copied, and the others stand behind them.
-use Prim.Native.Nat.{◌-◌}
-use native.Mathlib.Omega.{arith}
 use Rattle.trees.proofs.TermsWalk.{terms-start, terms-next, terms-more}
 use Rattle.trees.proofs.putting.put_terms.Goals as goal
 
 pub loop-i-init : goal.loop-i-init
 loop-i-init c =
-    let a = c.args in
-    (omega arith, terms-start a.numbers.now a.words.now a.from a.n a.out.now a.to c.requires.1)
+    let a = c.args in terms-start a.numbers.now a.words.now a.from a.n a.out.now a.to c.requires.1
 
 pub put_term-requires : goal.put_term-requires
-put_term-requires c =
-    terms-next _ _ _ _ _ _ c.loop-i.i _ c.loop-i.invariant.1 c.loop-i-test.true c.requires.0
+put_term-requires c = terms-next _ _ _ _ _ _ c.loop-i.i _ c.loop-i.invariant c.loop-i-test.true c.requires.0
 
 pub loop-i-preserved : goal.loop-i-preserved
-loop-i-preserved c = (
-  omega (arith, c.loop-i-test.true),
-  terms-more _ _ _ _ _ _ c.loop-i.i _ c.loop-i.invariant.1 c.loop-i-test.true _ c.put_term.ensures,
-)
+loop-i-preserved c = terms-more _ _ _ _ _ _ c.loop-i.i _ c.loop-i.invariant c.loop-i-test.true _ c.put_term.ensures

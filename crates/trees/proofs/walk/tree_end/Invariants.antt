@@ -5,8 +5,8 @@ use lib.ListN.{length}
 use Rattle.trees.proofs.Walking.{Walking}
 use Rattle.trees.proofs.walk.tree_end.Given as goal
 
-abbrev pub invariant-loop-left : goal.invariant-loop-left
-invariant-loop-left l = Walking l.words l.at l.left l.next
+abbrev pub invariant-loop-walk : goal.invariant-loop-walk
+invariant-loop-walk l = Walking l.words l.at l.walk
 
-abbrev pub decreases-loop-left : goal.decreases-loop-left
-decreases-loop-left l = length l.words - l.next
+abbrev pub decreases-loop-walk : goal.decreases-loop-walk
+decreases-loop-walk l = length l.words - l.walk.at
