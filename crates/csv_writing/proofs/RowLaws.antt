@@ -21,8 +21,7 @@ use Rattle.model.specs.LogText.{log_lines, log_text}
 use Rattle.laws.specs.Log as log-laws
 use Rattle.laws.specs.Log.{row_at-length}
 use Rattle.laws.specs.LogText.Back.{used-short}
-use Rattle.text.specs.declared.writing.Put.{Put}
-use Rattle.text.specs.declared.writing.Put.TheVariants.{At}
+use Rattle.std.specs.Prelude.{Option, Some, None}
 use Rattle.text.specs.Put.{Wrote, Puts}
 use Rattle.csv_writing.specs.Row.{fields_of, line_of}
 use Rattle.text.proofs.PutLaws.{Part, part_none, part-more, part-last, byte-wrote}
@@ -56,7 +55,7 @@ module _ (row : Words) (n i : ℕ) where
 
 -- a comma, and a text behind it
 pub comma-put :
-    (text out out' : Text) (at b : ℕ) (r : Put) →
+    (text out out' : Text) (at b : ℕ) (r : Option ℕ) →
     at < length out →
     b ≡ comma →
     length out' ≡ length (set out at b) →
@@ -65,7 +64,7 @@ pub comma-put :
 comma-put text out out' at b r h e l p =
     part-last
     (part-more (part_none (comma ∷ text) out at (omega arith)) (comma ∷ []) text refl
-    (set out at b) (At (at + 1)) (byte-wrote out at b comma h e) (at + 1) refl (length-set out at b))
+    (set out at b) (Some (at + 1)) (byte-wrote out at b comma h e) (at + 1) refl (length-set out at b))
     out' r p l
 
 -- the end of a line
@@ -83,8 +82,8 @@ end_wrote out at c l next h e f n =
     subst (Wrote (cr ∷ lf ∷ []) at out (set out₁ (at + 1) l)) same
     (part-last
     (part-more (part_none (cr ∷ lf ∷ []) out at (omega arith)) (cr ∷ []) (lf ∷ []) refl
-    out₁ (At (at + 1)) (byte-wrote out at c cr (omega arith) e) (at + 1) refl long)
-    (set out₁ (at + 1) l) (At (at + 1 + 1)) (byte-wrote out₁ (at + 1) l lf (omega arith) f) (length-set out₁ (at + 1) l))
+    out₁ (Some (at + 1)) (byte-wrote out at c cr (omega arith) e) (at + 1) refl long)
+    (set out₁ (at + 1) l) (Some (at + 1 + 1)) (byte-wrote out₁ (at + 1) l lf (omega arith) f) (length-set out₁ (at + 1) l))
 
 -- the arity of a good row, as it is found, and its line
 module _ (table row : Words) (v a : ℕ) (predicate : v ≡ value row 0) (found : a ≡ arity table v) where

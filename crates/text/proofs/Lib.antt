@@ -1,7 +1,6 @@
 -- Laws that several proofs of this crate, or of others, cite.
 pub mod Slices
 pub mod ReadingLaws
-pub mod WordLaws
 pub mod WritingLaws
 pub mod PutLaws
 pub mod WrittenLaws

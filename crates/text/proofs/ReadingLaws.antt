@@ -3,13 +3,13 @@ use Prim.Native.Nat.{ℕ, ◌+◌, ◌*◌, ◌-◌, ◌≤◌, ◌<◌}
 use native.Mathlib.Omega.{arith}
 use mathlib.Core.Path.{◌≡◌, refl, sym, ap, ap₂, ◌∙◌}
 use mathlib.Core.Logic.{⊎_elim}
-use mathlib.Core.Bool.{Bool, true, false, not, ◌&&◌, ◌||◌}
+use mathlib.Core.Bool.{Bool, true, false, cond, not, ◌&&◌, ◌||◌}
 use mathlib.Core.List.{[], ◌∷◌, ◌++◌}
 use lib.ListN.{length, get_or}
 use native.Mathlib.Numerals.{add-one}
 use lib.Seq.{slice, slice_empty, slice-cons, length-slice}
 use lib.Dec.{leb, ltb, eqb}
-use lib.IntN.{pos, neg_ℤ}
+use lib.IntN.{ℤ, pos, neg_ℤ}
 use borrow.Author.Tests.{leb-true, leb-false, le-leb, lt-leb, ne_eqb, ltb-true, ltb-false}
 use Rattle.model.specs.Bytes.{Text, minus, digit}
 use Rattle.model.specs.Lists.{all}
@@ -18,7 +18,8 @@ use Rattle.model.specs.Decimal.{numeral, plain_digits, good_number, number_of}
 use Rattle.laws.specs.Words.Tests.{decide, clash, and_left, and_right, and-true, and-false}
 use Rattle.laws.specs.Lists.Membership.{all_intro, all_mem}
 use Rattle.laws.specs.Decimal.{digit-range, digit-text, numeral-append}
-use Rattle.text.specs.Reading.{Follows, raised, DigitsAt, Spells, NumberAt, NegativeAt}
+use Rattle.std.specs.Prelude.{Option, Some, None}
+use Rattle.text.specs.Reading.{Follows, raised, DigitsAt, signed, spelt, NumberAt, NegativeAt}
 use Rattle.text.specs.declared.reading.Digits.{Digits}
 use Rattle.text.specs.declared.reading.Number.{Number}
 use Rattle.text.proofs.Slices.{slice-more, all_more}
@@ -60,13 +61,6 @@ passed-more text at next m r p h e f = record {
   digits = rw (slice-more at next text 0 p.from h) (all_more digit _ _ p.digits e);
   follows = rw (slice-more at next text 0 p.from h, numeral-append) (rw f (raised-follows m _ (get_or text next 0) p.follows));
 }
-
-pub passed-stop :
-    (text : Text) (at : ℕ) (r : Digits) →
-    Passed text at r.next r.magnitude →
-    (r.next < length text → digit (get_or text r.next 0) ≡ false) →
-    DigitsAt text at r
-passed-stop text at r p stop = record { from = p.from; to = p.to; digits = p.digits; stop = stop; follows = p.follows }
 
 -- digits with no 0 in front
 pub plain-none : (t : Text) → length t ≡ 0 → plain_digits t ≡ false
@@ -126,51 +120,38 @@ module _ (m n : ℕ) (f : Follows m n) where
   same_number h = omega arith
 
 -- what a minus and digits spell
-pub negative-spells :
-    (t : Text) (r : Number) →
-    all digit t ≡ true →
-    Follows r.magnitude (numeral 0 t) →
-    r.negative ≡ true →
-    r.good ≡ plain_digits t && leb 1 r.magnitude && leb r.magnitude 2147483648 →
-    Spells (minus ∷ t) r
-unfolding good_number number_of all text_data
-negative-spells t r d f s g =
-    let m = r.magnitude in
-    let high : r.good ≡ true → leb m 2147483648 ≡ true = λ e. and_right (plain_digits t && leb 1 m) _ (sym g ∙ e) in
-    let low : r.good ≡ true → leb 1 m ≡ true = λ e. and_right (plain_digits t) _ (and_left (plain_digits t && leb 1 m) _ (sym g ∙ e)) in
-    record {
-      good = g ∙ ap₂ (λ (x y : Bool). plain_digits t && x && y) (same_low m (numeral 0 t) f) (same-high m (numeral 0 t) f 2147483648 (omega arith));
-      text = digits-text t d;
-      is = λ e. rw s (ap (λ (n : ℕ). neg_ℤ (pos n)) (same_number m (numeral 0 t) f (leb-true m 2147483648 (high e))));
-      sized = λ e. rw s (leb-true 1 m (low e), leb-true m 2147483648 (high e));
-    }
+negative-spelt :
+    (t : Text) (m : ℕ) (good : Bool) →
+    Follows m (numeral 0 t) →
+    plain_digits t && leb 1 m && leb m 2147483648 ≡ good →
+    cond good (Some (signed true m)) None ≡ spelt (minus ∷ t)
+unfolding spelt good_number number_of
+negative-spelt t m good f g =
+    rw (← same_low m (numeral 0 t) f, ← same-high m (numeral 0 t) f 2147483648 (omega arith), g) (go good g)
+  where
+    go : (b : Bool) → plain_digits t && leb 1 m && leb m 2147483648 ≡ b → cond b (Some (signed true m)) None ≡ cond b (Some (neg_ℤ (pos (numeral 0 t)))) None
+    go true g = ap (λ (n : ℕ). Some (neg_ℤ (pos n))) (sym (same_number m (numeral 0 t) f (leb-true m 2147483648 (and_right (plain_digits t && leb 1 m) _ g))))
+    go false g = refl
 
 -- what digits alone spell
-pub positive-spells :
-    (t : Text) (r : Number) →
+positive-spelt :
+    (t : Text) (m : ℕ) (good : Bool) →
     all digit t ≡ true →
-    Follows r.magnitude (numeral 0 t) →
-    r.negative ≡ false →
-    r.good ≡ plain_digits t && leb r.magnitude 2147483647 →
-    Spells t r
-unfolding good_number number_of plain_digits all digit
-positive-spells [] r d f s g = record {
-  good = g;
-  text = digits-text [] d;
-  is = λ e. clash e g;
-  sized = λ e. clash e g;
-}
-positive-spells (b ∷ t) r d f s g =
-    let m = r.magnitude in
+    Follows m (numeral 0 t) →
+    plain_digits t && leb m 2147483647 ≡ good →
+    cond good (Some (signed false m)) None ≡ spelt t
+unfolding spelt good_number number_of plain_digits all digit
+positive-spelt [] m good d f g = rw (← g) refl
+positive-spelt (b ∷ t) m good d f g =
     let l = digit-range b (and_left _ _ d) in
     let plus : eqb b 45 ≡ false = ne_eqb b 45 (omega arith) in
-    let high : r.good ≡ true → leb m 2147483647 ≡ true = λ e. and_right (plain_digits (b ∷ t)) _ (sym g ∙ e) in
-    record {
-      good = rw plus (g ∙ ap (λ (y : Bool). plain_digits (b ∷ t) && y) (same-high m (numeral 0 (b ∷ t)) f 2147483647 (omega arith)));
-      text = digits-text (b ∷ t) d;
-      is = λ e. rw (plus, s) (ap pos (let k = leb-true m 2147483647 (high e) in same_number m (numeral 0 (b ∷ t)) f (omega arith)));
-      sized = λ e. rw s (leb-true m 2147483647 (high e));
-    }
+    rw (plus, ← same-high m (numeral 0 (b ∷ t)) f 2147483647 (omega arith), g) (go good g)
+  where
+    go : (c : Bool) → plain_digits (b ∷ t) && leb m 2147483647 ≡ c → cond c (Some (pos m)) None ≡ cond c (Some (pos (numeral 0 (b ∷ t)))) None
+    go true g =
+        let few = leb-true m 2147483647 (and_right (plain_digits (b ∷ t)) _ g) in
+        ap (λ (n : ℕ). Some (pos n)) (sym (same_number m (numeral 0 (b ∷ t)) f (omega arith)))
+    go false g = refl
 
 -- with a byte that is no digit behind them they spell none
 pub negative-longer : (t : Text) (b : ℕ) (more : Text) → digit b ≡ false → good_number (minus ∷ t ++ b ∷ more) ≡ false
@@ -186,30 +167,35 @@ positive-longer (c ∷ t) b more d k e =
     rw (ne_eqb c 45 (omega arith), not_plain (c ∷ t) b more e)
 
 module _ (text : Text) (at : ℕ) (d : Digits) (p : Bool) (found : DigitsAt text at d) (plain : p ≡ plain_digits (slice at d.next text)) where
-  -- digits behind a minus, and whether they are plain
-  pub negative-at :
-      NegativeAt text at
-      (record { next = d.next; magnitude = d.magnitude; negative = true; good = p && leb 1 d.magnitude && leb d.magnitude 2147483648 })
-  negative-at = record {
-    from = found.from;
-    to = found.to;
-    spells = negative-spells _ _ found.digits found.follows refl (ap (λ (b : Bool). b && leb 1 d.magnitude && leb d.magnitude 2147483648) plain);
-    longer = λ h more. negative-longer (slice at d.next text) _ more (found.stop h);
-  }
+  module _ (good : Bool) (v : Option ℤ) where
+    -- digits behind a minus, and the number that is made of them if they are plain and have 32 bits
+    pub negative-at :
+        p && leb 1 d.magnitude && leb d.magnitude 2147483648 ≡ good →
+        v ≡ cond good (Some (signed true d.magnitude)) None →
+        NegativeAt text at (record { next = d.next; value = v })
+    unfolding all text_data
+    negative-at g e = record {
+      from = found.from;
+      to = found.to;
+      spells = record { text = digits-text _ found.digits; is = e ∙ negative-spelt _ d.magnitude good found.follows (rw (← plain) g) };
+      longer = λ h more. negative-longer (slice at d.next text) _ more (found.stop h);
+    }
 
-  -- digits with no minus before them
-  pub positive-at :
-      (at < length text → get_or text at 0 ≡ 45 → ⊥) →
-      NumberAt text at (record { next = d.next; magnitude = d.magnitude; negative = false; good = p && leb d.magnitude 2147483647 })
-  positive-at k = record {
-    from = found.from;
-    to = found.to;
-    spells = positive-spells _ _ found.digits found.follows refl (ap (λ (b : Bool). b && leb d.magnitude 2147483647) plain);
-    longer = λ h more.
-        positive-longer _ _ more found.digits
-        (λ e. let same : d.next ≡ at = omega (arith, length-slice at d.next text found.to, found.from) in rw same (k (omega (arith, h, found.from))))
-        (found.stop h);
-  }
+    -- digits with no minus before them
+    pub positive-at :
+        (at < length text → get_or text at 0 ≡ 45 → ⊥) →
+        p && leb d.magnitude 2147483647 ≡ good →
+        v ≡ cond good (Some (signed false d.magnitude)) None →
+        NumberAt text at (record { next = d.next; value = v })
+    positive-at k g e = record {
+      from = found.from;
+      to = found.to;
+      spells = record { text = digits-text _ found.digits; is = e ∙ positive-spelt _ d.magnitude good found.digits found.follows (rw (← plain) g) };
+      longer = λ h more.
+          positive-longer _ _ more found.digits
+          (λ e. let same : d.next ≡ at = omega (arith, length-slice at d.next text found.to, found.from) in rw same (k (omega (arith, h, found.from))))
+          (found.stop h);
+    }
 
 -- a minus at the index, and digits behind it
 pub minus-at : (text : Text) (at : ℕ) (r : Number) → at < length text → get_or text at 0 ≡ 45 → NegativeAt text (at + 1) r → NumberAt text at r

@@ -3,19 +3,22 @@ use Prim.Native.Nat.{ℕ, zero, suc, ◌+◌, ◌-◌, ◌/◌, ◌%◌, ◌^◌
 use native.Mathlib.Nat.{one-le-pow}
 use native.Mathlib.Numerals.{add-one}
 use native.Mathlib.Omega.{arith}
-use mathlib.Core.Path.{◌≡◌, refl, sym, ap, ap₂, ◌∙◌}
+use mathlib.Core.Path.{◌≡◌, refl, sym, ap, ap₂, ◌∙◌, subst}
 use mathlib.Core.Logic.{⊎_elim}
 use mathlib.Core.Bool.{Bool, true, false}
-use mathlib.Core.List.{[], ◌∷◌, ◌++◌, append_assoc, append-nil}
+use mathlib.Core.List.{List, [], ◌∷◌, ◌++◌, append_assoc, append-nil}
 use lib.ListN.{length, take, drop, set, get_or, length-append, length-set, take-append-drop}
 use lib.Seq.{take-suc, append_snoc, set_at, take_at, take-set-le, take-suc-set, length-take-le}
+use lib.Dec.{leb}
 use lib.IntN.{ℤ, pos, negsuc, nat_abs}
+use Rattle.std.specs.List.{prefix_len}
 use lib.Signed.{lt_z}
 use mir.Val.{bool_byte}
-use borrow.Author.Tests.{lt-ltb, le-ltb}
+use borrow.Author.Tests.{lt-ltb, le-ltb, leb-true, leb-false}
 use Rattle.model.specs.Words.{Words, word, value}
 use Rattle.model.specs.Bytes.{Text, minus, nought}
 use Rattle.model.specs.Decimal.{digits, decimal}
+use Rattle.laws.specs.Words.Tests.{decide}
 use Rattle.laws.specs.Lists.Span.{side}
 use Rattle.text.specs.Writing.{last_digits, Width}
 use Rattle.text.specs.Put.{Wrote}
@@ -39,9 +42,30 @@ last-all (suc k) (suc r) n h low high =
     (ap (λ (t : Text). t ++ (nought + n % 10) ∷ [])
     (last-all k r (n / 10) (omega arith) (λ _. omega arith) (λ l. omega (arith, high (omega arith)))))
 
--- so a test for each power of ten finds how many there are
-pub width_of : (r n : ℕ) → r < 10 → (1 ≤ r → 10 ^ r ≤ n) → (suc r < 10 → n < 10 ^ suc r) → Width n (suc r)
-width_of r n h low high = record { some = omega arith; few = h; is = last-all 10 r n h low high }
+-- powers of ten from 10 ^ (k + 1) on
+abbrev pub powers : ℕ → ℕ → List ℕ
+powers k zero = []
+powers k (suc left) = 10 ^ suc k ∷ powers (suc k) left
+
+-- so the number of those that a number reaches tells how many there are
+pub width_reached : (n r : ℕ) → r ≡ prefix_len (λ p. leb p n) (powers 0 9) → Width n (1 + r)
+width_reached n r e = rw e (from 0 9 refl (λ h. absurd (omega arith)))
+  where
+    here : (k : ℕ) → k < 10 → (1 ≤ k → 10 ^ k ≤ n) → (suc k < 10 → n < 10 ^ suc k) → Width n (1 + k + 0)
+    here k h low high =
+        let count : suc k ≡ 1 + k + 0 = omega arith in
+        subst (Width n) count (record { some = omega arith; few = h; is = last-all 10 k n h low high })
+
+    from : (k left : ℕ) → k + left ≡ 9 → (1 ≤ k → 10 ^ k ≤ n) → Width n (1 + k + prefix_len (λ p. leb p n) (powers k left))
+    from k zero h low = here k (omega arith) low (λ l. absurd (omega arith))
+    from k (suc left) h low =
+        ⊎_elim
+        (λ (l : leb (10 ^ suc k) n ≡ true).
+        let more = from (suc k) left (omega arith) (λ _. leb-true (10 ^ suc k) n l) in
+        let count : 1 + suc k + prefix_len (λ p. leb p n) (powers (suc k) left) ≡ 1 + k + (1 + prefix_len (λ p. leb p n) (powers (suc k) left)) = omega arith in
+        rw l (subst (Width n) count more))
+        (λ (l : leb (10 ^ suc k) n ≡ false). rw l (here k (omega arith) low (λ _. leb-false (10 ^ suc k) n l)))
+        (decide (leb (10 ^ suc k) n))
 
 length_last : (k n : ℕ) → length (last_digits k n) ≡ k
 unfolding last_digits

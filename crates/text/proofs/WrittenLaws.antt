@@ -15,8 +15,7 @@ use Rattle.model.specs.Bytes.{Text}
 use Rattle.model.specs.Answer.{Answer, AnswersAs, Outcome, passed, refused, ask, answer, count, ◌>>=◌, refused_at}
 use Rattle.model.specs.Calls.{in_room, filled_text, text_result}
 use Rattle.laws.specs.Answer.{answers}
-use Rattle.text.specs.declared.writing.Put.{Put}
-use Rattle.text.specs.declared.writing.Put.TheVariants.{Full, At}
+use Rattle.std.specs.Prelude.{Option, Some, None}
 use Rattle.text.specs.Put.{told, Writes}
 use Rattle.text.specs.Written.{written, LeavesText}
 
@@ -35,7 +34,7 @@ module _ (o : Outcome Text) where
 
   -- what is left is question 12, and the text was written if it has room
   pub text-written :
-      (text out after : Text) {put : Put} {a : Answer} →
+      (text out after : Text) {put : Option ℕ} {a : Answer} →
       o ≡ in_room (length out) text →
       Writes text out after put →
       a ≡ written put →
@@ -45,7 +44,7 @@ module _ (o : Outcome Text) where
     where
       go : (b : Bool) → leb (length text) (length out) ≡ b → LeavesText o (length out) after a
       go true fits =
-          let at : put ≡ At (length text) = w.said ∙ rw fits in
+          let at : put ≡ Some (length text) = w.said ∙ rw fits in
           let whole : o ≡ passed text = e ∙ rw fits in
           subst (LeavesText o (length out) after) (sym (s ∙ ap written at))
           (record {
@@ -54,7 +53,7 @@ module _ (o : Outcome Text) where
             wrote = rw whole (ap (λ (t : Text). t ++ replicate (length out - length text) 0) (w.wrote (length text) at));
           })
       go false fits =
-          let full : put ≡ Full = w.said ∙ rw fits in
+          let full : put ≡ None = w.said ∙ rw fits in
           let short : o ≡ refused Room 0 = e ∙ rw fits in
           text-refused (length out) after short (s ∙ ap written full)
 

@@ -1,5 +1,5 @@
 -- What the reading of a number in a text finds.
-use Rattle.std.specs.Prelude.{ℕ, ◌+◌, ◌*◌, ◌-◌, ◌≤◌, ◌<◌, min, ◌≡◌, Bool, true, false, cond, ◌∷◌, ◌++◌, length, get_or, ltb, ℤ, pos, neg_ℤ}
+use Rattle.std.specs.Prelude.{ℕ, ◌+◌, ◌*◌, ◌-◌, ◌≤◌, ◌<◌, min, ◌≡◌, Bool, true, false, cond, ◌∷◌, ◌++◌, length, get_or, ltb, ℤ, pos, neg_ℤ, Option, Some, None}
 use Rattle.std.proofs.Math.Seq.{slice}
 use Rattle.model.specs.Bytes.{Text, minus, nought, digit}
 use Rattle.model.specs.Lists.{all}
@@ -34,12 +34,14 @@ abbrev pub Sized : (b : Bool) (m : ℕ) → Type 0
 Sized true m = (1 ≤ m) × (m ≤ 2147483648)
 Sized false m = m ≤ 2147483647
 
--- bytes that can stand in a bare field: whether they spell a number, and which
+-- the number that bytes spell, if they spell one
+unfoldable pub spelt : Text → Option ℤ
+spelt bytes = cond (good_number bytes) (Some (number_of bytes)) None
+
+-- bytes that can stand in a bare field, and the number that they spell
 pub record Spells (bytes : Text) (r : Number) : Type 0 where
-  pub good : r.good ≡ good_number bytes
   pub text : all text_data bytes ≡ true
-  pub is : r.good ≡ true → number_of bytes ≡ signed r.negative r.magnitude
-  pub sized : r.good ≡ true → Sized r.negative r.magnitude
+  pub is : r.value ≡ spelt bytes
 
 -- a minus and digits from an index on: what they spell; with the byte behind them they spell no number
 pub record NumberAt (text : Text) (at : ℕ) (r : Number) : Type 0 where

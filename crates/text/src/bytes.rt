@@ -16,13 +16,15 @@ pub const MINUS: u8 = 45;
 pub const NOUGHT: u8 = 48;
 
 // The byte is a digit.
+#[tactic(auto, unfolding(model::specs::Bytes::digit))]
 pub fn digit(b: u8) -> bool
     ensures { result ≡ B.digit b }
 {
-    (NOUGHT <= b) & (b <= 57)
+    b.is_ascii_digit()
 }
 
 // The byte can stand in a bare field.
+#[tactic(auto, unfolding(model::specs::Csv::text_data))]
 pub fn text_data(b: u8) -> bool
     ensures { result ≡ C.text_data b }
 {
@@ -30,6 +32,7 @@ pub fn text_data(b: u8) -> bool
 }
 
 // The byte can stand in a field in quotes.
+#[tactic(auto, unfolding(model::specs::Csv::quotable))]
 pub fn quotable(b: u8) -> bool
     ensures { result ≡ C.quotable b }
 {

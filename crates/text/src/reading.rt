@@ -6,7 +6,7 @@ ghost use Rattle.model.specs.Bytes as B;
 ghost use Rattle.model.specs.Decimal.{plain_digits};
 ghost use Rattle.text.specs.Reading as N;
 
-use crate::bytes;
+use crate::{bytes, word};
 
 // What is read where digits may stand: the index behind them, and the number that they stand for, as far as it is followed.
 #[derive(Clone, Copy)]
@@ -15,13 +15,11 @@ pub struct Digits {
     pub magnitude: usize,
 }
 
-// What is read where a number may stand: the index behind its minus and digits, whether these spell a number, and which.
+// What is read where a number may stand: the index behind its minus and digits, and the number if they spell one.
 #[derive(Clone, Copy)]
 pub struct Number {
     pub next: usize,
-    pub magnitude: usize,
-    pub negative: bool,
-    pub good: bool,
+    pub value: Option<i32>,
 }
 
 // One digit more. A number that has no 32 bits any more is not followed further.
@@ -41,17 +39,18 @@ fn digits_at(text: &[u8], at: usize) -> Digits
     requires { at ≤ length text.now }
     ensures { N.DigitsAt text.now at result }
 {
-    let mut next = at;
     let mut magnitude = 0;
-    while next < text.len() {
+    for next in at..text.len() {
         let b = text[next];
         if !bytes::digit(b) {
             return Digits { next, magnitude };
         }
         magnitude = raised(magnitude, b);
-        next += 1;
     }
-    Digits { next, magnitude }
+    Digits {
+        next: text.len(),
+        magnitude,
+    }
 }
 
 // Digits are at least one, with no 0 in front of others.
@@ -73,16 +72,14 @@ fn negative(text: &[u8], at: usize) -> Number
     requires { at ≤ length text.now }
     ensures { N.NegativeAt text.now at result }
 {
-    let found = digits_at(text, at);
-    let next = found.next;
-    let magnitude = found.magnitude;
+    let Digits { next, magnitude } = digits_at(text, at);
     let good = plain(text, at, next) & (1 <= magnitude) & (magnitude <= 2147483648);
-    Number {
-        next,
-        magnitude,
-        negative: true,
-        good,
-    }
+    let value = if good {
+        Some(word::signed(magnitude, true))
+    } else {
+        None
+    };
+    Number { next, value }
 }
 
 // A number with no minus at the index.
@@ -90,16 +87,14 @@ fn positive(text: &[u8], at: usize) -> Number
     requires { (at ≤ length text.now) × (at < length text.now → get_or text.now at 0 ≡ 45 → ⊥) }
     ensures { N.NumberAt text.now at result }
 {
-    let found = digits_at(text, at);
-    let next = found.next;
-    let magnitude = found.magnitude;
+    let Digits { next, magnitude } = digits_at(text, at);
     let good = plain(text, at, next) & (magnitude <= 2147483647);
-    Number {
-        next,
-        magnitude,
-        negative: false,
-        good,
-    }
+    let value = if good {
+        Some(word::signed(magnitude, false))
+    } else {
+        None
+    };
+    Number { next, value }
 }
 
 // What stands from an index on where a number may stand.
@@ -107,10 +102,7 @@ pub fn number_at(text: &[u8], at: usize) -> Number
     requires { at ≤ length text.now }
     ensures { N.NumberAt text.now at result }
 {
-    if text.len() <= at {
-        return positive(text, at);
-    }
-    if text[at] == bytes::MINUS {
+    if text.get(at) == Some(&bytes::MINUS) {
         return negative(text, at + 1);
     }
     positive(text, at)

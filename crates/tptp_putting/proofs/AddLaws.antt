@@ -6,70 +6,69 @@ use mathlib.Core.Bool.{Bool, cond}
 use mathlib.Core.List.{[], ◌++◌, append_assoc, append-nil}
 use lib.ListN.{length, length-append}
 use Rattle.model.specs.Bytes.{Text}
-use Rattle.text.specs.declared.writing.Put.{Put}
-use Rattle.text.specs.declared.writing.Put.TheVariants.{Full, At}
+use Rattle.std.specs.Prelude.{Option, Some, None}
 use Rattle.text.specs.Put.{Puts}
 use Rattle.text.proofs.PutLaws.{part_none, part-more, part-last, part_end}
 use Rattle.tptp_putting.specs.Adding.{Fits, Adds}
 
 -- what was written before had room, up to an index
-pub fits-at : {before : Put} {at : ℕ} (out : Text) → before ≡ At at → Fits before out → at ≤ length out
-fits-at out e h = subst (λ (p : Put). Fits p out) e h
+pub fits-at : {before : Option ℕ} {at : ℕ} (out : Text) → before ≡ Some at → Fits before out → at ≤ length out
+fits-at out e h = subst (λ (p : Option ℕ). Fits p out) e h
 
 pub adds-at :
-    {before : Put} {at : ℕ} (text old out : Text) (r : Put) → before ≡ At at → Puts text at old out r → Adds text before old out r
-adds-at text old out r e h = subst (λ (p : Put). Adds text p old out r) (sym e) h
+    {before : Option ℕ} {at : ℕ} (text old out : Text) (r : Option ℕ) → before ≡ Some at → Puts text at old out r → Adds text before old out r
+adds-at text old out r e h = subst (λ (p : Option ℕ). Adds text p old out r) (sym e) h
 
 -- it had none
-pub adds-full : {before : Put} (text old out : Text) → before ≡ Full → Adds text before old out Full
-adds-full text old out e = subst (λ (p : Put). Adds text p old out Full) (sym e) refl
+pub adds-full : {before : Option ℕ} (text old out : Text) → before ≡ None → Adds text before old out None
+adds-full text old out e = subst (λ (p : Option ℕ). Adds text p old out None) (sym e) refl
 
 -- the same text
 pub adds-is :
-    (a : Text) {b : Text} (before : Put) (old out : Text) (r : Put) → Adds a before old out r → b ≡ a → Adds b before old out r
+    (a : Text) {b : Text} (before : Option ℕ) (old out : Text) (r : Option ℕ) → Adds a before old out r → b ≡ a → Adds b before old out r
 adds-is a before old out r h e = subst (λ (t : Text). Adds t before old out r) (sym e) h
 
 -- the first or the second of two texts
 pub adds-either :
-    {first b : Bool} (one other : Text) (before : Put) (old out : Text) (r : Put) → first ≡ b →
+    {first b : Bool} (one other : Text) (before : Option ℕ) (old out : Text) (r : Option ℕ) → first ≡ b →
     Adds (cond b one other) before old out r →
     Adds (cond first one other) before old out r
 adds-either one other before old out r e h = subst (λ (c : Bool). Adds (cond c one other) before old out r) (sym e) h
 
 -- no index is no room
-at-full : {n : ℕ} → At n ≡ Full → ⊥
+at-full : {n : ℕ} → Some n ≡ None → ⊥
 at-full e = let z : ◌≡◌ {A = ℕ} 0 1 = cc in omega arith
 
 -- a text stands behind what was written before, and the buffer is as long as it was
-pub record Behind (text : Text) (before : Put) (old out : Text) (r : Put) : Type 0 where
+pub record Behind (text : Text) (before : Option ℕ) (old out : Text) (r : Option ℕ) : Type 0 where
   pub adds : Adds text before old out r
   pub long : length out ≡ length old
 
 -- it ends within the buffer
-pub behind-fits : {text : Text} {before : Put} {old out : Text} {r : Put} → Behind text before old out r → Fits r out
-behind-fits {r = Full} b = tt
-behind-fits {before = Full} {r = At n} b = absurd (at-full b.adds)
-behind-fits {before = At at} {r = At n} b = omega (arith, b.adds.fits, b.long)
+pub behind-fits : {text : Text} {before : Option ℕ} {old out : Text} {r : Option ℕ} → Behind text before old out r → Fits r out
+behind-fits {r = None} b = tt
+behind-fits {before = None} {r = Some n} b = absurd (at-full b.adds)
+behind-fits {before = Some at} {r = Some n} b = omega (arith, b.adds.fits, b.long)
 
 -- one text behind another
 behind-both :
-    (a b : Text) (before : Put) (old out out' : Text) (p r : Put) →
+    (a b : Text) (before : Option ℕ) (old out out' : Text) (p r : Option ℕ) →
     Adds a before old out p →
     length out ≡ length old →
     Adds b p out out' r →
     length out' ≡ length out →
     Adds (a ++ b) before old out' r
-behind-both a b Full old out out' p r h l k m = subst (λ (q : Put). Adds b q out out' r) h k
-behind-both a b (At at) old out out' Full r h l k m =
+behind-both a b None old out out' p r h l k m = subst (λ (q : Option ℕ). Adds b q out out' r) h k
+behind-both a b (Some at) old out out' None r h l k m =
     subst (Puts (a ++ b) at old out') (sym k) (omega (arith, h, length-append a b))
-behind-both a b (At at) old out out' (At n) r w l k m =
+behind-both a b (Some at) old out out' (Some n) r w l k m =
     part-last
-    (part-more (part_none (a ++ b) old at (omega (arith, w.ends, w.fits))) a b refl out (At n) w n refl l)
+    (part-more (part_none (a ++ b) old at (omega (arith, w.ends, w.fits))) a b refl out (Some n) w n refl l)
     out' r k m
 
 pub behind_more :
-    {a : Text} {before : Put} {old out : Text} {p : Put} → Behind a before old out p →
-    (b : Text) {out' : Text} {r : Put} → Adds b p out out' r →
+    {a : Text} {before : Option ℕ} {old out : Text} {p : Option ℕ} → Behind a before old out p →
+    (b : Text) {out' : Text} {r : Option ℕ} → Adds b p out out' r →
     length out' ≡ length out →
     Behind (a ++ b) before old out' r
 behind_more {a} {before} {old} {out} {p} h b {out'} {r} k m = record {
@@ -78,42 +77,42 @@ behind_more {a} {before} {old} {out} {p} h b {out'} {r} k m = record {
 }
 
 pub behind_then :
-    {a b : Text} {before p r : Put} {old out out' : Text} → Behind a before old out p → Behind b p out out' r →
+    {a b : Text} {before p r : Option ℕ} {old out out' : Text} → Behind a before old out p → Behind b p out out' r →
     Behind (a ++ b) before old out' r
 behind_then {b = b} h k = behind_more h b k.adds k.long
 
 pub behind-is :
-    {a b : Text} {before : Put} {old out : Text} {r : Put} → Behind a before old out r → b ≡ a → Adds b before old out r
+    {a b : Text} {before : Option ℕ} {old out : Text} {r : Option ℕ} → Behind a before old out r → b ≡ a → Adds b before old out r
 behind-is {a} {b} {before} {old} {out} {r} h e = adds-is a before old out r h.adds e
 
 -- no room for the front of a text is no room for the text
 pub behind-short :
-    {a : Text} {before : Put} {old out : Text} {p : Put} (text rest : Text) → Behind a before old out p → p ≡ Full →
+    {a : Text} {before : Option ℕ} {old out : Text} {p : Option ℕ} (text rest : Text) → Behind a before old out p → p ≡ None →
     text ≡ a ++ rest →
-    Adds text before old out Full
+    Adds text before old out None
 behind-short {a} {before} {old} {out} {p} text rest b e f = go before (subst (Adds a before old out) e b.adds)
   where
-    go : (before : Put) → Adds a before old out Full → Adds text before old out Full
-    go Full h = refl
-    go (At at) h = omega (arith, h, ap length f, length-append a rest)
+    go : (before : Option ℕ) → Adds a before old out None → Adds text before old out None
+    go None h = refl
+    go (Some at) h = omega (arith, h, ap length f, length-append a rest)
 
 -- the front of a text stands behind what was written before, and this is left of it
-pub record Left (text left : Text) (before : Put) (old out : Text) (r : Put) : Type 0 where
+pub record Left (text left : Text) (before : Option ℕ) (old out : Text) (r : Option ℕ) : Type 0 where
   pub done : Text
   pub all : text ≡ done ++ left
   pub behind : Behind done before old out r
 
-pub adds_none : (before : Put) (old : Text) → Fits before old → Adds [] before old old before
-adds_none Full old h = refl
-adds_none (At at) old h = part_end (part_none [] old at h) refl
+pub adds_none : (before : Option ℕ) (old : Text) → Fits before old → Adds [] before old old before
+adds_none None old h = refl
+adds_none (Some at) old h = part_end (part_none [] old at h) refl
 
-pub left-none : (text : Text) (before : Put) (old : Text) → Fits before old → Left text text before old old before
+pub left-none : (text : Text) (before : Option ℕ) (old : Text) → Fits before old → Left text text before old old before
 left-none text before old h = record { done = []; all = refl; behind = record { adds = adds_none before old h; long = refl } }
 
-module _ {text left : Text} {before : Put} {old out : Text} {p : Put} (l : Left text left before old out p) where
+module _ {text left : Text} {before : Option ℕ} {old out : Text} {p : Option ℕ} (l : Left text left before old out p) where
   -- one part more
   pub left-more :
-      (a more : Text) → left ≡ a ++ more → {out' : Text} {r : Put} → Adds a p out out' r → length out' ≡ length out →
+      (a more : Text) → left ≡ a ++ more → {out' : Text} {r : Option ℕ} → Adds a p out out' r → length out' ≡ length out →
       Left text more before old out' r
   left-more a more e k m = record {
     done = l.done ++ a;

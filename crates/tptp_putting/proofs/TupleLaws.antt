@@ -8,7 +8,7 @@ use lib.IntN.{ℤ}
 use Rattle.model.specs.Words.{Words}
 use Rattle.model.specs.Lists.{gather}
 use Rattle.model.specs.Bytes.{Text, bytes}
-use Rattle.text.specs.declared.writing.Put.{Put}
+use Rattle.std.specs.Prelude.{Option, Some, None}
 use Rattle.laws.specs.Words.Standing.{Stands, stands-left, stands-right, stands_taken}
 use Rattle.laws.specs.Reading.Formed.{AllOfLength}
 use Rattle.tptp_putting.specs.Adding.{Adds, Fits}
@@ -73,21 +73,21 @@ module _ (words : Words) (v first end : ℕ) where
 -- the tuples stand up to an index
 pub record Each
     (words : Words) (v scope first end : ℕ) (t : Tuples words v first end)
-    (from : ℕ) (before : Put) (old out : Text) (put : Put) : Type 0
+    (from : ℕ) (before : Option ℕ) (old out : Text) (put : Option ℕ) : Type 0
   where
     pub rest : Tuples words v from end
     pub left : Left (tuples_text scope t.list) (tuples_text scope rest.list) before old out put
 
 module _ (words : Words) (v scope first end : ℕ) (t : Tuples words v first end) where
-  pub each_none : (before : Put) (old : Text) → Fits before old → Each words v scope first end t first before old old before
+  pub each_none : (before : Option ℕ) (old : Text) → Fits before old → Each words v scope first end t first before old old before
   each_none before old h = record { rest = t; left = left-none (tuples_text scope t.list) before old h }
 
   module _
-      (from : ℕ) (before : Put) (old out : Text) (put : Put)
+      (from : ℕ) (before : Option ℕ) (old out : Text) (put : Option ℕ)
       (e : Each words v scope first end t from before old out put)
     where
       pub each_more :
-          from < end → (out' : Text) (r : Put) → Adds (tuple_text scope (take v (drop from words))) put out out' r →
+          from < end → (out' : Text) (r : Option ℕ) → Adds (tuple_text scope (take v (drop from words))) put out out' r →
           length out' ≡ length out →
           Each words v scope first end t (from + v) before old out' r
       each_more h out' r k m =

@@ -4,7 +4,7 @@ use Prim.Native.Nat.{◌-◌, ◌/◌}
 use native.Mathlib.Omega.{arith}
 use lib.ListN.{length}
 use Rattle.model.specs.LogText.{log_text}
-use Rattle.text.specs.declared.writing.Put.TheVariants.{Full, At}
+use Rattle.std.specs.Prelude.{Some, None}
 use Rattle.text.proofs.PutLaws.{part-more, part-full, part_end, writes-whole}
 use Rattle.csv_writing.proofs.RowLaws.{row-good, lines_start, lines_more, lines_none}
 use Rattle.csv_writing.proofs.write_rows.Goals as goal
@@ -20,7 +20,7 @@ put_row-line-requires c =
 pub returns-in_default : goal.returns-in_default
 returns-in_default c =
     let a = c.args in
-    writes-whole (log_text a.table.now a.log.now) a.out.now c.put_row-line.new.out Full
+    writes-whole (log_text a.table.now a.log.now) a.out.now c.put_row-line.new.out None
     (part-full c.loop-row.invariant _ _
     (lines_more a.table.now a.log.now c.loop-row.row (length a.log.now / 8) c.loop-row-test.true)
     _ _ c.put_row-line.ensures c.in_default.is)
@@ -35,5 +35,5 @@ loop-row-preserved c =
 pub returns : goal.returns
 returns c =
     let a = c.args in
-    writes-whole (log_text a.table.now a.log.now) a.out.now c.loop-row.out (At c.loop-row.next)
+    writes-whole (log_text a.table.now a.log.now) a.out.now c.loop-row.out (Some c.loop-row.next)
     (part_end c.loop-row.invariant (lines_none a.table.now a.log.now c.loop-row.row (length a.log.now / 8) c.loop-row-test.false))

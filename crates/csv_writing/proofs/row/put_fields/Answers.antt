@@ -7,7 +7,7 @@ use Rattle.model.specs.Words.{word}
 use Rattle.model.specs.Bytes.{comma}
 use Rattle.model.specs.Decimal.{decimal}
 use Rattle.csv_writing.specs.Row.{fields_of}
-use Rattle.text.specs.declared.writing.Put.TheVariants.{Full, At}
+use Rattle.std.specs.Prelude.{Some, None}
 use Rattle.text.proofs.PutLaws.{Part, part_none, part-more, part-full, part-last, part_end}
 use Rattle.csv_writing.proofs.RowLaws.{behind, fields-first, behind_more, behind-none}
 use Rattle.csv_writing.proofs.row.put_fields.Goals as goal
@@ -25,7 +25,7 @@ returns-in_default-field c =
     (fields-first a.row.now a.n) _ _ c.put_number-first.ensures _ c.in-At.is
     c.put_number-first.auto.out in
     let a = c.args in
-    part-last (first) c.put_field-field.new.out Full
+    part-last (first) c.put_field-field.new.out None
     (part-full c.loop-i.invariant (comma ∷ decimal (word a.row.now c.loop-i.i)) _
     (behind_more a.row.now a.n c.loop-i.i c.loop-i-test.true c.requires.0) _ _
     c.put_field-field.ensures c.in_default-field.is) (c.put_field-field.auto.out ∙ c.loop-i.invariant.long)
@@ -44,5 +44,5 @@ returns c =
     (fields-first a.row.now a.n) _ _ c.put_number-first.ensures _ c.in-At.is
     c.put_number-first.auto.out in
     let a = c.args in
-    part-last (first) _ (At c.loop-i.next)
+    part-last (first) _ (Some c.loop-i.next)
     (part_end c.loop-i.invariant (behind-none a.row.now a.n c.loop-i.i c.loop-i-test.false)) c.loop-i.invariant.long

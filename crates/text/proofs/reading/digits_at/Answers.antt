@@ -1,5 +1,4 @@
 -- `text::reading::digits_at` meets its contract. The loop's invariant: all bytes passed are digits, and the number is followed.
-use Prim.Native.Nat.{◌-◌}
 use mathlib.Core.Path.{sym, ◌∙◌}
 use Rattle.text.proofs.ReadingLaws.{passed_none, passed-more}
 use Rattle.text.proofs.reading.digits_at.Goals as goal

@@ -1,11 +1,6 @@
 -- `text::reading::digits_at` meets its contract. The loop's invariant: all bytes passed are digits, and the number is followed.
-use Prim.Native.Nat.{◌-◌}
-use lib.ListN.{length}
 use Rattle.text.proofs.ReadingLaws.{Passed}
 use Rattle.text.proofs.reading.digits_at.Given as goal
 
 abbrev pub invariant-loop-next : goal.invariant-loop-next
 invariant-loop-next l = Passed l.text l.at l.next l.magnitude
-
-abbrev pub decreases-loop-next : goal.decreases-loop-next
-decreases-loop-next l = length l.text - l.next

@@ -1,11 +1,7 @@
 -- `text::writing::put_digits` meets its contract. The loop's invariant: the last digits stand from the index reached on. The measure is
 -- the number of those left.
-use Prim.Native.Nat.{◌-◌}
 use Rattle.text.proofs.WritingLaws.{Ending}
 use Rattle.text.proofs.writing.put_digits.Given as goal
 
 abbrev pub invariant-loop-i : goal.invariant-loop-i
 invariant-loop-i l = Ending l.initial.out l.from l.next l.n l.out l.left l.i
-
-abbrev pub decreases-loop-i : goal.decreases-loop-i
-decreases-loop-i l = l.i - l.from

@@ -1,42 +1,20 @@
--- `text::writing::width` meets its contract: each test names a power of ten.
-use native.Mathlib.Omega.{arith}
-use Rattle.text.proofs.WritingLaws.{width_of}
+-- `text::writing::width` meets its contract, by how many of the powers of ten the number reaches.
+use mathlib.Core.Path.{◌∙◌}
+use lib.Dec.{leb}
+use Rattle.std.proofs.Common.{rules, tests}
+use Rattle.std.proofs.lemmas.Iterator.{YieldsList-from_slice}
+use Rattle.std.proofs.lemmas.Iterator.Consumers.{count_from_yields_List}
+use Rattle.std.proofs.lemmas.Iterator.Search.{YieldsList-from_take_while}
+use Rattle.std.proofs.lemmas.List.Folds.{length-prefix_len}
+use Rattle.text.proofs.WritingLaws.{powers, width_reached}
 use Rattle.text.proofs.writing.width.Goals as goal
-
-pub returns-then-n-lt10 : goal.returns-then-n-lt10
-returns-then-n-lt10 c = width_of 0 c.args.n (omega arith) (λ h. omega arith) (λ h. omega arith)
-
-pub returns-then-n-lt100 : goal.returns-then-n-lt100
-returns-then-n-lt100 c = width_of 1 c.args.n (omega arith) (λ h. omega arith) (λ h. omega arith)
-
-pub returns-then-n-lt1000 : goal.returns-then-n-lt1000
-returns-then-n-lt1000 c = width_of 2 c.args.n (omega arith) (λ h. omega arith) (λ h. omega arith)
-
-pub returns-then-n-lt10000 : goal.returns-then-n-lt10000
-returns-then-n-lt10000 c = width_of 3 c.args.n (omega arith) (λ h. omega arith) (λ h. omega arith)
-
-pub returns-then-n-lt100000 : goal.returns-then-n-lt100000
-returns-then-n-lt100000 c = width_of 4 c.args.n (omega arith) (λ h. omega arith) (λ h. omega arith)
-
-pub returns-then-n-lt1000000 : goal.returns-then-n-lt1000000
-returns-then-n-lt1000000 c = width_of 5 c.args.n (omega arith) (λ h. omega arith) (λ h. omega arith)
-
-pub returns-then-n-lt10000000 : goal.returns-then-n-lt10000000
-returns-then-n-lt10000000 c =
-    let a = c.args in
-    width_of 6 a.n (omega arith) (λ h. omega arith) (λ h. omega arith)
-
-pub returns-then-n-lt100000000 : goal.returns-then-n-lt100000000
-returns-then-n-lt100000000 c =
-    let a = c.args in
-    width_of 7 a.n (omega arith) (λ h. omega arith) (λ h. omega arith)
-
-pub returns-then-n-lt1000000000 : goal.returns-then-n-lt1000000000
-returns-then-n-lt1000000000 c =
-    let a = c.args in
-    width_of 8 a.n (omega arith) (λ h. omega arith) (λ h. omega arith)
 
 pub returns : goal.returns
 returns c =
-    let a = c.args in
-    width_of 9 a.n (omega arith) (λ h. omega arith) (λ h. omega arith)
+    let n = c.args.n in
+    let t = c.take_while in
+    width_reached n c.count.result
+    (count_from_yields_List t.result _ c.count.ensures.ran
+    (YieldsList-from_take_while _ (λ p. leb p n) (YieldsList-from_slice (powers 0 9) cc) t.ensures.closure t.ensures.done
+    (λ x b q k. search (rules, tests)))
+    ∙ length-prefix_len (λ p. leb p n) (powers 0 9))
