@@ -7,7 +7,7 @@ ghost use Rattle.tptp_binders.specs.Binder as B;
 
 use model::{Refusal, Refused};
 use text::bytes;
-use text::writing::{Put, put_natural};
+use text::writing::put_natural;
 use tptp_tokens::tokens::{Step, expect, skip, token};
 
 // Several things that were read: the index behind them, and how many they are.
@@ -23,7 +23,7 @@ fn named(text: &[u8], at: usize, word: &mut [u8], x: usize) -> Step
     ensures { Steps (R.token (variable_token x)) text.now at result }
 {
     let put = put_natural(word, 1, x);
-    let Put::At(n) = put else {
+    let Some(n) = put else {
         return Ok(at);
     };
     token(text, at, &word[..n])

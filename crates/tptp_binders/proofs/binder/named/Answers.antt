@@ -20,7 +20,7 @@ pub returns : goal.returns
 returns c =
     let a = c.args in
     let w =
-    subst (Puts (digits 10 a.x) 1 a.word.now c.put_natural-put.new.out) c.in-At.is
+    subst (Puts (digits 10 a.x) 1 a.word.now c.put_natural-put.new.out) c.in-Some.is
     c.put_natural-put.ensures in
     subst (λ (word : Text). Steps (token word) a.text.now a.at c.token.result)
     (variable-word a.x _ a.word.now _ c.requires.2 w) c.token.ensures
