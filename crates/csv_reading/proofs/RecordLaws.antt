@@ -288,9 +288,6 @@ module _ (table : Words) (text : Text) (i j fields : ℕ) (good : Bool) (row : W
       (sym (not_good table (e.contents ++ e.content ∷ []) t (ap (λ (n : ℕ). all good_number (e.contents ++ e.content ∷ []) && leb n 8) e.size ∙ sym e.said ∙ g)))
       (λ z. absurd (false≢true z))
 
-  pub line-few : good ≡ true → fields ≤ 8
-  line-few g = leb-true fields 8 (and_right (all good_number (e.contents ++ e.content ∷ [])) _ (sym e.said ∙ g))
-
   pub line-good : good ≡ true → (row' : Words) (r : Bool) → RowAsked table row fields row' r → Reads table text i row' next r
   line-good g row' r s =
       let spelt = s (e.contents ++ e.content ∷ []) e.size (and_left _ (leb fields 8) (sym e.said ∙ g)) (e.numbers g) in

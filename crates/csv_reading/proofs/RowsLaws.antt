@@ -208,23 +208,3 @@ module _ (table : Words) (text : Text) (at count good : ℕ) (rows : Words) (g :
         long = all.long;
         stands = all.stands;
       }
-
--- the words of one row
-pub row-long : (count : ℕ) (rows : Words) → count < length rows / 8 → length (take (8 * count + 8 - 8 * count) (drop (8 * count) rows)) ≡ 8
-row-long count rows h = simp (length-take, length-drop) (omega arith)
-
--- a record's row behind the others, and in a spare place
-module _ (table : Words) (text : Text) (i count : ℕ) (rows row : Words) (r : Result Line BadByte) (long : length row ≡ 8) (e : RecordAt table text i row r) where
-  pub placed_row : (rest : Words) → count < length rows / 8 → Placed table text i count rows (take (8 * count) rows ++ (row ++ rest)) r
-  placed_row rest h = record {
-    row = row;
-    long = long;
-    reads = e;
-    stands = λ k.
-        ap (take (8 * count + 8)) (sym (append_assoc (take (8 * count) rows) row rest))
-        ∙ take_at (take (8 * count) rows ++ row) rest (8 * count + 8)
-        (length-append (take (8 * count) rows) row ∙ ap₂ (λ (m n : ℕ). m + n) (length-take-le (8 * count) rows (omega arith)) long);
-  }
-
-  pub placed_spare : (rows' : Words) → length rows / 8 ≤ count → Placed table text i count rows rows' r
-  placed_spare rows' h = record { row = row; long = long; reads = e; stands = λ k. absurd (omega (arith, h, k)) }
