@@ -21,6 +21,11 @@ pub record Behind (text : Text) (before : Option ℕ) (old out : Text) (r : Opti
   pub adds : Adds text before old out r
   pub long : length out ≡ length old
 
+-- a write that leaves the buffer as long as it was
+pub behind-put :
+    (text : Text) (before r : Option ℕ) {old out : Text} → Adds text before old out r → length out ≡ length old → Behind text before old out r
+behind-put text before r adds long = record { adds = adds; long = long }
+
 -- it ends within the buffer
 pub behind-fits : {text : Text} {before : Option ℕ} {old out : Text} {r : Option ℕ} → Behind text before old out r → Fits r out
 behind-fits {r = None} b = tt
