@@ -58,6 +58,14 @@ behind_more {a} {before} {old} {out} {p} h b {out'} {r} k m = record {
   long = m ∙ h.long;
 }
 
+-- the same of a write, whose outcome is handed over
+pub behind-next :
+    {a : Text} {before : Option ℕ} {old out : Text} {p : Option ℕ} → Behind a before old out p →
+    (b : Text) (r : Option ℕ) {out' : Text} → Adds b p out out' r →
+    length out' ≡ length out →
+    Behind (a ++ b) before old out' r
+behind-next h b r k m = behind_more h b k m
+
 pub behind_then :
     {a b : Text} {before p r : Option ℕ} {old out out' : Text} → Behind a before old out p → Behind b p out out' r →
     Behind (a ++ b) before old out' r

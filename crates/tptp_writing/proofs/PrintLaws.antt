@@ -1,12 +1,12 @@
 -- Laws for the writing of nodes: the index of the word behind them goes along with what was written.
-use Prim.Native.Nat.{ℕ, ◌≤◌}
+use Prim.Native.Nat.{ℕ}
 use mathlib.Core.Path.{◌≡◌, refl, sym, subst}
 use lib.ListN.{length}
 use mathlib.Core.List.{◌++◌}
 use Rattle.model.specs.Bytes.{Text}
 use Rattle.std.specs.Prelude.{Option, Some, None}
 use Rattle.tptp_writing.specs.declared.tree.Printed.{Printed}
-use Rattle.tptp_putting.specs.Adding.{Fits, Adds}
+use Rattle.tptp_putting.specs.Adding.{Adds}
 use Rattle.tptp_writing.specs.Printing.{placed, wrote, Ends, Prints}
 use Rattle.tptp_putting.proofs.AddLaws.{Behind, behind-is, behind_more}
 

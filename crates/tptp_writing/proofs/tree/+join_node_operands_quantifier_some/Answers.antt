@@ -4,26 +4,23 @@
 -- nodes they are.
 use Prim.Native.Nat.{◌+◌, ◌*◌, ◌<◌}
 use native.Mathlib.Omega.{arith}
-use mathlib.Core.Path.{◌≡◌, refl, sym, ap, ◌∙◌}
+use mathlib.Core.Path.{refl, sym, ap, ◌∙◌}
 use mathlib.Core.Bool.{true, false, cond}
 use lib.ListN.{length}
 use lib.Dec.{eqb}
 use Rattle.model.specs.Bytes.{bytes}
 use Rattle.model.specs.Tptp.{connective}
 use Rattle.std.specs.Prelude.{Some}
-use Rattle.model.specs.Words.{word}
-use Rattle.model.specs.Tag.{tag_of}
-use Rattle.policies.specs.declared.node.Tag.{Tag}
 use Rattle.policies.specs.Node.{as_tag}
-use Rattle.tptp_putting.specs.Texts.{head_text, closed_text, Tuples}
-use Rattle.tptp_writing.specs.Printing.{Printable, PrintableAll, node_text, wrote, Prints}
-use Rattle.tptp_putting.proofs.AddLaws.{Behind, behind-put, behind-fits}
+use Rattle.tptp_putting.specs.Texts.{head_text}
+use Rattle.tptp_writing.specs.Printing.{node_text, wrote}
+use Rattle.tptp_putting.proofs.AddLaws.{behind-put, behind-fits}
 use Rattle.tptp_writing.proofs.PrintableLaws.{here-low, here-inside, atom-here, compare-here, unused-here}
-use Rattle.tptp_writing.proofs.PrintableLaws.{Joined, joined, Quantified, quantified, Something, something, Headed, headed}
+use Rattle.tptp_writing.proofs.PrintableLaws.{joined, quantified, something, headed}
 use Rattle.tptp_writing.proofs.WalkLaws.{plain_prints, atom_prints, compare_prints, quantifier_prints, some_prints}
 use Rattle.tptp_writing.proofs.WalkLaws.{join-fits, join_prints, some_fits, some-stands}
 use Rattle.tptp_writing.proofs.WalkLaws.{quantifier-full, body-here, restriction-fits, tuples-fits, body-fits, quantifier-stands}
-use Rattle.tptp_writing.proofs.WalkLaws.{operand_prints, More, more-none, more-fits, more-here, more_turn, more-full, more_end}
+use Rattle.tptp_writing.proofs.WalkLaws.{operand_prints, more-none, more-fits, more-here, more_turn, more-full, more_end}
 use Rattle.tptp_writing.proofs.tree.+join_node_operands_quantifier_some.Goals as goal
 
 pub join-overflow_add-above : goal.join-overflow_add-above
