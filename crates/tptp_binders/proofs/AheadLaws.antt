@@ -8,8 +8,13 @@ use mathlib.Core.Logic.{⊎_elim}
 use mathlib.Core.Bool.{Bool, true, false, not, ◌&&◌, ◌||◌}
 use mathlib.Core.List.{[], ◌∷◌}
 use lib.ListN.{length, drop, get_or}
-use lib.Dec.{eqb}
-use borrow.Author.Tests.{eq-eqb, ne_eqb, not-true}
+use lib.Dec.{eqb, ltb}
+use denote.Bor.{Bor}
+use Rattle.std.specs.Prelude.{Option, Some, None, MatchOption}
+use Rattle.std.specs.Option.{option_eq, option_map, unwrap_or}
+use Rattle.std.specs.List.{HoldsAt}
+use Rattle.std.proofs.lemmas.Bool.{ltb-true, ltb-false}
+use borrow.Author.Tests.{ne_eqb, not-true}
 use Rattle.model.specs.Bytes.{Text, blank}
 use Rattle.model.specs.Answer.{passed}
 use Rattle.model.specs.TptpReading.{Got, blanks, behind_blanks, begins_with, begins_tuple, begins_excluding}
@@ -31,9 +36,11 @@ scan_start text at h = record { low = omega arith; high = h; few = omega arith; 
 
 module _ (text : Text) (at i depth : ℕ) (s : Scans text at i depth) where
   -- the end of the text
-  pub scan_end : length text ≤ i → StopsAt text at i
+  pub scan_end : i ≡ length text → StopsAt text at (length text)
   unfolding stopping
-  scan_end h = record { low = s.low; high = s.high; stops = over text i h ∙ sym (s.same ∙ rw (over text i h)) }
+  scan_end e =
+      let none : drop (length text) text ≡ [] = over text (length text) (omega arith) in
+      record { low = omega (arith, s.low); high = omega arith; stops = none ∙ sym (s.same ∙ rw (e, none)) }
 
   module _ (h : i < length text) where
     -- the scan goes on behind this byte with another depth, or stops at it
@@ -81,6 +88,24 @@ pub foretold :
 foretold text at stop c r s e is =
     record { tells = λ _. e ∙ ap (λ (k : ℕ). begins_with k (drop stop text)) is ∙ ap (begins_with 38) s.stops }
 
+-- the byte that is looked up at an index begins the text from there on
+pub same_byte :
+    (text : Text) (at : ℕ) (c : Bor ℕ) (o : Option (Bor ℕ)) →
+    MatchOption o (length text ≤ at) (λ x. (at < length text) × HoldsAt (λ y. x.now ≡ y) text at) →
+    ((d : ℕ) → unwrap_or (option_map {T = Bor ℕ} {U = ℕ} (λ x. x.now) o) d ≡ get_or text at d) →
+    option_eq {T = Bor ℕ} (λ x y. eqb x.now y.now) o (Some c) ≡ begins_with c.now (drop at text)
+unfolding begins_with
+same_byte text at c None h f = rw (over text at h)
+same_byte text at c (Some x) h f = rw (here text at h.0, f 0)
+
+-- a byte stands within the text
+pub stands-within : (text : Text) (i c : ℕ) → begins_with c (drop i text) ≡ true → i < length text
+unfolding begins_with
+stands-within text i c e = ⊎_elim (λ h. ltb-true i (length text) h) (λ h. absurd (past h)) (decide (ltb i (length text)))
+  where
+    past : ltb i (length text) ≡ false → ⊥
+    past h = let n : begins_with c (drop i text) ≡ false = rw (over text i (ltb-false i (length text) h)) in clash e n
+
 -- what blanks leave is the text behind them
 pub blanks-rest : (text : Text) (p : ℕ) → (q : ℕ) × (blanks text p ≡ passed (record { what = tt; rest = behind_blanks text; at = q }))
 unfolding blanks behind_blanks
@@ -104,13 +129,9 @@ module _ (text : Text) (at i : ℕ) (s : Skips text at i) where
   pub behind_skip : behind_blanks (drop at text) ≡ drop i text
   behind_skip = ap (λ (g : Got (Unit {0})). g.rest) (passed-same (sym (blanks-rest (drop at text) at).1 ∙ s.reads))
 
-  pub begins-over : (c : ℕ) → length text ≤ i → false ≡ begins c (drop at text)
-  unfolding begins begins_with
-  begins-over c h = rw (behind_skip, over text i h)
-
-  pub begins-here : (c : ℕ) → i < length text → eqb (get_or text i 0) c ≡ begins c (drop at text)
-  unfolding begins begins_with
-  begins-here c h = rw (behind_skip, here text i h)
+  pub begins-at : (c : ℕ) → begins_with c (drop i text) ≡ begins c (drop at text)
+  unfolding begins
+  begins-at c = rw behind_skip
 
   -- where no quantifier begins, nothing is foretold
   pub foretold_none :
@@ -122,47 +143,35 @@ module _ (text : Text) (at i : ℕ) (s : Skips text at i) where
       rw (behind_skip, first, second) in
       record { tells = λ begun. clash begun (same ∙ not-true (all || some) none) }
 
-  module _ (c : ℕ) (test : Text → Bool) where
-    followed_over : length text ≤ i → false ≡ followed c test (drop at text)
+  -- a byte stands behind the blanks, or another
+  module _ (c : ℕ) (test : Text → Bool) (b : Bool) (e : b ≡ begins_with c (drop i text)) where
+    followed_other : b ≡ false → b ≡ followed c test (drop at text)
+    followed_other n = rw (behind_skip, sym e, n)
+
+    followed_here : b ≡ true → test (drop (i + 1) text) ≡ followed c test (drop at text)
     unfolding begins_with
-    followed_over h = rw (behind_skip, over text i h)
+    followed_here y =
+        let h = stands-within text i c (sym e ∙ y) in
+        rw (behind_skip, sym e, y, here text i h)
 
-    followed_other : i < length text → (get_or text i 0 ≡ c → ⊥) → false ≡ followed c test (drop at text)
-    unfolding begins_with
-    followed_other h n = rw (behind_skip, here text i h, ne_eqb (get_or text i 0) c n)
+  -- an excluded tuple of several variables begins with a parenthesis
+  module _ (v : ℕ) (many : v ≡ 1 → ⊥) (b : Bool) (e : b ≡ begins_with 40 (drop i text)) where
+    several : begins_tuple v (drop at text) ≡ followed 40 (begins 88) (drop at text)
+    unfolding begins begins_tuple
+    several = rw (ne_eqb v 1 many)
 
-    followed_here : i < length text → get_or text i 0 ≡ c → test (drop (i + 1) text) ≡ followed c test (drop at text)
-    unfolding begins_with
-    followed_here h e = rw (behind_skip, here text i h, eq-eqb (get_or text i 0) c e)
+    pub tuple-other : b ≡ false → b ≡ begins_tuple v (drop at text)
+    tuple-other n = followed_other 40 (begins 88) b e n ∙ sym several
 
-  module _ (v : ℕ) where
-    -- an excluded tuple of several variables begins with a parenthesis
-    module _ (many : v ≡ 1 → ⊥) where
-      several : begins_tuple v (drop at text) ≡ followed 40 (begins 88) (drop at text)
-      unfolding begins begins_tuple
-      several = rw (ne_eqb v 1 many)
+    pub tuple-here : b ≡ true → begins 88 (drop (i + 1) text) ≡ begins_tuple v (drop at text)
+    tuple-here y = followed_here 40 (begins 88) b e y ∙ sym several
 
-      pub tuple-over : length text ≤ i → false ≡ begins_tuple v (drop at text)
-      tuple-over h = followed_over 40 (begins 88) h ∙ sym several
-
-      pub tuple-other : i < length text → (get_or text i 0 ≡ 40 → ⊥) → false ≡ begins_tuple v (drop at text)
-      tuple-other h n = followed_other 40 (begins 88) h n ∙ sym several
-
-      pub tuple-here : i < length text → get_or text i 0 ≡ 40 → begins 88 (drop (i + 1) text) ≡ begins_tuple v (drop at text)
-      tuple-here h e = followed_here 40 (begins 88) h e ∙ sym several
-
-    -- the connective before one
-    pub excluding-over : length text ≤ i → false ≡ begins_excluding v (drop at text)
+  -- the connective before one
+  module _ (v : ℕ) (b : Bool) (e : b ≡ begins_with 38 (drop i text)) where
+    pub excluding-other : b ≡ false → b ≡ begins_excluding v (drop at text)
     unfolding begins_excluding
-    excluding-over h = followed_over 38 (begins_tuple v) h
+    excluding-other n = followed_other 38 (begins_tuple v) b e n
 
-    pub excluding-other : i < length text → (get_or text i 0 ≡ 38 → ⊥) → false ≡ begins_excluding v (drop at text)
+    pub excluding-here : b ≡ true → begins_tuple v (drop (i + 1) text) ≡ begins_excluding v (drop at text)
     unfolding begins_excluding
-    excluding-other h n = followed_other 38 (begins_tuple v) h n
-
-    pub excluding-here :
-        i < length text →
-        get_or text i 0 ≡ 38 →
-        begins_tuple v (drop (i + 1) text) ≡ begins_excluding v (drop at text)
-    unfolding begins_excluding
-    excluding-here h e = followed_here 38 (begins_tuple v) h e
+    excluding-here y = followed_here 38 (begins_tuple v) b e y

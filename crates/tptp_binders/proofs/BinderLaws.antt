@@ -11,18 +11,15 @@ use Rattle.model.specs.Bytes.{Text, bytes, comma}
 use Rattle.model.specs.Answer.{Outcome, passed, refused}
 use Rattle.model.specs.Decimal.{digits}
 use Rattle.model.specs.Tptp.{variable_token}
-use Rattle.model.specs.TptpReading.{Got, Reader, give, onwards, look, token, declaration, variables, read_binder, ◌>>=◌}
+use Rattle.model.specs.TptpReading.{Got, Reader, give, onwards, look, token, declaration, variables, ◌>>=◌}
 use Rattle.model.specs.declared.Refusal.{Refusal}
 use Rattle.model.specs.declared.Refusal.TheVariants.{Tptp}
 use Rattle.laws.specs.Decimal.{digits-few}
 use Rattle.text.specs.Put.{Wrote}
-use Rattle.tptp_tokens.specs.Steps.{from, got, Skips, Reads, Steps, Value, Valued, Behind}
+use Rattle.tptp_tokens.specs.Steps.{from, got, Skips, Reads, Value}
 use Rattle.tptp_binders.specs.Binder.{IsCount}
-use Rattle.tptp_tokens.specs.declared.tokens.Step.{Step}
-use Rattle.tptp_tokens.specs.declared.tokens.Step.TheVariants.{At}
 use Rattle.tptp_tokens.proofs.TokenLaws.{onward, halt, look-here, look-over, token-here}
 use Rattle.tptp_tokens.proofs.UpTo.{skips_self}
-use Rattle.tptp_tokens.proofs.Going.{going_start, going_token, going_value, going_end, going_last}
 
 -- a number has at most ten digits, as far as they are written
 pub never-full : (x : ℕ) (word : Text) → length word ≡ 11 → length word < 1 + length (digits 10 x) → ⊥
@@ -31,20 +28,6 @@ never-full x word l h = let few = digits-few 10 x in omega arith
 pub variable-word : (x n : ℕ) (word word' : Text) → take 1 word ≡ 88 ∷ [] → Wrote (digits 10 x) 1 word word' n → take n word' ≡ variable_token x
 unfolding variable_token bytes
 variable-word x n word word' e w = w.stands ∙ ap (λ (t : Text). t ++ digits 10 x) e
-
--- a variable and its type
-pub declared_read :
-    (text : Text) (at x : ℕ) → at ≤ length text → (r₁ r₂ r : Step) →
-    Steps (token (variable_token x)) text at r₁ →
-    Behind (Steps (token (58 ∷ [])) text) r₁ r₂ →
-    Behind (Steps (token (bytes "$int")) text) r₂ r →
-    Steps (declaration x) text at r
-unfolding declaration bytes
-declared_read text at x h r₁ r₂ r s₁ s₂ s =
-    let w = declaration x in
-    let g₁ = going_token w text at _ (token (variable_token x)) _ (At at) r₁ (going_start w text at h) s₁ in
-    let g₂ = going_token w text at _ (token (58 ∷ [])) _ r₁ r₂ g₁ s₂ in
-    going_last w (token (bytes "$int")) text at _ r₂ r g₂ s
 
 -- what is left of the variables of a binder behind the first of them
 unfoldable pub further : ℕ → ℕ → Reader ℕ
@@ -125,13 +108,13 @@ module _ (most x : ℕ) (text : Text) (at : ℕ) where
 
   module _ {next count : ℕ} (c : Counting most x text at next count) where
     -- as many as there may be
-    pub counting_end : most < count → Value (variables most x) (IsCount most count) text at next
+    pub counting_end : count ≡ most + 1 → Value (variables most x) (IsCount most (most + 1)) text at next
     unfolding further give plus
     counting_end h =
         let none : most - c.k ≡ 0 = omega (arith, c.is, c.few) in
-        let all : c.k + 1 ≡ count = sym c.is in
+        let all : c.k + 1 ≡ most + 1 = sym c.is ∙ h in
         record {
-          what = count;
+          what = most + 1;
           reads = record {
             low = c.low;
             high = c.high;
@@ -213,20 +196,3 @@ module _ (most x : ℕ) (text : Text) (at : ℕ) where
               let next_one : x + count ≡ suc (x + c.k) = omega (arith, c.is) in
               let read = ap (λ (y : ℕ). from (declaration y) text (i + 1)) (sym next_one) ∙ r in
               goes_on_lem ∙ ap (plus c.k) (behind-comma ∙ ap (plus 1) (first-refused text m (suc (x + c.k)) (i + 1) q p read))
-
--- a binder
-pub binder-read :
-    (most x : ℕ) (text : Text) (at count : ℕ) → at ≤ length text → (r₁ r₂ r₃ r : Step) →
-    Steps (token (91 ∷ [])) text at r₁ →
-    Behind (Valued (variables most x) (IsCount most count) text) r₁ r₂ →
-    Behind (Steps (token (93 ∷ [])) text) r₂ r₃ →
-    Behind (Steps (token (58 ∷ [])) text) r₃ r →
-    Valued (read_binder most x) (IsCount most count) text at r
-unfolding read_binder bytes
-binder-read most x text at count h r₁ r₂ r₃ r s₁ s₂ s₃ s =
-    let w = read_binder most x in
-    let g₁ = going_token w text at _ (token (91 ∷ [])) _ (At at) r₁ (going_start w text at h) s₁ in
-    let g₂ = going_value w text at _ (variables most x) (IsCount most count) _ r₁ r₂ g₁ s₂ in
-    let g₃ = going_token w text at _ (token (93 ∷ [])) _ r₂ r₃ g₂ s₃ in
-    let g = going_token w text at _ (token (58 ∷ [])) _ r₃ r g₃ s in
-    going_end w text at _ (λ y. y.1) (IsCount most count) (λ y f. f.1) r g

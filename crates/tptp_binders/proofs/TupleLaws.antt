@@ -2,49 +2,33 @@
 use Prim.Native.Nat.{ℕ, zero, suc, ◌+◌, ◌-◌, ◌≤◌, ◌<◌}
 use native.Mathlib.Numerals.{add-one}
 use native.Mathlib.Omega.{arith}
-use mathlib.Core.Path.{◌≡◌, refl, sym, ap, subst, ◌∙◌}
+use mathlib.Core.Path.{◌≡◌, refl, sym, ap, ◌∙◌}
 use mathlib.Core.Logic.{⊎_elim}
+use mathlib.Core.Bool.{true, false}
 use mathlib.Core.List.{List, [], ◌∷◌, ◌++◌, append-nil}
 use lib.ListN.{length, drop, set, length-append}
 use lib.Seq.{sets}
 use lib.IntN.{ℤ}
 use lib.Dec.{eqb}
-use borrow.Author.Tests.{eq-eqb, ne_eqb, eqb-true, eqb-false}
+use borrow.Author.Tests.{eq-eqb, ne_eqb, eqb-true}
 use Rattle.model.specs.Words.{Words}
 use Rattle.model.specs.Bytes.{Text, bytes}
 use Rattle.model.specs.Answer.{Outcome, passed, refused}
-use Rattle.model.specs.Tptp.{variable_token, excludes, good_tuple}
-use Rattle.model.specs.TptpReading.{Got, Reader, give, onwards, token, opening, integer, unequal, read_unequals, read_tuple, ◌>>=◌}
+use Rattle.model.specs.Tptp.{excludes, good_tuple}
+use Rattle.model.specs.TptpReading.{Got, Reader, give, onwards, token, opening, unequal, read_unequals, read_tuple, ◌>>=◌}
 use Rattle.model.specs.declared.Refusal.{Refusal}
 use Rattle.laws.specs.Words.Tests.{decide}
 use Rattle.laws.specs.Tptp.Sound.Lists.{tuple-reads}
 use Rattle.laws.specs.Tptp.Sound.Policies.{item_sound}
-use Rattle.tptp_tokens.specs.Steps.{from, got, Steps, Valued, Within, Behind}
+use Rattle.tptp_tokens.specs.Steps.{Step, from, got, Reads, Steps, Value, Valued}
 use Rattle.tptp_tokens.specs.Laying.{Stored}
 use Rattle.tptp_tokens.proofs.LayingLaws.{sets_last}
-use Rattle.tptp_binders.specs.Tuples.{StoredAll, Opened, Closed, further_unequals}
-use Rattle.tptp_tokens.specs.declared.tokens.Step.{Step}
-use Rattle.tptp_tokens.specs.declared.tokens.Step.TheVariants.{At, Refused}
+use Rattle.tptp_binders.specs.Tuples.{StoredAll, tuple_opening, tuple_closing, further_unequals}
+use Rattle.std.specs.Prelude.{Ok, Err}
 use Rattle.tptp_tokens.proofs.TokenLaws.{onward, halt}
 use Rattle.tptp_tokens.proofs.Strict.{excludes_strict}
-use Rattle.tptp_tokens.proofs.BehindLaws.{falls, valued_from}
+use Rattle.tptp_tokens.proofs.BehindLaws.{steps_from}
 use Rattle.tptp_tokens.proofs.UpTo.{attach, attach-none, attach-attach}
-use Rattle.tptp_tokens.proofs.Going.{going_start, going_token, going_value, going_end, going_finish}
-
--- a variable and its number
-pub unequal_read :
-    (text : Text) (x w : ℕ) (out out' : Words) (r₀ r₁ r₂ r : Step) → Within text r₀ →
-    Behind (Steps (token (variable_token x)) text) r₀ r₁ →
-    Behind (Steps (token (bytes "!=")) text) r₁ r₂ →
-    Behind (Valued integer (Stored w out out') text) r₂ r →
-    Behind (Valued (unequal x) (Stored w out out') text) r₀ r
-unfolding unequal bytes
-unequal_read text x w out out' (At at) r₁ r₂ r h s₁ s₂ s =
-    let u = unequal x in
-    let g₁ = going_token u text at _ (token (variable_token x)) _ (At at) r₁ (going_start u text at h) s₁ in
-    let g₂ = going_token u text at _ (token (bytes "!=")) _ r₁ r₂ g₁ s₂ in
-    going_finish u integer (Stored w out out') text at _ r₂ r g₂ s
-unequal_read text x w out out' (Refused q p) r₁ r₂ r h s₁ s₂ s = falls _ s (falls _ s₂ s₁)
 
 module _ (text : Text) where
   -- the first of several, and the others behind it
@@ -71,7 +55,7 @@ module _ (text : Text) where
   first_read zero x at k m e = onward (unequal x) _ text at k m e
   first_read (suc n) x at k m e = onward (unequal x) _ text at k m e ∙ give-behind (token (bytes "|")) (read_unequals n (suc x)) k m
 
-  first-refused : (n x at : ℕ) (q : Refusal) (p : ℕ) → from (unequal x) text at ≡ refused q p → from (read_unequals n x) text at ≡ refused q p
+  pub first-refused : (n x at : ℕ) (q : Refusal) (p : ℕ) → from (unequal x) text at ≡ refused q p → from (read_unequals n x) text at ≡ refused q p
   unfolding read_unequals
   first-refused zero x at q p e = halt (unequal x) _ text at q p e
   first-refused (suc n) x at q p e = halt (unequal x) _ text at q p e
@@ -85,13 +69,9 @@ pub record Furthering (n x w : ℕ) (text : Text) (at : ℕ) (old out : Words) (
   pub low : at ≤ next
   pub high : next ≤ length text
 
-abbrev pub Furthers : (n x w : ℕ) (text : Text) (old out : Words) (i at : ℕ) (step : Step) → Type 0
-Furthers n x w text old out i at (At next) = Furthering n x w text at old out next i
-Furthers n x w text old out i at (Refused q p) = from (further_unequals n x) text at ≡ refused q p
-
-module _ (n x w : ℕ) (text : Text) (old : Words) where
-  pub furthers_none : (before : Step) → Within text before → Behind (Furthers n x w text old old 0) before before
-  furthers_none (At at) h = record {
+module _ (n x w : ℕ) (text : Text) (at : ℕ) (old : Words) where
+  pub furthering_none : at ≤ length text → Furthering n x w text at old old at 0
+  furthering_none h = record {
     ks = [];
     number = refl;
     goes =
@@ -102,30 +82,43 @@ module _ (n x w : ℕ) (text : Text) (old : Words) where
     low = omega arith;
     high = h;
   }
-  furthers_none (Refused q p) h = refl
 
-  -- one more
-  module _ (out out' : Words) (i : ℕ) (few : i < n) where
-    further-at :
-        (at : ℕ) (s bar r : Step) →
-        Furthers n x w text old out i at s →
-        Behind (Steps (token (124 ∷ [])) text) s bar →
-        Behind (Valued (unequal (x + i)) (Stored (w + i) out out') text) bar r →
-        Furthers n x w text old out' (i + 1) at r
-    unfolding further_unequals bytes attach
-    further-at at (At a) (At b) (At c) f s u =
-        let m = n - (i + 1) in
-        let left : n - i ≡ suc m = omega arith in
-        let start : from (further_unequals (n - i) (x + i)) text a ≡ from (read_unequals m (x + i)) text b =
-        ap (λ (k : ℕ). from (further_unequals k (x + i)) text a) left ∙ onward (token (124 ∷ [])) _ text a tt b s.reads in
-        record {
+  module _ {out : Words} {next i : ℕ} (f : Furthering n x w text at old out next i) where
+    module _ (few : i < n) where
+      abbrev m : ℕ
+      m = n - (i + 1)
+
+      left : n - i ≡ suc m
+      left = omega arith
+
+      -- no bar
+      pub furthering_stop : (q : Refusal) (p : ℕ) → from (token (124 ∷ [])) text next ≡ refused q p → from (further_unequals n x) text at ≡ refused q p
+      unfolding further_unequals bytes attach
+      furthering_stop q p e =
+          let none = ap (λ (k : ℕ). from (further_unequals k (x + i)) text next) left ∙ halt (token (124 ∷ [])) (λ _. read_unequals m (x + i)) text next q p e in
+          f.goes ∙ ap (attach f.ks) none
+
+      module _ (bar : ℕ) (s : Reads (token (124 ∷ [])) text next tt bar) where
+        start : from (further_unequals (n - i) (x + i)) text next ≡ from (read_unequals m (x + i)) text bar
+        unfolding further_unequals bytes
+        start =
+            ap (λ (k : ℕ). from (further_unequals k (x + i)) text next) left ∙ onward (token (124 ∷ [])) (λ _. read_unequals m (x + i)) text next tt bar s.reads
+
+        pub furthering_refused : (q : Refusal) (p : ℕ) → from (unequal (x + i)) text bar ≡ refused q p → from (further_unequals n x) text at ≡ refused q p
+        unfolding attach
+        furthering_refused q p e = f.goes ∙ ap (attach f.ks) (start ∙ first-refused text m (x + i) bar q p e)
+
+        -- one more
+        pub furthering_more :
+            (out' : Words) (end : ℕ) → Value (unequal (x + i)) (Stored (w + i) out out') text bar end → Furthering n x w text at old out' end (i + 1)
+        furthering_more out' end u = record {
           ks = f.ks ++ u.what ∷ [];
           number = omega (arith, f.number, length-append f.ks (u.what ∷ []));
           goes =
               f.goes
-              ∙ ap (attach f.ks) (start ∙ first_read text m (x + i) b u.what c u.reads.reads)
-              ∙ attach-attach f.ks (u.what ∷ []) (from (further_unequals m (suc (x + i))) text c)
-              ∙ ap (λ (y : ℕ). attach (f.ks ++ u.what ∷ []) (from (further_unequals m y) text c))
+              ∙ ap (attach f.ks) (start ∙ first_read text m (x + i) bar u.what end u.reads.reads)
+              ∙ attach-attach f.ks (u.what ∷ []) (from (further_unequals m (suc (x + i))) text end)
+              ∙ ap (λ (y : ℕ). attach (f.ks ++ u.what ∷ []) (from (further_unequals m y) text end))
               (let e : suc (x + i) ≡ x + (i + 1) = omega arith in e);
           laid =
               u.holds
@@ -135,131 +128,114 @@ module _ (n x w : ℕ) (text : Text) (old : Words) where
           low = omega (arith, f.low, s.low, u.reads.low);
           high = u.reads.high;
         }
-    further-at at (At a) (At b) (Refused q p) f s u =
-        let m = n - (i + 1) in
-        let left : n - i ≡ suc m = omega arith in
-        let start : from (further_unequals (n - i) (x + i)) text a ≡ from (read_unequals m (x + i)) text b =
-        ap (λ (k : ℕ). from (further_unequals k (x + i)) text a) left ∙ onward (token (124 ∷ [])) _ text a tt b s.reads in
-        f.goes ∙ ap (attach f.ks) (start ∙ first-refused text m (x + i) b q p u)
-    further-at at (At a) (Refused q p) r f s u =
-        let left : n - i ≡ suc (n - (i + 1)) = omega arith in
-        let start : from (further_unequals (n - i) (x + i)) text a ≡ refused q p =
-        ap (λ (k : ℕ). from (further_unequals k (x + i)) text a) left ∙ halt (token (124 ∷ [])) _ text a q p s in
-        subst (Furthers n x w text old out' (i + 1) at) (sym u) (f.goes ∙ ap (attach f.ks) start)
-    further-at at (Refused q p) bar r f s u = subst (Furthers n x w text old out' (i + 1) at) (sym (falls _ u s)) f
 
-    pub furthers_more :
-        (before s bar r : Step) →
-        Behind (Furthers n x w text old out i) before s →
-        Behind (Steps (token (124 ∷ [])) text) s bar →
-        Behind (Valued (unequal (x + i)) (Stored (w + i) out out') text) bar r →
-        Behind (Furthers n x w text old out' (i + 1)) before r
-    furthers_more (At at) s bar r f t u = further-at at s bar r f t u
-    furthers_more (Refused q p) s bar r f t u = falls _ u (falls _ t f)
-
-  -- all of them
-  pub furthers_end :
-      (out : Words) (before s : Step) → Behind (Furthers n x w text old out n) before s →
-      Behind (Valued (further_unequals n x) (StoredAll n w old out) text) before s
-  unfolding further_unequals give attach
-  furthers_end out (At at) (At next) f = record {
-    what = f.ks;
-    reads = record {
-      low = f.low;
-      high = f.high;
-      reads =
-          f.goes
-          ∙ ap (λ (m : ℕ). attach f.ks (from (further_unequals m (x + n)) text next)) (let e : n - n ≡ 0 = omega arith in e)
-          ∙ ap (λ (us : List ℤ). got text us next) (append-nil f.ks);
-    };
-    holds = record { number = f.number; laid = f.laid };
-  }
-  furthers_end out (At at) (Refused q p) f = f
-  furthers_end out (Refused q p) s f = f
-
--- v variables and their numbers
-pub unequals-read :
-    (text : Text) (x v w : ℕ) (out out₁ out' : Words) → 1 ≤ v → (before s r : Step) →
-    Behind (Valued (unequal x) (Stored w out out₁) text) before s →
-    Behind (Valued (further_unequals (v - 1) (x + 1)) (StoredAll (v - 1) (w + 1) out₁ out') text) s r →
-    Behind (Valued (read_unequals (v - 1) x) (StoredAll v w out out') text) before r
-unfolding attach
-unequals-read text x v w out out₁ out' h (At at) (At a) (At b) f g =
-    let next : x + 1 ≡ suc x = add-one x in
-    record {
-      what = f.what ∷ g.what;
+    -- all of them
+    pub furthering_end : i ≡ n → Value (further_unequals n x) (StoredAll n w old out) text at next
+    unfolding further_unequals give attach
+    furthering_end e = record {
+      what = f.ks;
       reads = record {
-        low = omega (arith, f.reads.low, g.reads.low);
-        high = g.reads.high;
+        low = f.low;
+        high = f.high;
         reads =
-            first_read text (v - 1) x at f.what a f.reads.reads
-            ∙ ap (λ (y : ℕ). attach (f.what ∷ []) (from (further_unequals (v - 1) y) text a)) (sym next)
-            ∙ ap (attach (f.what ∷ [])) g.reads.reads
-            ∙ attached f.what g.what b;
+            f.goes
+            ∙ ap (λ (m : ℕ). attach f.ks (from (further_unequals m (x + i)) text next)) (let z : n - i ≡ 0 = omega arith in z)
+            ∙ ap (λ (us : List ℤ). got text us next) (append-nil f.ks);
       };
-      holds = record {
-        number = omega (arith, g.holds.number);
-        laid =
-            g.holds.laid
-            ∙ ap (λ (o : Words). sets o (w + 1) g.what) f.holds
-            ∙ ap (λ (n : ℕ). sets (set out w f.what) n g.what) (add-one w);
-      };
+      holds = record { number = f.number ∙ e; laid = f.laid };
     }
-  where
-    attached : (k : ℤ) (ks : List ℤ) (b : ℕ) → attach (k ∷ []) (got text ks b) ≡ got text (k ∷ ks) b
-    attached k ks b = refl
-unequals-read text x v w out out₁ out' h (At at) (At a) (Refused q p) f g =
-    first_read text (v - 1) x at f.what a f.reads.reads
-    ∙ ap (λ (y : ℕ). attach (f.what ∷ []) (from (further_unequals (v - 1) y) text a)) (sym (add-one x))
-    ∙ ap (attach (f.what ∷ [])) g
-unequals-read text x v w out out₁ out' h (At at) (Refused q p) r f g =
-    subst (Valued (read_unequals (v - 1) x) (StoredAll v w out out') text at) (sym g) (first-refused text (v - 1) x at q p f)
-unequals-read text x v w out out₁ out' h (Refused q p) s r f g = falls _ g f
+
+-- v variables and their numbers: the first, and the others behind it
+module _ (text : Text) (at x v w : ℕ) (out out₁ out' : Words) (h : 1 ≤ v) (next : ℕ) (f : Value (unequal x) (Stored w out out₁) text at next) where
+  first_only : from (read_unequals (v - 1) x) text at ≡ attach (f.what ∷ []) (from (further_unequals (v - 1) (x + 1)) text next)
+  first_only =
+      first_read text (v - 1) x at f.what next f.reads.reads
+      ∙ ap (λ (y : ℕ). attach (f.what ∷ []) (from (further_unequals (v - 1) y) text next)) (sym (add-one x))
+
+  pub unequals-read : (r : Step) → Valued (further_unequals (v - 1) (x + 1)) (StoredAll (v - 1) (w + 1) out₁ out') text next r → Valued (read_unequals (v - 1) x) (StoredAll v w out out') text at r
+  unfolding attach
+  unequals-read (Ok end) g = record {
+    what = f.what ∷ g.what;
+    reads = record {
+      low = omega (arith, f.reads.low, g.reads.low);
+      high = g.reads.high;
+      reads = first_only ∙ ap (attach (f.what ∷ [])) g.reads.reads;
+    };
+    holds = record {
+      number = omega (arith, g.holds.number);
+      laid =
+          g.holds.laid
+          ∙ ap (λ (o : Words). sets o (w + 1) g.what) f.holds
+          ∙ ap (λ (n : ℕ). sets (set out w f.what) n g.what) (add-one w);
+    };
+  }
+  unequals-read (Err e) g = first_only ∙ ap (attach (f.what ∷ [])) g
 
 -- an excluded tuple: of one variable, or in parentheses
-module _ (text : Text) (at room v x w : ℕ) (out out' : Words) where
-  tuple-one :
-      v ≡ 1 → (r : Step) →
-      Valued (read_unequals (v - 1) x) (StoredAll v w out out') text at r →
-      Valued (read_tuple room v x) (StoredAll v w out out') text at r
-  unfolding read_tuple
-  tuple-one e r =
-      valued_from (read_tuple room v x) (read_unequals (v - 1) x) (StoredAll v w out out') text at at
-      (rw (eq-eqb v 1 e) (ap (λ (n : ℕ). from (read_unequals n x) text at) (let z : 0 ≡ v - 1 = omega arith in z)))
-      (omega arith)
-      r
+module _ (text : Text) (at room v : ℕ) where
+  pub opening_one : v ≡ 1 → at ≤ length text → Steps (tuple_opening room v) text at (Ok at)
+  unfolding tuple_opening give
+  opening_one e h = record { low = omega arith; high = h; reads = rw (eq-eqb v 1 e) }
 
-  tuple-many :
-      (v ≡ 1 → ⊥) → at ≤ length text → (r₁ r₂ r : Step) →
-      Steps (opening room) text at r₁ →
-      Behind (Valued (read_unequals (v - 1) x) (StoredAll v w out out') text) r₁ r₂ →
-      Behind (Steps (token (41 ∷ [])) text) r₂ r →
-      Valued (read_tuple room v x) (StoredAll v w out out') text at r
-  unfolding read_tuple bytes
-  tuple-many e h r₁ r₂ r s₁ s₂ s =
-      let u = opening room >>= λ _. read_unequals (v - 1) x >>= λ ks. token (41 ∷ []) >>= λ _. give ks in
-      let g₁ = going_token u text at _ (opening room) _ (At at) r₁ (going_start u text at h) s₁ in
-      let g₂ = going_value u text at _ (read_unequals (v - 1) x) (StoredAll v w out out') _ r₁ r₂ g₁ s₂ in
-      let g₃ = going_token u text at _ (token (41 ∷ [])) _ r₂ r g₂ s in
-      valued_from (read_tuple room v x) u (StoredAll v w out out') text at at (rw (ne_eqb v 1 e)) (omega arith) r
-      (going_end u text at _ (λ y. y.1) (StoredAll v w out out') (λ y f. f.1) r g₃)
+  pub opening_more : (v ≡ 1 → ⊥) → (r : Step) → Steps (opening room) text at r → Steps (tuple_opening room v) text at r
+  unfolding tuple_opening
+  opening_more n = steps_from (tuple_opening room v) (opening room) text at at (rw (ne_eqb v 1 n)) (omega arith)
 
-  pub tuple-read :
-      at ≤ length text → (r₁ r₂ r : Step) →
-      Opened room v text at r₁ →
-      Behind (Valued (read_unequals (v - 1) x) (StoredAll v w out out') text) r₁ r₂ →
-      Closed v text r₂ r →
-      Valued (read_tuple room v x) (StoredAll v w out out') text at r
-  unfolding bytes
-  tuple-read h r₁ r₂ r o s c =
-      ⊎_elim
-      (λ e.
-      let one = eqb-true v 1 e in
-      subst (Valued (read_tuple room v x) (StoredAll v w out out') text at) (sym (c.one one))
-      (tuple-one one r₂
-      (subst (λ (y : Step). Behind (Valued (read_unequals (v - 1) x) (StoredAll v w out out') text) y r₂) (o.one one) s)))
-      (λ e. let ne = eqb-false v 1 e in tuple-many ne h r₁ r₂ r (o.more ne) s (c.more ne))
-      (decide (eqb v 1))
+  pub closing_one : v ≡ 1 → at ≤ length text → Steps (tuple_closing v) text at (Ok at)
+  unfolding tuple_closing give
+  closing_one e h = record { low = omega arith; high = h; reads = rw (eq-eqb v 1 e) }
+
+  pub closing_more : (v ≡ 1 → ⊥) → (r : Step) → Steps (token (41 ∷ [])) text at r → Steps (tuple_closing v) text at r
+  unfolding tuple_closing bytes
+  closing_more n = steps_from (tuple_closing v) (token (41 ∷ [])) text at at (rw (ne_eqb v 1 n)) (omega arith)
+
+unfoldable pub tuple_parts : (room v x : ℕ) → Reader (List ℤ)
+tuple_parts room v x = do
+  _ ← tuple_opening room v
+  ks ← read_unequals (v - 1) x
+  _ ← tuple_closing v
+  give ks
+
+pub tuple-as : (room v x : ℕ) (t : Text) (p : ℕ) → read_tuple room v x t p ≡ tuple_parts room v x t p
+unfolding read_tuple tuple_parts tuple_opening tuple_closing bytes give ◌>>=◌ onwards
+tuple-as room v x t p = ⊎_elim one many (decide (eqb v 1))
+  where
+    self : (o : Outcome (Got (List ℤ))) → o ≡ onwards o (λ ks t p. passed (record { what = ks; rest = t; at = p }))
+    self (refused q k) = refl
+    self (passed g) = refl
+
+    one : eqb v 1 ≡ true → read_tuple room v x t p ≡ tuple_parts room v x t p
+    one e =
+        let zero_left : 0 ≡ v - 1 = omega (arith, eqb-true v 1 e) in
+        rw e (ap (λ (n : ℕ). read_unequals n x t p) zero_left ∙ self (read_unequals (v - 1) x t p))
+
+    many : eqb v 1 ≡ false → read_tuple room v x t p ≡ tuple_parts room v x t p
+    many e = rw e
+
+module _ (text : Text) (at room v x : ℕ) where
+  pub tuple-unopened : (q : Refusal) (p : ℕ) → from (tuple_opening room v) text at ≡ refused q p → from (read_tuple room v x) text at ≡ refused q p
+  unfolding tuple_parts ◌>>=◌ onwards
+  tuple-unopened q p e = tuple-as room v x (drop at text) at ∙ rw e
+
+  module _ (start : ℕ) (o : Reads (tuple_opening room v) text at tt start) where
+    pub tuple-unread : (q : Refusal) (p : ℕ) → from (read_unequals (v - 1) x) text start ≡ refused q p → from (read_tuple room v x) text at ≡ refused q p
+    unfolding tuple_parts ◌>>=◌ onwards
+    tuple-unread q p e = tuple-as room v x (drop at text) at ∙ rw (o.reads, e)
+
+    pub tuple-read :
+        {facts : List ℤ → Type 0} (inside : ℕ) → Value (read_unequals (v - 1) x) facts text start inside → (r : Step) → Steps (tuple_closing v) text inside r →
+        Valued (read_tuple room v x) facts text at r
+    unfolding tuple_parts give ◌>>=◌ onwards
+    tuple-read inside u (Ok next) c = record {
+      what = u.what;
+      reads = record {
+        low = omega (arith, o.low, u.reads.low, c.low);
+        high = c.high;
+        reads = tuple-as room v x (drop at text) at ∙ rw (o.reads, u.reads.reads, c.reads);
+      };
+      holds = u.holds;
+    }
+    tuple-read inside u (Err e) c = tuple-as room v x (drop at text) at ∙ rw (o.reads, u.reads.reads, c)
 
 -- a tuple takes a byte at least
 pub tuple_strict :

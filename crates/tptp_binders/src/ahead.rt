@@ -12,9 +12,8 @@ pub fn stop_index(text: &[u8], at: usize) -> usize
     requires { at ≤ length text.now }
     ensures { StopsAt text.now at result }
 {
-    let mut i = at;
     let mut depth: usize = 0;
-    while i < text.len() {
+    for i in at..text.len() {
         let b = text[i];
         if b == 40 {
             depth += 1;
@@ -26,19 +25,15 @@ pub fn stop_index(text: &[u8], at: usize) -> usize
         } else if (depth == 0) & ((b == 38) | (b == 124)) {
             return i;
         }
-        i += 1;
     }
-    i
+    text.len()
 }
 
 // The byte at an index is this one.
 pub fn stands(text: &[u8], at: usize, c: u8) -> bool
     ensures { result ≡ begins_with c (drop at text.now) }
 {
-    if text.len() <= at {
-        return false;
-    }
-    text[at] == c
+    text.get(at) == Some(&c)
 }
 
 // Whether an operand stands in an all-of, by the connective behind it. It is told of one that begins as a quantifier: only what this costs
@@ -62,11 +57,7 @@ pub fn begins(text: &[u8], at: usize, c: u8) -> bool
     requires { at ≤ length text.now }
     ensures { result ≡ begins c (drop at text.now) }
 {
-    let i = skip(text, at);
-    if text.len() <= i {
-        return false;
-    }
-    text[i] == c
+    stands(text, skip(text, at), c)
 }
 
 // Behind blanks a text begins with an excluded tuple of v variables.
@@ -78,13 +69,7 @@ fn begins_tuple(text: &[u8], at: usize, v: usize) -> bool
         return begins(text, at, 88);
     }
     let i = skip(text, at);
-    if text.len() <= i {
-        return false;
-    }
-    if text[i] != 40 {
-        return false;
-    }
-    begins(text, i + 1, 88)
+    stands(text, i, 40) && begins(text, i + 1, 88)
 }
 
 // Behind blanks a text begins with the connective before an excluded tuple of v variables.
@@ -93,11 +78,5 @@ pub fn begins_excluding(text: &[u8], at: usize, v: usize) -> bool
     ensures { result ≡ begins_excluding v (drop at text.now) }
 {
     let i = skip(text, at);
-    if text.len() <= i {
-        return false;
-    }
-    if text[i] != 38 {
-        return false;
-    }
-    begins_tuple(text, i + 1, v)
+    stands(text, i, 38) && begins_tuple(text, i + 1, v)
 }

@@ -3,7 +3,7 @@ use Prim.Native.Nat.{ℕ, suc, ◌+◌, ◌*◌, ◌-◌, ◌≤◌, ◌<◌}
 use native.Mathlib.Numerals.{add-one}
 use native.Mathlib.Omega.{arith}
 use mathlib.Core.Path.{◌≡◌, refl, sym, ap, ap₂, ◌∙◌, subst}
-use mathlib.Core.Bool.{Bool, false}
+use mathlib.Core.Bool.{false}
 use mathlib.Core.List.{List, [], ◌∷◌, ◌++◌, append_assoc, append-nil}
 use lib.ListN.{length, take, set, get_or, length-set, length-append}
 use lib.Seq.{take-suc, take-suc-set, take-set-le, take-set-lt, take-append-le, take-take, set_at, length-take-le}
@@ -18,12 +18,12 @@ use Rattle.model.specs.TptpReading.{give, look, natural, integer, term, terms, t
 use Rattle.model.specs.declared.Refusal.{Refusal}
 use Rattle.model.specs.declared.Refusal.TheVariants.{Tptp}
 use Rattle.text.specs.Reading.{signed}
-use Rattle.tptp_tokens.specs.Steps.{from, got, Skips, Value, Valued}
+use Rattle.tptp_tokens.specs.Steps.{Step, from, got, Skips, Value, Valued}
 use Rattle.tptp_tokens.specs.Numbers.{Naturals, Integers}
 use Rattle.tptp_leaves.specs.Terms.{TermStands, TermsStand, read_variable, read_constant}
-use Rattle.tptp_tokens.specs.declared.tokens.Step.{Step}
-use Rattle.tptp_tokens.specs.declared.numbers.Digits.TheVariants as D
-use Rattle.tptp_tokens.specs.declared.numbers.Signed.TheVariants as I
+use Rattle.std.specs.Prelude.{Ok}
+use Rattle.tptp_tokens.specs.declared.numbers.Digits.{Digits}
+use Rattle.tptp_tokens.specs.declared.numbers.Signed.{Signed}
 use Rattle.tptp_tokens.proofs.TokenLaws.{onward, halt, look-here, look-over, token-here}
 use Rattle.tptp_tokens.proofs.BehindLaws.{valued_from}
 use Rattle.tptp_tokens.proofs.UpTo.{skips_self, attach, attach-attach, attach-give, upto_none, upto_over, upto_stop, upto_more}
@@ -41,22 +41,24 @@ two-words own k x y h =
 
 module _ (text : Text) (at k : ℕ) (own : Words) where
   -- a variable, behind its letter; a constant
-  pub variable-at : (next x : ℕ) → k + 2 ≤ length own → Naturals text at (D.Read next x) → Value read_variable (TermStands k own (set (set own k (pos 1)) (k + 1) (pos x))) text at next
+  pub variable-at :
+      (d : Digits) → k + 2 ≤ length own → Naturals text at (Ok d) →
+      Value read_variable (TermStands k own (set (set own k (pos 1)) (k + 1) (pos d.number))) text at d.next
   unfolding give encode_term
-  variable-at next x h n = record {
-    what = variable x;
-    reads = record { low = n.0.low; high = n.0.high; reads = onward natural _ text at x next n.0.reads };
-    holds = two-words own k (pos 1) (pos x) h;
+  variable-at d h n = record {
+    what = variable d.number;
+    reads = record { low = n.0.low; high = n.0.high; reads = onward natural _ text at d.number d.next n.0.reads };
+    holds = two-words own k (pos 1) (pos d.number) h;
   }
 
   pub constant-at :
-      (next : ℕ) (negative : Bool) (m : ℕ) → k + 2 ≤ length own → Integers text at (I.Read next negative m) →
-      Value read_constant (TermStands k own (set (set own k (pos 0)) (k + 1) (signed negative m))) text at next
+      (s : Signed) → k + 2 ≤ length own → Integers text at (Ok s) →
+      Value read_constant (TermStands k own (set (set own k (pos 0)) (k + 1) (signed s.negative s.magnitude))) text at s.next
   unfolding give encode_term
-  constant-at next negative m h n = record {
-    what = constant (signed negative m);
-    reads = record { low = n.0.low; high = n.0.high; reads = onward integer _ text at (signed negative m) next n.0.reads };
-    holds = two-words own k (pos 0) (signed negative m) h;
+  constant-at s h n = record {
+    what = constant (signed s.negative s.magnitude);
+    reads = record { low = n.0.low; high = n.0.high; reads = onward integer _ text at (signed s.negative s.magnitude) s.next n.0.reads };
+    holds = two-words own k (pos 0) (signed s.negative s.magnitude) h;
   }
 
   module _ (i : ℕ) (s : Skips text at i) where

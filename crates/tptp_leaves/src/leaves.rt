@@ -4,47 +4,32 @@ ghost use Rattle.std.specs.Prelude.{◌≡◌, cond, false, ◌-◌, ◌≤◌, 
 ghost use Rattle.model.specs.Bytes.{blank};
 ghost use Rattle.model.specs.TptpReading as R;
 ghost use Rattle.tptp_leaves.specs.Leaves as L;
-ghost use Rattle.tptp_tokens.specs.Steps.{Valued, Within, Behind};
+ghost use Rattle.tptp_tokens.specs.Steps.{Valued};
 
-use crate::terms::{then_term, then_terms};
-use model::Refusal;
+use crate::terms::{term, terms};
+use model::{Refusal, Refused};
 use text::bytes;
 use text::word::put;
-use tptp_tokens::behind::{then_expect, then_opening, then_token};
-use tptp_tokens::laying::then_integer;
-use tptp_tokens::numbers::{Digits, natural};
+use tptp_tokens::laying::lay_integer;
+use tptp_tokens::numbers::natural;
 use tptp_tokens::tokens::{Step, expect, literal, opening, skip, token};
 
 // One of two numbers.
+// A function of its own: an `if` at each call would leave its two ways to be joined in the proof of the straight line.
 pub fn either(b: bool, x: usize, y: usize) -> usize
     ensures { result ≡ cond b x y }
 {
     if b { x } else { y }
 }
 
-// One less, but not below 0.
-pub fn less(n: usize) -> usize
-    ensures { result ≡ n - 1 }
-{
-    if n == 0 { 0 } else { n - 1 }
-}
-
 // The number of a predicate, which is the second word.
-fn predicate(text: &[u8], before: Step, own: &mut [i32]) -> Step
-    requires { Within text.now before × (15 ≤ length own.old) }
-    ensures { Behind (Valued R.natural (L.SecondNatural own.old own.new) text.now) before result × Within text.now result }
+fn predicate(text: &[u8], at: usize, own: &mut [i32]) -> Step
+    requires { (at ≤ length text.now) × (15 ≤ length own.old) }
+    ensures { Valued R.natural (L.SecondNatural own.old own.new) text.now at result }
 {
-    let Step::At(at) = before else {
-        return before;
-    };
-    let found = natural(text, at);
-    match found {
-        Digits::Refused(q, p) => Step::Refused(q, p),
-        Digits::Read(next, p) => {
-            put(own, 1, p, false);
-            Step::At(next)
-        }
-    }
+    let found = natural(text, at)?;
+    put(own, 1, found.number, false);
+    Ok(found.next)
 }
 
 // An atom that holds, or fails.
@@ -53,29 +38,29 @@ fn atom(text: &[u8], at: usize, room: usize, holds: bool, own: &mut [i32]) -> St
     ensures { Valued (R.read_atom room holds) (L.LeafStands own.new) text.now at result }
 {
     put(own, 0, either(holds, 2, 3), false);
-    let name = expect(text, at, 112);
-    let number = predicate(text, name, own);
-    let open = then_opening(text, number, room);
-    let listed = then_terms(text, open, own);
-    then_expect(text, listed, 41)
+    let name = expect(text, at, 112)?;
+    let number = predicate(text, name, own)?;
+    let open = opening(text, number, room)?;
+    let listed = terms(text, open, own)?;
+    expect(text, listed, 41)
 }
 
 // A comparison, or its negation, behind its name.
-fn compare(text: &[u8], before: Step, room: usize, holds: bool, own: &mut [i32]) -> Step
-    requires { Within text.now before × (15 ≤ length own.old) }
-    ensures { Behind (Valued (R.read_compare room holds) (L.LeafStands own.new) text.now) before result × Within text.now result }
+fn compare(text: &[u8], at: usize, room: usize, holds: bool, own: &mut [i32]) -> Step
+    requires { (at ≤ length text.now) × (15 ≤ length own.old) }
+    ensures { Valued (R.read_compare room holds) (L.LeafStands own.new) text.now at result }
 {
     put(own, 0, either(holds, 4, 5), false);
-    let open = then_opening(text, before, room);
-    let name = then_token(text, open, b"$sum");
-    let inner = then_opening(text, name, less(room));
-    let first = then_term(text, inner, own, 2);
-    let comma = then_expect(text, first, bytes::COMMA);
-    let number = then_integer(text, comma, own, 1);
-    let close = then_expect(text, number, 41);
-    let second = then_expect(text, close, bytes::COMMA);
-    let last = then_term(text, second, own, 4);
-    then_expect(text, last, 41)
+    let open = opening(text, at, room)?;
+    let name = token(text, open, b"$sum")?;
+    let inner = opening(text, name, room.saturating_sub(1))?;
+    let first = term(text, inner, own, 2)?;
+    let comma = expect(text, first, bytes::COMMA)?;
+    let number = lay_integer(text, comma, own, 1)?;
+    let close = expect(text, number, 41)?;
+    let second = expect(text, close, bytes::COMMA)?;
+    let last = term(text, second, own, 4)?;
+    expect(text, last, 41)
 }
 
 // Plain true or false, whose bytes stand here.
@@ -93,7 +78,7 @@ fn dollar(text: &[u8], at: usize, room: usize, own: &mut [i32]) -> Step
     ensures { Valued (L.behind_dollar room) (L.LeafStands own.new) text.now at result }
 {
     if text.len() <= at {
-        return Step::Refused(Refusal::Tptp, at);
+        return Err(Refused(Refusal::Tptp, at));
     }
     let b = text[at];
     if b == 116 {
@@ -102,7 +87,7 @@ fn dollar(text: &[u8], at: usize, room: usize, own: &mut [i32]) -> Step
     if b == 102 {
         return plain(text, at, false, b"false", own);
     }
-    let name = literal(text, at, b"lesseq");
+    let name = literal(text, at, b"lesseq")?;
     compare(text, name, room, true, own)
 }
 
@@ -113,12 +98,12 @@ fn negated(text: &[u8], at: usize, room: usize, own: &mut [i32]) -> Step
 {
     let i = skip(text, at);
     if text.len() <= i {
-        return Step::Refused(Refusal::Tptp, i);
+        return Err(Refused(Refusal::Tptp, i));
     }
     if text[i] == 112 {
         return atom(text, i, room, false, own);
     }
-    let name = token(text, i, b"$lesseq");
+    let name = token(text, i, b"$lesseq")?;
     compare(text, name, room, false, own)
 }
 
@@ -137,5 +122,5 @@ pub fn leaf(text: &[u8], at: usize, room: usize, own: &mut [i32]) -> Step
     if b == 126 {
         return negated(text, at + 1, room, own);
     }
-    Step::Refused(Refusal::Tptp, at)
+    Err(Refused(Refusal::Tptp, at))
 }

@@ -2,13 +2,13 @@
 ghost use Rattle.std.specs.Prelude.{◌≡◌, ◌+◌, ◌≤◌, pos, length, set};
 ghost use Rattle.text.specs.Reading.{signed, Sized};
 ghost use Rattle.model.specs.TptpReading as R;
-ghost use Rattle.tptp_tokens.specs.Steps.{Valued, Within, Behind};
+ghost use Rattle.tptp_tokens.specs.Steps.{Valued};
 ghost use Rattle.tptp_leaves.specs.Terms as T;
 
-use model::Refusal;
+use model::{Refusal, Refused};
 use text::bytes;
 use text::word::put;
-use tptp_tokens::numbers::{Digits, Signed, integer, natural};
+use tptp_tokens::numbers::{integer, natural};
 use tptp_tokens::tokens::{Step, skip};
 
 // The words of a term go to an index: its kind, and its number.
@@ -25,14 +25,9 @@ fn variable(text: &[u8], at: usize, own: &mut [i32], k: usize) -> Step
     requires { (at ≤ length text.now) × (k + 2 ≤ length own.old) }
     ensures { Valued T.read_variable (T.TermStands k own.old own.new) text.now at result }
 {
-    let found = natural(text, at);
-    match found {
-        Digits::Refused(q, p) => Step::Refused(q, p),
-        Digits::Read(next, x) => {
-            put_term(own, k, 1, x, false);
-            Step::At(next)
-        }
-    }
+    let found = natural(text, at)?;
+    put_term(own, k, 1, found.number, false);
+    Ok(found.next)
 }
 
 // A constant.
@@ -40,14 +35,9 @@ fn constant(text: &[u8], at: usize, own: &mut [i32], k: usize) -> Step
     requires { (at ≤ length text.now) × (k + 2 ≤ length own.old) }
     ensures { Valued T.read_constant (T.TermStands k own.old own.new) text.now at result }
 {
-    let found = integer(text, at);
-    match found {
-        Signed::Refused(q, p) => Step::Refused(q, p),
-        Signed::Read(next, negative, n) => {
-            put_term(own, k, 0, n, negative);
-            Step::At(next)
-        }
-    }
+    let found = integer(text, at)?;
+    put_term(own, k, 0, found.magnitude, found.negative);
+    Ok(found.next)
 }
 
 // A term, behind blanks. Its two words go to an index.
@@ -57,7 +47,7 @@ pub fn term(text: &[u8], at: usize, own: &mut [i32], k: usize) -> Step
 {
     let i = skip(text, at);
     if text.len() <= i {
-        return Step::Refused(Refusal::Tptp, i);
+        return Err(Refused(Refusal::Tptp, i));
     }
     if text[i] == 88 {
         return variable(text, i + 1, own, k);
@@ -70,50 +60,19 @@ pub fn terms(text: &[u8], at: usize, own: &mut [i32]) -> Step
     requires { (at ≤ length text.now) × (15 ≤ length own.old) }
     ensures { Valued R.terms (T.TermsStand own.old own.new) text.now at result }
 {
-    let first = term(text, at, own, 3);
-    let Step::At(start) = first else {
-        return first;
-    };
+    let first = term(text, at, own, 3)?;
     own[2] = 1;
-    let mut next = start;
-    let mut n = 1;
-    while n < 6 {
+    let mut next = first;
+    for n in 1..6 {
         let i = skip(text, next);
         if text.len() <= i {
-            return Step::Refused(Refusal::Tptp, i);
+            return Err(Refused(Refusal::Tptp, i));
         }
         if text[i] != bytes::COMMA {
-            return Step::At(i);
+            return Ok(i);
         }
-        let more = term(text, i + 1, own, 3 + 2 * n);
-        let Step::At(end) = more else {
-            return more;
-        };
-        n += 1;
-        put(own, 2, n, false);
-        next = end;
+        next = term(text, i + 1, own, 3 + 2 * n)?;
+        put(own, 2, n + 1, false);
     }
-    Step::At(next)
-}
-
-// A term, whose words go to an index.
-pub fn then_term(text: &[u8], before: Step, own: &mut [i32], k: usize) -> Step
-    requires { Within text.now before × (k + 2 ≤ length own.old) }
-    ensures { Behind (Valued R.term (T.TermStands k own.old own.new) text.now) before result × Within text.now result }
-{
-    let Step::At(at) = before else {
-        return before;
-    };
-    term(text, at, own, k)
-}
-
-// The terms of an atom.
-pub fn then_terms(text: &[u8], before: Step, own: &mut [i32]) -> Step
-    requires { Within text.now before × (15 ≤ length own.old) }
-    ensures { Behind (Valued R.terms (T.TermsStand own.old own.new) text.now) before result × Within text.now result }
-{
-    let Step::At(at) = before else {
-        return before;
-    };
-    terms(text, at, own)
+    Ok(next)
 }

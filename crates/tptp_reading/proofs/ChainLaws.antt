@@ -27,19 +27,14 @@ use Rattle.laws.specs.Reading.Nodes.{under-kind}
 use Rattle.laws.specs.Words.Tests.{decide, clash, or_left, or_right, or_false_left, or_false_right}
 use Rattle.laws.specs.Tptp.Spelling.TokensAhead.{stand_ahead, ahead_first}
 use Rattle.laws.specs.Tptp.Sound.Policies.{operand_sound}
-use Rattle.tptp_tokens.specs.Steps.{from, got, Skips, Steps, Value, Valued, Within, Behind}
+use Rattle.tptp_tokens.specs.Steps.{Step, from, got, Skips, Steps, Value, Valued}
 use Rattle.tptp_tokens.specs.Laying.{Laid}
-use Rattle.tptp_state.specs.Told.{Told, Entered}
+use Rattle.tptp_state.specs.Told.{Passed, Told, Entered}
 use Rattle.tptp_binders.specs.Ahead.{StopsAt, begins}
-use Rattle.tptp_reading.specs.Formula.{Many, Begins, NodeRead, OperandRead, Further, ChildrenRead, chained, closed}
-use Rattle.tptp_tokens.specs.declared.tokens.Step.{Step}
-use Rattle.tptp_tokens.specs.declared.tokens.Step.TheVariants.{At, Refused}
+use Rattle.tptp_reading.specs.Formula.{Begins, Further, chained, closed}
 use Rattle.tptp_state.specs.declared.state.State.{State}
-use Rattle.tptp_reading.specs.declared.policy.Came.{Came}
-use Rattle.tables.specs.declared.Checked.TheVariants.{Passed}
 use Rattle.tptp_tokens.proofs.TokenLaws.{onward, halt, given_then, here, over, look-here, look-over, token-from, token-over}
-use Rattle.tptp_tokens.proofs.BehindLaws.{valued_from}
-use Rattle.tptp_tokens.proofs.Going.{going_start, going_token, going_value, going_end}
+use Rattle.tptp_tokens.proofs.BehindLaws.{valued_from, closed_from}
 use Rattle.tptp_tokens.proofs.UpTo.{skips_self}
 use Rattle.tptp_binders.proofs.AheadLaws.{blanks-rest}
 use Rattle.tptp_reading.proofs.StopLaws.{skips, stops-there}
@@ -334,195 +329,158 @@ chain-begins table text at room above scope before handed begins levels e = reco
         let (u, first, second) = then_passed (ask (ltb above 64) Level before.words) (λ _. ask true Variable before.words) k in
         omega (arith, ltb-true above 64 (ask-passed (ltb above 64) Level before.words first))
 
--- the first operand of an all-of or any-of, which stands below it, was read or refused
+-- the first operand of an all-of or any-of, which stands below it
 module _
     (room : ℕ) (table : Words) (role low : Role) (above scope : ℕ) (before handed : State) (text : Text) (at stop : ℕ) (every any : Bool)
-    (old out : Words) (first : Came)
+    (old out : Words)
     (stops : StopsAt text at stop) (is : Connects text stop every any) (below : low ≡ under role every)
-    (read : OperandRead room table low (above + 1) scope handed old out text at first)
   where
     abbrev each : Reader Tree
     each = (readers room).operand (is_formula role) scope
 
+    abbrev lower-each : Reader Tree
+    lower-each = (readers room).operand (is_formula low) scope
+
+    abbrev c : ℕ
+    c = cond every ampersand bar
+
     kind : is_formula low ≡ is_formula role
     kind = ap is_formula below ∙ under-kind role every
 
-    abbrev known : Tree → Type 0
-    known t = Told table t (under role every) (above + 1) scope handed first.state old out
+    -- it was refused
+    pub chain-refused : (q : Refusal) (p : ℕ) → from lower-each text at ≡ refused q p → from (chained each) text at ≡ refused q p
+    chain-refused q p e =
+        chained_refused room (is_formula role) scope text at
+        (subst (λ (formula : Bool). from ((readers room).operand formula scope) text at ≡ refused q p) kind e)
 
-    first_read : Valued each known text at first.end
-    first_read =
-        subst (λ (formula : Bool). Valued ((readers room).operand formula scope) known text at first.end) kind
-        (subst
-        (λ (r : Role).
-        Valued ((readers room).operand (is_formula low) scope) (λ t. Told table t r (above + 1) scope handed first.state old out) text at
-        first.end)
-        below read.0)
+    -- it was read up to an index
+    module _
+        (first : State) (behind i : ℕ)
+        (read : Value lower-each (λ t. Told table t low (above + 1) scope handed first old out) text at behind)
+        (s : Skips text behind i)
+      where
+        abbrev known : Tree → Type 0
+        known t = Told table t (under role every) (above + 1) scope handed first old out
 
-    -- refused
-    pub chain-refused :
-        {q : Refusal} {p : ℕ} → first.end ≡ Refused q p →
-        NodeRead (chained each) table role above scope before old out text at first
-    chain-refused {q} {p} e =
-        subst
-        (λ (x : Step). Valued (chained each) (λ t. Told table t role above scope before first.state old out) text at x × Within text x)
-        (sym e)
-        (chained_refused room (is_formula role) scope text at (subst (Valued each known text at) e first_read), tt)
+        value : Value each known text at behind
+        value =
+            subst (λ (formula : Bool). Value ((readers room).operand formula scope) known text at behind) kind
+            (subst (λ (r : Role). Value lower-each (λ t. Told table t r (above + 1) scope handed first old out) text at behind) below read)
 
-    -- read up to an index
-    module _ (behind i : ℕ) (ends : first.end ≡ At behind) (s : Skips text behind i) where
-      abbrev value : Value each known text at behind
-      value = subst (Valued each known text at) ends first_read
+        -- no connective stands behind it
+        pub chain-stop : (not (eqb i stop) || not (every || any)) ≡ true → from (chained each) text at ≡ refused Tptp i
+        chain-stop taken =
+            chained-stop room (is_formula role) scope text at value.what behind i stop every any value.reads.reads s stops is taken
 
-      -- no connective stands behind it
-      pub chain-stop :
-          (not (eqb i stop) || not (every || any)) ≡ true →
-          NodeRead (chained each) table role above scope before old out text at (record { end = Refused Tptp i; state = first.state })
-      chain-stop taken = (
-        chained-stop room (is_formula role) scope text at value.what behind i stop every any value.reads.reads s stops is taken,
-        tt,
-      )
+        -- one does
+        module _ (left : (not (eqb i stop) || not (every || any)) ≡ false) where
+          there : (i < length text) × (get_or text i 0 ≡ c)
+          there = chained-here room (is_formula role) scope text at value.what behind i stop every any value.reads.reads s stops is left
 
-      -- one does
-      module _ (left : (not (eqb i stop) || not (every || any)) ≡ false) where
-        there : (i < length text) × (get_or text i 0 ≡ cond every ampersand bar)
-        there = chained-here room (is_formula role) scope text at value.what behind i stop every any value.reads.reads s stops is left
+          -- the further operands begin there
+          pub chain-rest :
+              Begins table text at room (above + 1) scope handed →
+              Begins table text i room (above + 1) scope first × (i < length text)
+          chain-rest begins = (
+            record {
+              high = s.high;
+              levels = begins.levels;
+              variables = begins.variables;
+              ready = record {
+                few = begins.ready.few;
+                counted = omega (arith, value.holds.counted);
+                marks = value.holds.marks;
+                level = λ p. begins.ready.level (value.holds.passes p);
+                range = λ p. begins.ready.range (value.holds.passes p);
+              };
+            },
+            there.0,
+          )
 
-        -- the further operands begin there
-        pub chain-rest :
-            Begins table text at room (above + 1) scope handed →
-            Begins table text i room (above + 1) scope first.state × (i < length text)
-        chain-rest begins = (
-          record {
-            high = s.high;
-            levels = begins.levels;
-            variables = begins.variables;
-            ready = record {
-              few = begins.ready.few;
-              counted = omega (arith, value.holds.counted);
-              marks = value.holds.marks;
-              level = λ p. begins.ready.level (value.holds.passes p);
-              range = λ p. begins.ready.range (value.holds.passes p);
-            };
-          },
-          there.0,
-        )
+          goes : from (chained each) text at ≡ from (more c each >>= λ ts. token (bytes ")") >>= λ _. give (join every (cons value.what (trees ts)))) text i
+          goes =
+              chained_on room (is_formula role) scope text at value.what behind i stop every any value.reads.reads s stops is
+              there.0 there.1
 
-        -- they, and the closing parenthesis, were read or refused
-        pub chain-read :
-            (rest : Many) (out₁ out₂ out₃ : Words) (tag : ℕ) (close : Step) →
-            Entered 2 (ltb above 64) true before.set before handed →
-            ChildrenRead room every table low (above + 1) scope before.set first.state out out₁ text i rest →
-            tag ≡ cond every 6 7 →
-            Laid before.words tag out₁ out₂ →
-            Laid (before.words + 1) rest.count out₂ out₃ →
-            Behind (Steps (token (41 ∷ [])) text) rest.came.end close →
-            Within text close →
-            NodeRead (chained each) table role above scope before old out₃ text at (record { end = close; state = rest.came.state })
-        unfolding bytes
-        chain-read rest out₁ out₂ out₃ tag close entered children six first-laid second-laid closes within =
-            let t = value.what in
-            let c = cond every ampersand bar in
-            let further : Role → List Tree → Type 0 = λ r.
-            Further table every r (above + 1) scope before.set first.state rest.came.state out out₁ rest.count in
-            let operands =
-            subst
-            (λ (formula : Bool). Valued (more c ((readers room).operand formula scope)) (further (under role every)) text i rest.came.end)
-            kind
-            (subst
-            (λ (r : Role). Valued (more c ((readers room).operand (is_formula low) scope)) (further r) text i rest.came.end)
-            below children.0) in
-            let whole = more c each >>= λ ts. token (bytes ")") >>= λ _. give (join every (cons t (trees ts))) in
-            let start = going_start whole text i s.high in
-            let listed =
-            going_value whole text i (λ _. Unit {0}) (more c each) (further (under role every)) _ (At i) rest.came.end start operands in
-            let ended = going_token whole text i _ (token (bytes ")")) _ rest.came.end close listed closes in (
-              valued_from (chained each) whole (λ tree. Told table tree role above scope before rest.came.state old out₃) text at i
-                  (chained_on room (is_formula role) scope text at t behind i stop every any value.reads.reads s stops is
-                  there.0 there.1)
-                  (omega (arith, value.reads.low, s.low)) close
-                  (going_end whole text i _ _ _
-                  (λ y holds.
-                  told-join table every t y.1 role above scope before handed rest.came.state old out₁ out₂ out₃ tag rest.count entered
-                  (holds.1.follows t handed old entered.set
-                  (told-one table every t (under role every) (above + 1) scope handed first.state old out value.holds))
-                  six holds.1.number first-laid second-laid)
-                  close ended),
-              within,
-            )
+          -- they were refused
+          pub chain_unread : (q : Refusal) (p : ℕ) → from (more c lower-each) text i ≡ refused q p → from (chained each) text at ≡ refused q p
+          chain_unread q p e =
+              goes ∙ halt (more c each) _ text i q p
+              (subst (λ (formula : Bool). from (more c ((readers room).operand formula scope)) text i ≡ refused q p) kind e)
+
+          -- they were read, and behind them the closing parenthesis was read or refused
+          pub chain-read :
+              (rest : State) (next count : ℕ) (out₁ out₂ out₃ : Words) (tag : ℕ) (close : Step) →
+              Entered 2 (ltb above 64) true before.set before handed →
+              Value (more c lower-each) (Further table every low (above + 1) scope before.set first rest out out₁ count) text i next →
+              tag ≡ cond every 6 7 →
+              Laid before.words tag out₁ out₂ →
+              Laid (before.words + 1) count out₂ out₃ →
+              Steps (token (41 ∷ [])) text next close →
+              Valued (chained each) (λ tree. Told table tree role above scope before rest old out₃) text at close
+          unfolding bytes
+          chain-read rest next count out₁ out₂ out₃ tag close entered children six first-laid second-laid closes =
+              let t = value.what in
+              let further : Role → List Tree → Type 0 = λ r. Further table every r (above + 1) scope before.set first rest out out₁ count in
+              let listed =
+              subst
+              (λ (formula : Bool). Value (more c ((readers room).operand formula scope)) (further (under role every)) text i next)
+              kind
+              (subst (λ (r : Role). Value (more c lower-each) (further r) text i next) below children) in
+              closed_from (chained each) (token (41 ∷ [])) (join every (cons t (trees listed.what)))
+              (λ tree. Told table tree role above scope before rest old out₃) text at next
+              (goes ∙ onward (more c each) _ text i listed.what next listed.reads.reads)
+              (omega (arith, value.reads.low, s.low, listed.reads.low))
+              (told-join table every t listed.what role above scope before handed rest old out₁ out₂ out₃ tag count entered
+              (listed.holds.follows t handed old entered.set
+              (told-one table every t (under role every) (above + 1) scope handed first old out value.holds))
+              six listed.holds.number first-laid second-laid)
+              close closes
 
 -- an all-of or any-of with no parentheses around it, or an operand that is none
 module _
-    (room : ℕ) (table : Words) (role : Role) (above scope : ℕ) (before : State) (text : Text) (at stop : ℕ) (every any : Bool)
-    (old out : Words) (first : Came)
+    (room : ℕ) (role : Role) (scope : ℕ) (text : Text) (at stop : ℕ) (every any : Bool)
     (stops : StopsAt text at stop) (is : Connects text stop every any)
   where
     abbrev single : Reader Tree
     single = (readers room).operand (is_formula role) scope
 
-    abbrev facts : Tree → Type 0
-    facts t = Told table t role above scope before first.state old out
-
     -- a connective stands ahead
     pub whole-chain :
-        (every || any) ≡ true →
-        NodeRead (chained single) table role above scope before old out text at first →
-        NodeRead (closed single) table role above scope before old out text at first
-    whole-chain both read = (
-      valued_from (closed single) (chained single) facts text at at
-          (closed-chained room (is_formula role) scope text at stop every any stops is both) (omega arith) first.end read.0,
-      read.1,
-    )
+        (facts : Tree → Type 0) (r : Step) → (every || any) ≡ true → Valued (chained single) facts text at r →
+        Valued (closed single) facts text at r
+    whole-chain facts r both =
+        valued_from (closed single) (chained single) facts text at at
+        (closed-chained room (is_formula role) scope text at stop every any stops is both) (omega arith) r
 
     -- none does: one operand was read or refused
-    module _ (read : OperandRead room table role above scope before old out text at first) where
-      pub whole-refused :
-          {q : Refusal} {p : ℕ} → first.end ≡ Refused q p →
-          NodeRead (closed single) table role above scope before old out text at first
-      whole-refused e =
-          subst (λ (x : Step). Valued (closed single) facts text at x × Within text x) (sym e)
-          (closed-refused room (is_formula role) scope text at (subst (Valued single facts text at) e read.0), tt)
+    pub whole-refused : (q : Refusal) (p : ℕ) → from single text at ≡ refused q p → from (closed single) text at ≡ refused q p
+    whole-refused q p = closed-refused room (is_formula role) scope text at
 
-      module _
-          (behind : ℕ) (ends : first.end ≡ At behind) (none : (every || any) ≡ false)
-          (parenthesis : Bool) (c : ℕ) (begun : parenthesis ≡ begins c (drop at text)) (opens : c ≡ 40)
-        where
-          abbrev came : Value single facts text at behind
-          came = subst (Valued single facts text at) ends read.0
+    module _
+        {facts : Tree → Type 0} (behind : ℕ) (came : Value single facts text at behind) (none : (every || any) ≡ false)
+        (parenthesis : Bool) (c : ℕ) (begun : parenthesis ≡ begins c (drop at text)) (opens : c ≡ 40)
+      where
+        joins : is_join came.what ≡ parenthesis
+        joins =
+            sym
+            (begun
+            ∙ ap (λ (k : ℕ). begins k (drop at text)) opens
+            ∙ operand-join room (is_formula role) scope text at came.what behind came.reads.reads)
 
-          joins : is_join came.what ≡ parenthesis
-          joins =
-              sym
-              (begun
-              ∙ ap (λ (k : ℕ). begins k (drop at text)) opens
-              ∙ operand-join room (is_formula role) scope text at came.what behind came.reads.reads)
-
-          -- an all-of or any-of in parentheses
-          pub whole-stop :
-              (i : ℕ) → Skips text behind i → parenthesis ≡ true →
-              NodeRead (closed single) table role above scope before old out text at (record { end = Refused Tptp i; state = first.state })
-          whole-stop i s e = (
+        -- an all-of or any-of in parentheses
+        pub whole-stop : (i : ℕ) → Skips text behind i → parenthesis ≡ true → from (closed single) text at ≡ refused Tptp i
+        whole-stop i s e =
             closed-stop room (is_formula role) scope text at came.what behind i stop every any came.reads.reads s stops is none
-                (joins ∙ e),
-            tt,
-          )
+            (joins ∙ e)
 
-          -- another operand, and the closing parenthesis
-          pub whole-alone :
-              parenthesis ≡ false → (close : Step) →
-              Steps (token (41 ∷ [])) text behind close →
-              Within text close →
-              NodeRead (closed single) table role above scope before old out text at (record { end = close; state = first.state })
-          unfolding bytes
-          whole-alone e close closes within =
-              let t = came.what in
-              let (i, s) = skips text behind came.reads.high in
-              let last = token (bytes ")") >>= λ _. give t in
-              let start = going_start last text behind came.reads.high in
-              let ended = going_token last text behind _ (token (bytes ")")) (λ _. give t) (At behind) close start closes in (
-                valued_from (closed single) last facts text at behind
-                    (closed-alone room (is_formula role) scope text at t behind i stop every any came.reads.reads s stops is none (joins ∙ e))
-                    came.reads.low close
-                    (going_end last text behind _ (λ _. t) facts (λ x holds. came.holds) close ended),
-                within,
-              )
+        -- another operand, and the closing parenthesis
+        pub whole-alone :
+            parenthesis ≡ false → (close : Step) → Steps (token (41 ∷ [])) text behind close → Valued (closed single) facts text at close
+        unfolding bytes
+        whole-alone e close closes =
+            let t = came.what in
+            let (i, s) = skips text behind came.reads.high in
+            closed_from (closed single) (token (41 ∷ [])) t facts text at behind
+            (closed-alone room (is_formula role) scope text at t behind i stop every any came.reads.reads s stops is none (joins ∙ e))
+            came.reads.low came.holds close closes

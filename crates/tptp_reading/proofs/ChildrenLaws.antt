@@ -19,14 +19,10 @@ use Rattle.model.specs.declared.Refusal.{Refusal}
 use Rattle.model.specs.declared.Refusal.TheVariants.{Tptp}
 use Rattle.laws.specs.Answer.{refused-passed}
 use Rattle.laws.specs.Words.Tests.{decide}
-use Rattle.tables.specs.declared.Checked.TheVariants.{Passed}
-use Rattle.tptp_tokens.specs.Steps.{from, got, Skips, Valued, Within}
-use Rattle.tptp_state.specs.Told.{Ready, Told, Handed, Joined}
-use Rattle.tptp_reading.specs.Formula.{Begins, OperandRead, Follows, Further, ChildrenRead}
-use Rattle.tptp_tokens.specs.declared.tokens.Step.{Step}
-use Rattle.tptp_tokens.specs.declared.tokens.Step.TheVariants.{At, Refused}
+use Rattle.tptp_tokens.specs.Steps.{from, got, Skips, Value}
+use Rattle.tptp_state.specs.Told.{Passed, Ready, Told, Handed, Joined}
+use Rattle.tptp_reading.specs.Formula.{Begins, Follows, Further}
 use Rattle.tptp_state.specs.declared.state.State.{State}
-use Rattle.tptp_reading.specs.declared.policy.Came.{Came}
 use Rattle.tptp_tokens.proofs.TokenLaws.{over}
 use Rattle.tptp_tokens.proofs.UpTo.{attach, attach-none, attach-attach, upto_over, upto_stop, upto_more, upto_refused}
 use Rattle.tptp_reading.proofs.JoinLaws.{told_more}
@@ -111,117 +107,69 @@ module _
             (let e : t.fuel ≡ suc (t.fuel - 1) = omega (arith, t.some) in e)
 
         -- the text ends
-        pub joining-over :
-            length text ≤ i →
-            ChildrenRead room b table role above scope start first old out text at
-            (record { came = record { end = Refused Tptp i; state = state }; count = 0 })
+        pub joining-over : length text ≤ i → from (more byte one) text at ≡ refused Tptp i
         unfolding attach
-        joining-over h = (goes_on_lem ∙ ap (attach t.ts) (upto_over one byte text next f i s h), tt)
+        joining-over h = goes_on_lem ∙ ap (attach t.ts) (upto_over one byte text next f i s h)
 
         module _ (h : i < length text) where
           -- another byte stands here
           pub joining-stop :
               (c : ℕ) → c ≡ byte → (get_or text i 0 ≡ c → ⊥) →
-              ChildrenRead room b table role above scope start first old out text at
-              (record { came = record { end = At i; state = state }; count = n })
+              Value (more byte one) (Further table b role above scope start first state old out n) text at i
           unfolding attach
-          joining-stop c is e = (
-            record {
-              what = t.ts;
-              reads = record {
-                low = omega (arith, t.low, s.low);
-                high = s.high;
-                reads =
-                    goes_on_lem
-                    ∙ ap (attach t.ts) (upto_stop one byte text next f i s h (λ k. e (k ∙ sym is)))
-                    ∙ ap (λ (us : List Tree). got text us i) (append-nil t.ts);
-              };
-              holds = record { number = t.number; follows = t.follows };
-            },
-            s.high,
-          )
-
-          -- what the next operand is handed
-          pub joining-begins :
-              (handed : State) → Begins table text at room above scope first → length start ≡ 16 → Handed b start state handed →
-              Begins table text (i + 1) room above scope handed
-          joining-begins handed begins sixteen is = record {
-            high = omega arith;
-            levels = begins.levels;
-            variables = begins.variables;
-            ready = subst (Ready table above scope) (sym is) (record {
-              few = t.ready.few;
-              counted = t.ready.counted;
-              marks = marks b;
-              level = t.ready.level;
-              range = t.ready.range;
-            });
+          joining-stop c is e = record {
+            what = t.ts;
+            reads = record {
+              low = omega (arith, t.low, s.low);
+              high = s.high;
+              reads =
+                  goes_on_lem
+                  ∙ ap (attach t.ts) (upto_stop one byte text next f i s h (λ k. e (k ∙ sym is)))
+                  ∙ ap (λ (us : List Tree). got text us i) (append-nil t.ts);
+            };
+            holds = record { number = t.number; follows = t.follows };
           }
-            where
-              marks : (b : Bool) → length (cond b state.set start) ≡ 16
-              marks true = t.ready.marks
-              marks false = sixteen
 
-          module _
-              (c : ℕ) (is : c ≡ byte) (e : get_or text i 0 ≡ c) (handed : State) (out' : Words) (r : Came)
-              (read : OperandRead room table role above scope handed out out' text (i + 1) r)
-            where
-              abbrev known : Tree → Type 0
-              known tree = Told table tree role above scope handed r.state out out'
+          module _ (c : ℕ) (is : c ≡ byte) (e : get_or text i 0 ≡ c) where
+            -- the next operand was refused
+            pub joining-refused : (q : Refusal) (p : ℕ) → from one text (i + 1) ≡ refused q p → from (more byte one) text at ≡ refused q p
+            unfolding attach
+            joining-refused q p why = goes_on_lem ∙ ap (attach t.ts) (upto_refused one byte text next f i s h (e ∙ is) q p why)
 
-              -- the next operand was refused
-              pub joining-refused :
-                  {q : Refusal} {p : ℕ} → r.end ≡ Refused q p →
-                  ChildrenRead room b table role above scope start first old out' text at (record { came = r; count = 0 })
-              unfolding attach
-              joining-refused {q} {p} k =
-                  let why = subst (Valued one known text (i + 1)) k read.0 in
-                  subst
-                  (λ (x : Step).
-                  Valued (more byte one) (Further table b role above scope start first r.state old out' 0) text at x × Within text x)
-                  (sym k)
-                  (goes_on_lem ∙ ap (attach t.ts) (upto_refused one byte text next f i s h (e ∙ is) q p why), tt)
-
-              -- it was read: less of the text is left
-              pub joining_less : (behind : ℕ) → r.end ≡ At behind → length text - behind < length text - next
-              joining_less behind k =
-                  let v = subst (Valued one known text (i + 1)) k read.0 in
-                  omega (arith, v.reads.low, v.reads.high, s.low)
-
-              pub joining-more :
-                  (behind : ℕ) (joint : State) →
-                  r.end ≡ At behind →
-                  Handed b start state handed →
-                  Joined b state r.state joint →
-                  length out' ≡ length out →
-                  Joining room b table role above scope start first text at old out' joint behind (n + 1)
-              joining-more behind joint k hand j l =
-                  let v = subst (Valued one known text (i + 1)) k read.0 in
-                  let there = operand-there room (is_formula role) scope text (i + 1) v.what behind v.reads.reads in
-                  let was : handed.asked ≡ state.asked = ap (λ (x : State). x.asked) hand in
-                  let passes : joint.asked ≡ Passed → state.asked ≡ Passed = λ p. sym was ∙ v.holds.passes (sym j.asked ∙ p) in
-                  record {
-                    ts = t.ts ++ v.what ∷ [];
-                    number = omega (arith, length-append t.ts (v.what ∷ []), t.number);
-                    few = omega (arith, t.few, s.low, v.reads.low);
-                    fuel = f;
-                    some = omega (arith, t.enough, there, s.low);
-                    enough = omega (arith, t.enough, s.low, v.reads.low, t.some);
-                    goes =
-                        goes_on_lem
-                        ∙ ap (attach t.ts) (upto_more one byte text next f i s h (e ∙ is) v.what behind v.reads.reads)
-                        ∙ attach-attach t.ts (v.what ∷ []) (from (up_to f byte one) text behind);
-                    follows = λ g u words same a.
-                        told_more table b g t.ts v.what role above scope start u state handed r.state joint words out out'
-                        (t.follows g u words same a) same hand v.holds j;
-                    ready = record {
-                      few = t.ready.few;
-                      counted = omega (arith, j.words, v.holds.counted);
-                      marks = j.marks v.holds.marks;
-                      level = λ p. t.ready.level (passes p);
-                      range = λ p. t.ready.range (passes p);
-                    };
-                    long = l ∙ t.long;
-                    low = omega (arith, t.low, s.low, v.reads.low);
-                    high = v.reads.high;
-                  }
+            -- it was read
+            pub joining-more :
+                (handed known joint : State) (out' : Words) (behind : ℕ) →
+                Value one (λ tree. Told table tree role above scope handed known out out') text (i + 1) behind →
+                Handed b start state handed →
+                Joined b state.set known joint →
+                length out' ≡ length out →
+                Joining room b table role above scope start first text at old out' joint behind (n + 1)
+            joining-more handed known joint out' behind v hand j l =
+                let there = operand-there room (is_formula role) scope text (i + 1) v.what behind v.reads.reads in
+                let was : handed.asked ≡ state.asked = ap (λ (x : State). x.asked) hand in
+                let passes : joint.asked ≡ Passed → state.asked ≡ Passed = λ p. sym was ∙ v.holds.passes (sym j.asked ∙ p) in
+                record {
+                  ts = t.ts ++ v.what ∷ [];
+                  number = omega (arith, length-append t.ts (v.what ∷ []), t.number);
+                  few = omega (arith, t.few, s.low, v.reads.low);
+                  fuel = f;
+                  some = omega (arith, t.enough, there, s.low);
+                  enough = omega (arith, t.enough, s.low, v.reads.low, t.some);
+                  goes =
+                      goes_on_lem
+                      ∙ ap (attach t.ts) (upto_more one byte text next f i s h (e ∙ is) v.what behind v.reads.reads)
+                      ∙ attach-attach t.ts (v.what ∷ []) (from (up_to f byte one) text behind);
+                  follows = λ g u words same a.
+                      told_more table b g t.ts v.what role above scope start u state handed known joint words out out'
+                      (t.follows g u words same a) same hand v.holds j;
+                  ready = record {
+                    few = t.ready.few;
+                    counted = omega (arith, j.words, v.holds.counted);
+                    marks = j.marks v.holds.marks;
+                    level = λ p. t.ready.level (passes p);
+                    range = λ p. t.ready.range (passes p);
+                  };
+                  long = l ∙ t.long;
+                  low = omega (arith, t.low, s.low, v.reads.low);
+                  high = v.reads.high;
+                }

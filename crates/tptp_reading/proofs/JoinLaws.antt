@@ -23,11 +23,11 @@ use Rattle.laws.specs.Reading.Nodes.{under-kind}
 use Rattle.laws.specs.Reading.Back.{encode_nonempty}
 use Rattle.laws.specs.Reading.Trees.{ask_tree, ask_trees}
 use Rattle.tables.specs.Checked.{outcome}
-use Rattle.tables.specs.declared.Checked.{Checked}
-use Rattle.tables.specs.declared.Checked.TheVariants.{Passed, Refused}
-use Rattle.modes.specs.Mode.{set_of, told}
+use Rattle.std.specs.Prelude.{Result, Ok, Err}
+use Rattle.model.specs.declared.Refused.{Refused}
+use Rattle.modes.specs.Mode.{set_of}
 use Rattle.tptp_tokens.specs.Laying.{most_words, Laid}
-use Rattle.tptp_state.specs.Told.{Modes, Told, Entered, Handed, Joined}
+use Rattle.tptp_state.specs.Told.{Passed, told, Modes, Told, Entered, Handed, Joined}
 use Rattle.tptp_reading.specs.Formula.{bindings_of, ModesAll, ToldAll}
 use Rattle.tptp_state.specs.declared.state.State.{State}
 use Rattle.tptp_binders.proofs.TuplesLaws.{sets-append}
@@ -143,19 +143,19 @@ any_last (u ∷ ts) t table bound scope at =
 
 -- the marks of an any-of behind one operand more, which began with the marks in front
 marks_common :
-    (m₀ m₁ m₂ : Checked) (start marks₁ marks₂ marks : List Bool) (before after : Variables → Outcome Variables) →
+    (m₀ m₁ m₂ : Result (Unit {0}) Refused) (start marks₁ marks₂ marks : List Bool) (before after : Variables → Outcome Variables) →
     told m₁ marks₁ ≡ (told m₀ start >>= before) →
     told m₂ marks₂ ≡ (told m₁ start >>= after) →
     ((x : ℕ) → set_of marks x ≡ (set_of marks₁ x && set_of marks₂ x)) →
     told m₂ marks ≡ (told m₀ start >>= λ bound. common (before bound) (after bound))
 unfolding ◌>>=◌
-marks_common (Refused q p) Passed m₂ start marks₁ marks₂ marks before after e f h = refused-passed (sym e)
-marks_common (Refused q p) (Refused r n) Passed start marks₁ marks₂ marks before after e f h = refused-passed (sym f)
-marks_common (Refused q p) (Refused r n) (Refused r' n') start marks₁ marks₂ marks before after e f h = f ∙ e
-marks_common Passed (Refused r n) Passed start marks₁ marks₂ marks before after e f h = refused-passed (sym f)
-marks_common Passed (Refused r n) (Refused r' n') start marks₁ marks₂ marks before after e f h = f ∙ rw (sym e)
-marks_common Passed Passed (Refused r n) start marks₁ marks₂ marks before after e f h = rw (sym e, sym f)
-marks_common Passed Passed Passed start marks₁ marks₂ marks before after e f h = rw (sym e, sym f) (ap passed (fun_ext h))
+marks_common (Err q) (Ok u) m₂ start marks₁ marks₂ marks before after e f h = refused-passed (sym e)
+marks_common (Err q) (Err r) (Ok u) start marks₁ marks₂ marks before after e f h = refused-passed (sym f)
+marks_common (Err q) (Err r) (Err r') start marks₁ marks₂ marks before after e f h = f ∙ e
+marks_common (Ok u) (Err r) (Ok v) start marks₁ marks₂ marks before after e f h = refused-passed (sym f)
+marks_common (Ok u) (Err r) (Err r') start marks₁ marks₂ marks before after e f h = f ∙ rw (sym e)
+marks_common (Ok u) (Ok v) (Err r) start marks₁ marks₂ marks before after e f h = rw (sym e, sym f)
+marks_common (Ok u) (Ok v) (Ok w) start marks₁ marks₂ marks before after e f h = rw (sym e, sym f) (ap passed (fun_ext h))
 
 -- one operand that was read
 modes-one :
@@ -194,7 +194,7 @@ told-one table b f role above scope u s old out t =
 modes-more :
     (formula b : Bool) (ts : List Tree) (t : Tree) (table : Words) (scope : ℕ) (u s k s' : State) →
     s.words ≡ u.words + length (encode_all (trees ts)) →
-    Joined b s k s' →
+    Joined b s.set k s' →
     ModesAll formula b (trees ts) table scope u s →
     Modes formula t table scope (record { words = s.words; asked = s.asked; moded = s.moded; set = cond b s.set u.set }) k →
     ModesAll formula b (trees (ts ++ t ∷ [])) table scope u s'
@@ -208,7 +208,7 @@ modes-more true b ts t table scope u s k s' exact j before after =
     ap (λ (n : ℕ). ask_modes_all (trees ts) table scope u.words >>= λ _. ask_modes t table scope n) exact
     ∙ sym (modes-last ts t table scope u.words)
 modes-more false true ts t table scope u s k s' exact j before after =
-    ap (λ (m : Checked). told m s'.set) j.moded
+    ap (λ (m : Result (Unit {0}) Refused). told m s'.set) j.moded
     ∙ ap (told k.moded) (j.every refl)
     ∙ after
     ∙ ap (λ (o : Outcome Variables). o >>= λ bound. bindings t table bound scope s.words) before
@@ -217,7 +217,7 @@ modes-more false true ts t table scope u s k s' exact j before after =
     ap (λ (n : ℕ). bindings_all (trees ts) table bound scope u.words >>= λ b. bindings t table b scope n) exact
     ∙ sym (all-last ts t table bound scope u.words)
 modes-more false false ts t table scope u s k s' exact j before after =
-    ap (λ (m : Checked). told m s'.set) j.moded
+    ap (λ (m : Result (Unit {0}) Refused). told m s'.set) j.moded
     ∙ marks_common u.moded s.moded k.moded u.set s.set k.set s'.set
     (λ bound. bindings_any (trees ts) table bound scope u.words)
     (λ bound. bindings t table bound scope s.words)
@@ -232,7 +232,7 @@ more-told :
     ToldAll table b (trees ts) role above scope u s old out →
     Told table t role above scope (record { words = s.words; asked = s.asked; moded = s.moded; set = cond b s.set u.set }) k
     out out' →
-    Joined b s k s' →
+    Joined b s.set k s' →
     ToldAll table b (trees (ts ++ t ∷ [])) role above scope u s' old out'
 more-told table b ts t role above scope u s k s' old out out' a one j =
     let long = size-last ts t in
@@ -272,7 +272,7 @@ pub told_more :
     u.set ≡ start →
     Handed b start s h →
     Told table t role above scope h k out out' →
-    Joined b s k s' →
+    Joined b s.set k s' →
     ToldAll table b (cons f (trees (ts ++ t ∷ []))) role above scope u s' old out'
 unfolding trees
 told_more table b f ts t role above scope start u s h k s' old out out' a e handed one j =
@@ -290,16 +290,16 @@ modes-join :
 unfolding ask_modes bindings bindings_of
 modes-join true b ts table scope s u r words moded marks m =
     m
-    ∙ ap (λ (c : Checked). outcome c >>= λ _. ask_modes_all ts table scope u.words) moded
+    ∙ ap (λ (c : Result (Unit {0}) Refused). outcome c >>= λ _. ask_modes_all ts table scope u.words) moded
     ∙ ap (λ (n : ℕ). outcome s.moded >>= λ _. ask_modes_all ts table scope n) words
 modes-join false true ts table scope s u r words moded marks m =
     m
-    ∙ ap (λ (c : Checked). told c u.set >>= λ bound. bindings_all ts table bound scope u.words) moded
+    ∙ ap (λ (c : Result (Unit {0}) Refused). told c u.set >>= λ bound. bindings_all ts table bound scope u.words) moded
     ∙ ap (λ (c : List Bool). told s.moded c >>= λ bound. bindings_all ts table bound scope u.words) marks
     ∙ ap (λ (n : ℕ). told s.moded s.set >>= λ bound. bindings_all ts table bound scope n) words
 modes-join false false ts table scope s u r words moded marks m =
     m
-    ∙ ap (λ (c : Checked). told c u.set >>= λ bound. bindings_any ts table bound scope u.words) moded
+    ∙ ap (λ (c : Result (Unit {0}) Refused). told c u.set >>= λ bound. bindings_any ts table bound scope u.words) moded
     ∙ ap (λ (c : List Bool). told s.moded c >>= λ bound. bindings_any ts table bound scope u.words) marks
     ∙ ap (λ (n : ℕ). told s.moded s.set >>= λ bound. bindings_any ts table bound scope n) words
 

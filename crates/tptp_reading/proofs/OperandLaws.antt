@@ -21,11 +21,9 @@ use Rattle.model.specs.declared.Refusal.{Refusal}
 use Rattle.model.specs.declared.Refusal.TheVariants.{Tptp}
 use Rattle.laws.specs.Words.Tests.{clash, decide}
 use Rattle.laws.specs.Tptp.Sound.Policies.{operand_sound}
-use Rattle.tptp_tokens.specs.Steps.{from, Skips, Steps, Value, Valued, Within}
+use Rattle.tptp_tokens.specs.Steps.{Step, from, Skips, Reads, Value, Valued}
 use Rattle.tptp_leaves.specs.Leaves.{LeafStands, read_leaf}
 use Rattle.tptp_reading.specs.Formula.{beneath, LeafByte, chained}
-use Rattle.tptp_tokens.specs.declared.tokens.Step.{Step}
-use Rattle.tptp_tokens.specs.declared.tokens.Step.TheVariants.{At, Refused}
 use Rattle.tptp_tokens.proofs.TokenLaws.{onward, halt, look-here, look-over}
 use Rattle.tptp_tokens.proofs.BehindLaws.{valued_from}
 use Rattle.tptp_tokens.proofs.UpTo.{skips_self}
@@ -77,26 +75,22 @@ module _ (room : ℕ) (formula : Bool) (scope : ℕ) where
 
       pub operand-some :
           get_or text i 0 ≡ interrogation → formula ≡ false → (facts : Tree → Type 0) (r : Step) →
-          Valued (read_some room (beneath room) scope) facts text i r × Within text r →
-          Valued operand facts text at r × Within text r
-      operand-some e f facts r (v, w) = (
-        valued_from operand (read_some room (beneath room) scope) facts text at i
-            (operand-chosen
-            ∙ ap (λ (b : ℕ). from (chosen b) text i) e
-            ∙ ap (λ (b : Bool). from (cond b (read_quantifier room (beneath room) false scope) (read_some room (beneath room) scope)) text i) f)
-            s.low r v,
-        w,
-      )
+          Valued (read_some room (beneath room) scope) facts text i r →
+          Valued operand facts text at r
+      operand-some e f facts =
+          valued_from operand (read_some room (beneath room) scope) facts text at i
+          (operand-chosen
+          ∙ ap (λ (b : ℕ). from (chosen b) text i) e
+          ∙ ap (λ (b : Bool). from (cond b (read_quantifier room (beneath room) false scope) (read_some room (beneath room) scope)) text i) f)
+          s.low
 
       pub operand-quantifier :
           (every : Bool) → get_or text i 0 ≡ cond every exclamation interrogation → formula ≡ true → (facts : Tree → Type 0) (r : Step) →
-          Valued (read_quantifier room (beneath room) every scope) facts text i r × Within text r →
-          Valued operand facts text at r × Within text r
-      operand-quantifier every e f facts r (v, w) = (
-        valued_from operand (read_quantifier room (beneath room) every scope) facts text at i
-            (operand-chosen ∙ ap (λ (b : ℕ). from (chosen b) text i) e ∙ which every f) s.low r v,
-        w,
-      )
+          Valued (read_quantifier room (beneath room) every scope) facts text i r →
+          Valued operand facts text at r
+      operand-quantifier every e f facts =
+          valued_from operand (read_quantifier room (beneath room) every scope) facts text at i
+          (operand-chosen ∙ ap (λ (b : ℕ). from (chosen b) text i) e ∙ which every f) s.low
         where
           which :
               (every : Bool) → formula ≡ true →
@@ -108,40 +102,28 @@ module _ (room : ℕ) (formula : Bool) (scope : ℕ) where
 
       -- the parenthesis of an all-of or any-of: it is refused, or what stands behind it is read
       module _ (e : get_or text i 0 ≡ parenthesis) where
-        pub operand-refused :
-            (facts : Tree → Type 0) (r : Step) {q : Refusal} {p : ℕ} → Steps (opening room) text i r → r ≡ Refused q p →
-            Valued operand facts text at r × Within text r
+        pub operand-refused : (q : Refusal) (p : ℕ) → from (opening room) text i ≡ refused q p → from operand text at ≡ refused q p
         unfolding read_join
-        operand-refused facts r {q} {p} o k =
-            subst (λ (x : Step). Valued operand facts text at x × Within text x) (sym k)
-            (operand-join e ∙ halt (opening room) _ text i q p (subst (Steps (opening room) text i) k o), tt)
+        operand-refused q p k = operand-join e ∙ halt (opening room) _ text i q p k
 
         pub operand-chain :
-            (opened : Step) → Steps (opening room) text i opened → (inside : ℕ) → opened ≡ At inside → (lower : ℕ) → lower ≡ room - 1 →
-            (facts : Tree → Type 0) (r : Step) →
-            Valued (chained ((readers lower).operand formula scope)) facts text inside r × Within text r →
-            Valued operand facts text at r × Within text r
+            (inside : ℕ) → Reads (opening room) text i tt inside → (lower : ℕ) → lower ≡ room - 1 → (facts : Tree → Type 0) (r : Step) →
+            Valued (chained ((readers lower).operand formula scope)) facts text inside r →
+            Valued operand facts text at r
         unfolding read_join
-        operand-chain opened os inside k lower l facts r (v, w) =
-            let o = subst (Steps (opening room) text i) k os in
-            let below = beneath_less room lower (opening-room room text i inside o.reads) l in (
-              valued_from operand (chained ((readers lower).operand formula scope)) facts text at inside
-                  (operand-join e
-                  ∙ onward (opening room) _ text i tt inside o.reads
-                  ∙ ap (λ (b : R.Readers). from (chained (b.operand formula scope)) text inside) below)
-                  (omega (arith, s.low, o.low)) r v,
-              w,
-            )
+        operand-chain inside o lower l facts =
+            let below = beneath_less room lower (opening-room room text i inside o.reads) l in
+            valued_from operand (chained ((readers lower).operand formula scope)) facts text at inside
+            (operand-join e
+            ∙ onward (opening room) _ text i tt inside o.reads
+            ∙ ap (λ (b : R.Readers). from (chained (b.operand formula scope)) text inside) below)
+            (omega (arith, s.low, o.low))
 
       -- an operand behind blanks
-      pub operand_skip :
-          (facts : Tree → Type 0) (r : Step) → Valued operand facts text i r × Within text r → Valued operand facts text at r × Within text r
+      pub operand_skip : (facts : Tree → Type 0) (r : Step) → Valued operand facts text i r → Valued operand facts text at r
       unfolding read_operand
-      operand_skip facts r (v, w) = (
-        valued_from operand operand facts text at i
-            (operand-chosen ∙ sym (operand-self (skips_self text at i s h))) s.low r v,
-        w,
-      )
+      operand_skip facts =
+          valued_from operand operand facts text at i (operand-chosen ∙ sym (operand-self (skips_self text at i s h))) s.low
         where
           operand-self : Skips text i i → from operand text i ≡ from (chosen (get_or text i 0)) text i
           operand-self k =
@@ -159,31 +141,25 @@ module _ (room : ℕ) (formula : Bool) (scope : ℕ) where
           l.quantifier,
         ) (sym (onward look _ text at (get_or text at 0) at (look-here text at at (skips_here text at h b) h)))
 
-    module _ (own : Words) {r : Step} (v : Valued (read_leaf room) (LeafStands own) text at r) where
-      -- it was refused
-      pub leaf-refused : (facts : Tree → Type 0) {q : Refusal} {p : ℕ} → r ≡ Refused q p → Valued operand facts text at r × Within text r
-      leaf-refused facts {q} {p} e =
-          subst (λ (x : Step). Valued operand facts text at x × Within text x) (sym e)
-          (operand-leaf ∙ subst (Valued (read_leaf room) (LeafStands own) text at) e v, tt)
+    -- it was refused
+    pub leaf-refused : (q : Refusal) (p : ℕ) → from (read_leaf room) text at ≡ refused q p → from operand text at ≡ refused q p
+    leaf-refused q p e = operand-leaf ∙ e
 
+    module _ (own : Words) {n : ℕ} (v : Value (read_leaf room) (LeafStands own) text at n) where
       -- it stands there, and is good
-      pub leaf-stands : {n : ℕ} → r ≡ At n → (t : Tree) × LeafStands own t × (good_tree t formula ≡ true)
-      leaf-stands e =
-          let w = subst (Valued (read_leaf room) (LeafStands own) text at) e v in
-          (w.what, w.holds, (operand_sound room formula scope _ _ _ (operand-leaf ∙ w.reads.reads)).good)
+      good : good_tree v.what formula ≡ true
+      good = (operand_sound room formula scope _ _ _ (operand-leaf ∙ v.reads.reads)).good
+
+      pub leaf-stands : (t : Tree) × LeafStands own t × (good_tree t formula ≡ true)
+      leaf-stands = (v.what, v.holds, good)
 
       pub leaf-read :
-          (facts : Tree → Type 0) {n : ℕ} → r ≡ At n → ((t : Tree) → LeafStands own t → good_tree t formula ≡ true → facts t) →
-          Valued operand facts text at r × Within text r
-      leaf-read facts {n} e told =
-          let w = subst (Valued (read_leaf room) (LeafStands own) text at) e v in
-          let good = (operand_sound room formula scope _ _ _ (operand-leaf ∙ w.reads.reads)).good in
-          let read : Value operand facts text at n = record {
-            what = w.what;
-            reads = record { low = w.reads.low; high = w.reads.high; reads = operand-leaf ∙ w.reads.reads };
-            holds = told w.what w.holds good;
-          } in
-          subst (λ (x : Step). Valued operand facts text at x × Within text x) (sym e) (read, w.reads.high)
+          (facts : Tree → Type 0) → ((t : Tree) → LeafStands own t → good_tree t formula ≡ true → facts t) → Value operand facts text at n
+      leaf-read facts told = record {
+        what = v.what;
+        reads = record { low = v.reads.low; high = v.reads.high; reads = operand-leaf ∙ v.reads.reads };
+        holds = told v.what v.holds good;
+      }
 
 -- what the tests of the first byte tell
 pub leaf-byte :

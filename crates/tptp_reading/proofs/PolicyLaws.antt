@@ -13,21 +13,13 @@ use Rattle.model.specs.Tree.{Tree}
 use Rattle.model.specs.TptpReading.{Reader, give, blanks, token, name, whole, ending, readers, read_whole, ◌>>=◌}
 use Rattle.model.specs.declared.Refusal.{Refusal}
 use Rattle.model.specs.declared.Refusal.TheVariants.{Tptp}
-use Rattle.tptp_tokens.specs.Steps.{from, got, Skips, Steps, Valued, Behind}
+use Rattle.tptp_tokens.specs.Steps.{from, got, Skips, Reads, Value}
 use Rattle.tptp_state.specs.Told.{Ready}
-use Rattle.tptp_state.specs.Known.{checked_of, state_of}
 use Rattle.tptp_reading.specs.Formula.{closed}
 use Rattle.tptp_reading.specs.Policy.{blanks_ending, start_state}
-use Rattle.tptp_tokens.specs.declared.tokens.Step.{Step}
-use Rattle.tptp_tokens.specs.declared.tokens.Step.TheVariants.{At, Refused}
-use Rattle.tptp_tokens.proofs.TokenLaws.{here, over, onward, grouped, closed_then}
-use Rattle.tptp_tokens.proofs.Going.{Goes, going_start, going_token, going_value, goes_as, going_end}
+use Rattle.tptp_tokens.proofs.TokenLaws.{here, over, onward, halt, grouped, closed_then}
 
 -- nothing was read yet
-pub start-held : state_of (replicate 5 0) (replicate 16 false) ≡ start_state
-unfolding checked_of
-start-held = refl
-
 pub start-ready : (table : Words) → predicates table ≤ 256 → Ready table 0 0 start_state
 start-ready table few =
     record { few = few; counted = omega arith; marks = refl; level = λ _. omega arith; range = λ _. omega arith }
@@ -42,54 +34,61 @@ module _ (text : Text) (at i : ℕ) (s : Skips text at i) where
   unfolding ending
   ended-over h = onward blanks (λ _. ending) text at tt i s.reads ∙ rw (over text i h)
 
-module _ (text : Text) (room : ℕ) where
-  abbrev one : Reader Tree
-  one = (readers room).operand true 0
+-- what stands before the formula of a text, and behind it
+module _
+    (text : Text) (room : ℕ) {n₁ n₂ n₃ n₄ n₅ at : ℕ}
+    (s₁ : Reads (token (116 ∷ 102 ∷ 102 ∷ [])) text 0 tt n₁)
+    (s₂ : Reads (token (40 ∷ [])) text n₁ tt n₂)
+    (s₃ : Reads name text n₂ tt n₃)
+    (s₄ : Reads (token (44 ∷ [])) text n₃ tt n₄)
+    (s₅ : Reads (token (97 ∷ 120 ∷ 105 ∷ 111 ∷ 109 ∷ [])) text n₄ tt n₅)
+    (s₆ : Reads (token (44 ∷ [])) text n₅ tt at)
+  where
+    abbrev one : Reader Tree
+    one = closed ((readers room).operand true 0)
 
-  -- behind the formula
-  abbrev behind_tree : Tree → Reader Tree
-  behind_tree t = token (bytes ".") >>= λ _. blanks >>= λ _. ending >>= λ _. give t
+    abbrev behind_dot : Tree → Reader Tree
+    behind_dot t = blanks >>= λ _. ending >>= λ _. give t
 
-  module _
-      (r₁ r₂ r₃ r₄ r₅ r₆ : Step)
-      (s₁ : Steps (token (116 ∷ 102 ∷ 102 ∷ [])) text 0 r₁)
-      (s₂ : Behind (Steps (token (40 ∷ [])) text) r₁ r₂)
-      (s₃ : Behind (Steps name text) r₂ r₃)
-      (s₄ : Behind (Steps (token (44 ∷ [])) text) r₃ r₄)
-      (s₅ : Behind (Steps (token (97 ∷ 120 ∷ 105 ∷ 111 ∷ 109 ∷ [])) text) r₄ r₅)
-      (s₆ : Behind (Steps (token (44 ∷ [])) text) r₅ r₆)
-    where
-      header : Goes (read_whole room) (λ (x : Unit {0}). Unit {0}) (λ x. closed one >>= behind_tree) text 0 r₆
-      unfolding read_whole bytes
-      header =
-          let w = read_whole room in
-          let g₁ = going_token w text 0 _ (token (116 ∷ 102 ∷ 102 ∷ [])) _ (At 0) r₁ (going_start w text 0 (omega arith)) s₁ in
-          let g₂ = going_token w text 0 _ (token (40 ∷ [])) _ r₁ r₂ g₁ s₂ in
-          let g₃ = going_token w text 0 _ name _ r₂ r₃ g₂ s₃ in
-          let g₄ = going_token w text 0 _ (token (44 ∷ [])) _ r₃ r₄ g₃ s₄ in
-          let g₅ = going_token w text 0 _ (token (97 ∷ 120 ∷ 105 ∷ 111 ∷ 109 ∷ [])) _ r₄ r₅ g₄ s₅ in
-          let g₆ = going_token w text 0 _ (token (44 ∷ [])) _ r₅ r₆ g₅ s₆ in
-          goes_as w text 0 _ _ _ r₆ (λ x known n. closed_then (whole one) (bytes ")") behind_tree (drop n text) n) g₆
+    header : from (read_whole room) text 0 ≡ from (one >>= λ t. token (46 ∷ []) >>= λ _. behind_dot t) text at
+    unfolding read_whole bytes
+    header =
+        onward (token (116 ∷ 102 ∷ 102 ∷ [])) _ text 0 tt n₁ s₁.reads
+        ∙ onward (token (40 ∷ [])) _ text n₁ tt n₂ s₂.reads
+        ∙ onward name _ text n₂ tt n₃ s₃.reads
+        ∙ onward (token (44 ∷ [])) _ text n₃ tt n₄ s₄.reads
+        ∙ onward (token (97 ∷ 120 ∷ 105 ∷ 111 ∷ 109 ∷ [])) _ text n₄ tt n₅ s₅.reads
+        ∙ onward (token (44 ∷ [])) _ text n₅ tt at s₆.reads
+        ∙ closed_then (whole ((readers room).operand true 0)) (bytes ")") (λ t. token (46 ∷ []) >>= λ _. behind_dot t) (drop at text) at
 
-      -- nothing more is read
-      pub header_refused : (facts : Tree → Type 0) {q : Refusal} {p : ℕ} → r₆ ≡ Refused q p → Valued (read_whole room) facts text 0 r₆
-      header_refused facts e =
-          subst (Valued (read_whole room) facts text 0) (sym e)
-          (subst (Goes (read_whole room) (λ (x : Unit {0}). Unit {0}) (λ x. closed one >>= behind_tree) text 0) e header)
+    pub policy-refused : (q : Refusal) (p : ℕ) → from one text at ≡ refused q p → from (read_whole room) text 0 ≡ refused q p
+    policy-refused q p e = header ∙ halt one _ text at q p e
 
-      pub policy-read :
-          (facts : Tree → Type 0) {at : ℕ} (r₇ r₈ r₉ : Step) → r₆ ≡ At at →
-          Valued (closed one) facts text at r₇ →
-          Behind (Steps (token (46 ∷ [])) text) r₇ r₈ →
-          Behind (Steps blanks_ending text) r₈ r₉ →
-          Valued (read_whole room) facts text 0 r₉
-      unfolding bytes
-      policy-read facts {at} r₇ r₈ r₉ e s₇ s₈ s₉ =
-          let w = read_whole room in
-          let g = subst (Goes w (λ (x : Unit {0}). Unit {0}) (λ x. closed one >>= behind_tree) text 0) e header in
-          let g₇ = going_value w text 0 _ (closed one) facts (λ x. behind_tree) (At at) r₇ g s₇ in
-          let g₈ = going_token w text 0 _ (token (46 ∷ [])) _ r₇ r₈ g₇ s₈ in
-          let g₈' = goes_as w text 0 _ _ (λ y. blanks_ending >>= λ _. give y.1) r₈
-          (λ y known n. sym (grouped blanks (λ _. ending) (λ _. give y.1) (drop n text) n)) g₈ in
-          let g₉ = going_token w text 0 _ blanks_ending _ r₈ r₉ g₈' s₉ in
-          going_end w text 0 _ (λ y. y.1) facts (λ y f. f.1) r₉ g₉
+    module _ {facts : Tree → Type 0} (end : ℕ) (tree : Value one facts text at end) where
+      formula_read : from (read_whole room) text 0 ≡ from (token (46 ∷ []) >>= λ _. behind_dot tree.what) text end
+      formula_read = header ∙ onward one (λ t. token (46 ∷ []) >>= λ _. behind_dot t) text at tree.what end tree.reads.reads
+
+      pub policy_undotted : (q : Refusal) (p : ℕ) → from (token (46 ∷ [])) text end ≡ refused q p → from (read_whole room) text 0 ≡ refused q p
+      policy_undotted q p e = formula_read ∙ halt (token (46 ∷ [])) _ text end q p e
+
+      module _ (dot : ℕ) (dots : Reads (token (46 ∷ [])) text end tt dot) where
+        dotted : from (read_whole room) text 0 ≡ from (blanks_ending >>= λ _. give tree.what) text dot
+        dotted =
+            formula_read
+            ∙ onward (token (46 ∷ [])) (λ _. behind_dot tree.what) text end tt dot dots.reads
+            ∙ sym (grouped blanks (λ _. ending) (λ _. give tree.what) (drop dot text) dot)
+
+        pub policy_unended : (q : Refusal) (p : ℕ) → from blanks_ending text dot ≡ refused q p → from (read_whole room) text 0 ≡ refused q p
+        policy_unended q p e = dotted ∙ halt blanks_ending (λ _. give tree.what) text dot q p e
+
+        pub policy-read : (last : ℕ) → Reads blanks_ending text dot tt last → Value (read_whole room) facts text 0 last
+        unfolding give
+        policy-read last ended = record {
+          what = tree.what;
+          reads = record {
+            low = omega arith;
+            high = ended.high;
+            reads = dotted ∙ onward blanks_ending (λ _. give tree.what) text dot tt last ended.reads;
+          };
+          holds = tree.holds;
+        }

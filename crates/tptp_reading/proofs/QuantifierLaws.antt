@@ -13,7 +13,7 @@ use borrow.Author.Tests.{leb-true}
 use Rattle.model.specs.Words.{Words, same, policy_limit, level_limit, scope_limit}
 use Rattle.model.specs.Bytes.{Text, bytes, blank, exclamation, interrogation}
 use Rattle.model.specs.Lists.{gather}
-use Rattle.model.specs.Answer.{Outcome, ◌>>=◌}
+use Rattle.model.specs.Answer.{Outcome, refused, ◌>>=◌}
 use Rattle.model.specs.Tree.{Tree, quantifier, encode}
 use Rattle.model.specs.Tag as M
 use Rattle.model.specs.Level.{Role, restriction, formula, operand, quantifier_cost, cost}
@@ -26,28 +26,23 @@ use Rattle.laws.specs.Answer.{then_assoc}
 use Rattle.laws.specs.Words.Tests.{decide}
 use Rattle.laws.specs.Reading.Trees.{ask_tree}
 use Rattle.tables.specs.Checked.{outcome}
-use Rattle.tables.specs.declared.Checked.{Checked}
-use Rattle.tables.specs.declared.Checked.TheVariants.{Passed, Refused}
-use Rattle.modes.specs.Mode.{set_of, told}
-use Rattle.tptp_tokens.specs.Steps.{from, Reads, Steps, Valued, Within, Behind}
-use Rattle.tptp_binders.specs.Binder.{IsCount, BinderRead}
+use Rattle.std.specs.Prelude.{Result, Ok, Err}
+use Rattle.model.specs.declared.Refused.{Refused}
+use Rattle.modes.specs.Mode.{set_of}
+use Rattle.tptp_tokens.specs.Steps.{Step, from, Reads, Steps, Value, Valued}
+use Rattle.tptp_binders.specs.Binder.{IsCount}
 use Rattle.tptp_tokens.specs.Laying.{most_words, Laid}
-use Rattle.tptp_state.specs.Told.{Told, Settled, Entered, Introduced, Outer}
-use Rattle.tptp_reading.specs.Formula.{Many, Begins, beneath, NodeRead, OperandRead, RestrictedTold, RestrictionRead}
-use Rattle.tptp_tokens.specs.declared.tokens.Step.{Step}
-use Rattle.tptp_tokens.specs.declared.tokens.Step.TheVariants as S
-use Rattle.tptp_tokens.specs.declared.tokens.Step.TheVariants.{At}
-use Rattle.tptp_binders.specs.declared.binder.Counted.{Counted}
+use Rattle.tptp_state.specs.Told.{Passed, told, Told, Settled, Entered, Introduced, Outer}
+use Rattle.tptp_reading.specs.Formula.{Begins, beneath, RestrictedTold}
 use Rattle.tptp_state.specs.declared.state.State.{State}
-use Rattle.tptp_reading.specs.declared.policy.Came.{Came}
-use Rattle.tptp_tokens.proofs.TokenLaws.{token-here}
-use Rattle.tptp_tokens.proofs.Going.{Goes, going_start, going_token, going_value, goes_as, going_end}
+use Rattle.tptp_tokens.proofs.TokenLaws.{onward, halt, token-here}
+use Rattle.tptp_tokens.proofs.BehindLaws.{closed_from}
 use Rattle.tptp_state.proofs.StateLaws.{asked-passed}
 use Rattle.tptp_binders.proofs.TuplesLaws.{sets-append}
 use Rattle.tptp_tokens.proofs.LayingLaws.{laid_three}
 use Rattle.tptp_reading.proofs.SomeLaws.{entered_passed, entered_ready}
 use Rattle.tptp_reading.proofs.StopLaws.{skips_here}
-use Rattle.tptp_reading.proofs.RoomLaws.{behind-room, beneath_less}
+use Rattle.tptp_reading.proofs.RoomLaws.{opening-room, beneath_less}
 
 -- tuples of one number at least are as many numbers at least
 count_most : (v count : ℕ) → 1 ≤ v → count ≤ v * count
@@ -56,12 +51,12 @@ count_most (suc v) count h = omega arith
 
 -- the marks of the outer variables are those variables
 told-outer :
-    (m : Checked) (marks : List Bool) (bound : Variables) (k : Variables → Outcome (Unit {0})) →
+    (m : Result (Unit {0}) Refused) (marks : List Bool) (bound : Variables) (k : Variables → Outcome (Unit {0})) →
     ((x : ℕ) → set_of marks x ≡ bound x) →
     (told m marks >>= k) ≡ (outcome m >>= λ _. k bound)
 unfolding ◌>>=◌
-told-outer Passed marks bound k h = ap k (fun_ext h)
-told-outer (Refused q p) marks bound k h = refl
+told-outer (Ok u) marks bound k h = ap k (fun_ext h)
+told-outer (Err q) marks bound k h = refl
 
 -- questions in three steps, however they are grouped
 three_then :
@@ -232,183 +227,173 @@ mark-read false text at h e = token-here text at at (skips_here text at h (rw e)
 -- a quantifier is read up to its restriction
 module _
     (b : Bool) (text : Text) (at room scope : ℕ) (h : at < length text) (byte : get_or text at 0 ≡ cond b exclamation interrogation)
-    (bound : Counted) (binds : BinderRead 3 scope text (at + 1) bound)
-    (entry : Step) (opens : Behind (Steps (opening room) text) bound.end entry)
   where
     abbrev reader : Reader Tree
     reader = read_quantifier room (beneath room) b scope
 
-    abbrev Bound : (Unit {0} × ℕ) → Type 0
-    Bound y = Unit {0} × IsCount 3 bound.count y.1
+    abbrev sign : Reader (Unit {0})
+    sign = token (cond b (bytes "=>") (bytes "&"))
 
-    -- what is left to read behind the parenthesis
-    abbrev rest : Readers → ℕ → Reader Tree
-    rest below v =
-        R.◌>>=◌ (below.restriction v scope) λ c.
-        R.◌>>=◌ (token (cond b (bytes "=>") (bytes "&"))) λ _.
+    -- what is left to read behind the parenthesis, and behind the sign
+    abbrev behind-sign : Readers → ℕ → Restricted → Reader Tree
+    behind-sign below v c =
         R.◌>>=◌ (below.operand true (scope + v)) λ f.
         R.◌>>=◌ (token (bytes ")")) λ _.
         give (quantifier b v c.excluded c.restriction f)
 
-    opened : Goes reader Bound (λ y. rest (beneath room) y.1) text at entry
+    abbrev rest : Readers → ℕ → Reader Tree
+    rest below v = R.◌>>=◌ (below.restriction v scope) λ c. R.◌>>=◌ sign λ _. behind-sign below v c
+
+    -- its binder was refused
+    pub quantifier_unbound : (q : Refusal) (p : ℕ) → from (read_binder 3 scope) text (at + 1) ≡ refused q p → from reader text at ≡ refused q p
     unfolding read_quantifier
-    opened =
-        let mark = token (cond b (bytes "!") (bytes "?")) in
-        let g₀ = going_start reader text at (omega arith) in
-        let g₁ = going_token reader text at _ mark _ (At at) (At (at + 1)) g₀ (mark-read b text at h byte) in
-        let g₂ = going_value reader text at _ (read_binder 3 scope) (IsCount 3 bound.count) _ (At (at + 1)) bound.end g₁ binds.0 in
-        going_token reader text at _ (opening room) _ bound.end entry g₂ opens
+    quantifier_unbound q p e =
+        onward (token (cond b (bytes "!") (bytes "?"))) _ text at tt (at + 1) (mark-read b text at h byte).reads
+        ∙ halt (read_binder 3 scope) _ text (at + 1) q p e
 
-    pub quantifier-refused :
-        (table : Words) (role : Role) (above : ℕ) (s : State) (out out' : Words) {q : Refusal} {p : ℕ} → entry ≡ S.Refused q p →
-        NodeRead reader table role above scope s out out' text at (record { end = entry; state = s })
-    quantifier-refused table role above s out out' e =
-        subst (λ (x : Step). Valued reader (λ t. Told table t role above scope s s out out') text at x × Within text x) (sym e)
-        (subst (Goes reader Bound (λ y. rest (beneath room) y.1) text at) e opened, tt)
+    module _ (count next : ℕ) (binds : Value (read_binder 3 scope) (IsCount 3 count) text (at + 1) next) where
+      bound : from reader text at ≡ from (R.◌>>=◌ (opening room) λ _. rest (beneath room) binds.what) text next
+      unfolding read_quantifier
+      bound =
+          onward (token (cond b (bytes "!") (bytes "?"))) _ text at tt (at + 1) (mark-read b text at h byte).reads
+          ∙ onward (read_binder 3 scope) _ text (at + 1) binds.what next binds.reads.reads
 
-    module _ (lower inside : ℕ) (e : entry ≡ At inside) (less : lower ≡ room - 1) where
       -- so many variables
-      pub quantifier-variables : (1 ≤ bound.count) × (bound.count ≤ 4)
-      quantifier-variables =
-          let g = subst (Goes reader Bound (λ y. rest (beneath room) y.1) text at) e opened in
-          let is = g.holds.1 in
-          (omega (arith, is.is, is.least), omega (arith, is.is, is.few))
+      pub quantifier-variables : (1 ≤ count) × (count ≤ 4)
+      quantifier-variables = let is = binds.holds in (omega (arith, is.is, is.least), omega (arith, is.is, is.few))
 
-      -- its restriction may begin
-      pub quantifier-begins :
-          (table : Words) (role : Role) (above level : ℕ) (deep free : Bool) (marks : List Bool) (s handed : State) →
-          Begins table text at room above scope s →
-          Within text entry →
-          level ≡ above + cost role (M.Tag.quantifier b) →
-          deep ≡ leb level level_limit →
-          free ≡ leb (scope + bound.count) scope_limit →
-          Entered 3 deep free marks s handed →
-          Outer scope marks →
-          (lower < room) × Begins table text inside lower level (scope + bound.count) handed
-      quantifier-begins table role above level deep free marks s handed begins within costs is-deep is_free entered outer =
-          let some = behind-room room text bound.end entry inside opens e in
-          let few = quantifier-variables.1 in (
-            omega (arith, some, less),
-            record {
-              high = subst (Within text) e within;
-              levels = omega (arith, some, less, begins.levels, costs, cost-few role b);
-              variables = omega (arith, some, less, few, begins.variables);
-              ready =
-                  entered_ready table 3 deep free marks s handed above scope level (scope + bound.count) begins.ready entered outer.sixteen
-                  (λ is. leb-true level level_limit (sym is-deep ∙ is))
-                  (λ is. leb-true (scope + bound.count) scope_limit (sym is_free ∙ is));
-            },
-          )
+      -- its parenthesis was refused
+      pub quantifier-refused : (q : Refusal) (p : ℕ) → from (opening room) text next ≡ refused q p → from reader text at ≡ refused q p
+      quantifier-refused q p e = bound ∙ halt (opening room) _ text next q p e
 
-      inner-goes : Goes reader Bound (λ y. rest (readers lower) bound.count) text at (At inside)
-      inner-goes =
-          goes_as reader text at Bound (λ y. rest (beneath room) y.1) (λ y. rest (readers lower) bound.count) (At inside)
-          (λ y known n.
-          ap (λ (v : ℕ). from (rest (beneath room) v) text n) known.1.is
-          ∙ ap (λ (below : Readers). from (rest below bound.count) text n)
-          (beneath_less room lower (behind-room room text bound.end entry inside opens e) less))
-          (subst (Goes reader Bound (λ y. rest (beneath room) y.1) text at) e opened)
+      module _ (inside : ℕ) (opens : Reads (opening room) text next tt inside) (lower : ℕ) (less : lower ≡ room - 1) where
+        some₁ : 1 ≤ room
+        some₁ = opening-room room text next inside opens.reads
 
-      -- the restriction, and what stands behind it
-      module _
-          (table : Words) (role : Role) (above level : ℕ) (s handed : State) (out mid out' : Words) (inner : Many) (sign : Step)
-          (restricts :
-          RestrictionRead ((readers lower).restriction bound.count scope) table level scope bound.count handed out mid text inside inner)
-          (signs : Behind (Steps (token (cond b (bytes "=>") (bytes "&"))) text) inner.came.end sign)
-        where
-          abbrev Restricts : Restricted → Type 0
-          Restricts c = RestrictedTold table level scope bound.count handed out mid inner.count inner.came.state c
-
-          signed :
-              Goes reader (λ (y : (Unit {0} × ℕ) × Restricted). Bound y.0 × Restricts y.1)
-              (λ y.
-              R.◌>>=◌ ((readers lower).operand true (scope + bound.count)) λ f.
-              R.◌>>=◌ (token (bytes ")")) λ _.
-              give (quantifier b bound.count y.1.excluded y.1.restriction f))
-              text at sign
-          signed =
-              let one = (readers lower).restriction bound.count scope in
-              let g₁ = going_value reader text at Bound one Restricts _ (At inside) inner.came.end inner-goes restricts.0 in
-              going_token reader text at _ (token (cond b (bytes "=>") (bytes "&"))) _ inner.came.end sign g₁ signs
-
-          pub quantifier_unsigned :
-              {q : Refusal} {p : ℕ} → sign ≡ S.Refused q p →
-              NodeRead reader table role above scope s out out' text at (record { end = sign; state = inner.came.state })
-          quantifier_unsigned e' =
-              subst
-              (λ (x : Step). Valued reader (λ t. Told table t role above scope s inner.came.state out out') text at x × Within text x)
-              (sym e')
-              (subst (Goes reader _ _ text at) e' signed, tt)
-
-          -- its body may begin
-          pub quantifier-body :
-              (between : State) (start lower' : ℕ) →
-              lower' ≡ room - 1 →
-              Begins table text inside lower level (scope + bound.count) handed →
-              sign ≡ At start →
-              Within text sign →
-              Introduced scope bound.count s.words inner.came.state between →
-              Begins table text start lower' level (scope + bound.count) between
-          quantifier-body between start lower' less' begins e' within introduced =
-              let known = subst (Goes reader _ _ text at) e' signed in
-              let restricts = known.holds.1 in
-              let told = restricts.told in
-              let asked : between.asked ≡ Passed → handed.asked ≡ Passed =
-              λ p. sym restricts.asked ∙ told.passes (sym introduced.asked ∙ p) in
+        -- its restriction may begin
+        pub quantifier-begins :
+            (table : Words) (role : Role) (above level : ℕ) (deep free : Bool) (marks : List Bool) (s handed : State) →
+            Begins table text at room above scope s →
+            level ≡ above + cost role (M.Tag.quantifier b) →
+            deep ≡ leb level level_limit →
+            free ≡ leb (scope + count) scope_limit →
+            Entered 3 deep free marks s handed →
+            Outer scope marks →
+            (lower < room) × Begins table text inside lower level (scope + count) handed
+        quantifier-begins table role above level deep free marks s handed begins costs is-deep is_free entered outer =
+            let few = quantifier-variables.1 in (
+              omega (arith, some₁, less),
               record {
-                high = subst (Within text) e' within;
-                levels = omega (arith, less, less', begins.levels);
-                variables = omega (arith, less, less', begins.variables);
-                ready = record {
-                  few = begins.ready.few;
-                  counted = omega (arith, introduced.words, told.counted);
-                  marks = ap length introduced.set ∙ told.marks;
-                  level = λ p. begins.ready.level (asked p);
-                  range = λ p. begins.ready.range (asked p);
-                };
-              }
+                high = opens.high;
+                levels = omega (arith, some₁, less, begins.levels, costs, cost-few role b);
+                variables = omega (arith, some₁, less, few, begins.variables);
+                ready =
+                    entered_ready table 3 deep free marks s handed above scope level (scope + count) begins.ready entered outer.sixteen
+                    (λ is. leb-true level level_limit (sym is-deep ∙ is))
+                    (λ is. leb-true (scope + count) scope_limit (sym is_free ∙ is));
+              },
+            )
 
-          -- the body, and the closing parenthesis
-          pub quantifier-read :
-              (tag second third : ℕ) (between : State) (last out₁ out₂ : Words) (deep free : Bool) (marks : List Bool)
-              (start lower' : ℕ) (body : Came) (close : Step) →
-              lower' ≡ room - 1 →
-              is_formula role ≡ true →
-              level ≡ above + cost role (M.Tag.quantifier b) →
-              deep ≡ leb level level_limit →
-              free ≡ leb (scope + bound.count) scope_limit →
-              Entered 3 deep free marks s handed →
-              Outer scope marks →
-              sign ≡ At start →
-              Introduced scope bound.count s.words inner.came.state between →
-              OperandRead lower' table formula level (scope + bound.count) between mid last text start body →
-              tag ≡ cond b 8 9 →
-              Laid s.words tag last out₁ →
-              Laid second bound.count out₁ out₂ →
-              second ≡ s.words + 1 →
-              Laid third inner.count out₂ out' →
-              third ≡ s.words + 2 →
-              Behind (Steps (token (41 ∷ [])) text) body.end close × Within text close →
-              NodeRead reader table role above scope s out out' text at (record { end = close; state = body.state })
-          unfolding is_formula cost bytes
-          quantifier-read
-              tag second third between last out₁ out₂ deep free marks start lower' body close less' kind costs is-deep is_free entered outer e'
-              introduced reads tagged laid₁ laid₂ at₂ laid₃ at₃ closes =
-              let (some, few) = quantifier-variables in
-              let one = (readers lower).operand true (scope + bound.count) in
-              let Body : Tree → Type 0 = λ f. Told table f formula level (scope + bound.count) between body.state mid last in
-              let g₁ = going_value reader text at _ one Body _ (At start) body.end
-              (subst (Goes reader _ _ text at) e' signed)
-              (subst (λ (k : ℕ). OperandRead k table formula level (scope + bound.count) between mid last text start body) (less' ∙ sym less)
-              reads).0 in
-              let g₂ = going_token reader text at _ (token (41 ∷ [])) _ body.end close g₁ closes.0 in (
-                going_end reader text at _ (λ y. quantifier b bound.count y.0.1.excluded y.0.1.restriction y.1)
-                    (λ t. Told table t role above scope s body.state out out')
-                    (λ y f. told-quantifier table b bound.count y.0.1 y.1 role above scope level inner.count tag
-                    s handed inner.came.state between body.state out mid last out₁ out₂ out' deep free marks
-                    kind costs some few is-deep is_free entered outer f.0.1 introduced f.1 tagged laid₁
-                    (subst (λ (k : ℕ). Laid k bound.count out₁ out₂) at₂ laid₂)
-                    (subst (λ (k : ℕ). Laid k inner.count out₂ out') at₃ laid₃))
-                    close g₂,
-                closes.1,
-              )
+        inner : from reader text at ≡ from (rest (readers lower) count) text inside
+        inner =
+            bound
+            ∙ onward (opening room) _ text next tt inside opens.reads
+            ∙ ap (λ (v : ℕ). from (rest (beneath room) v) text inside) binds.holds.is
+            ∙ ap (λ (below : Readers). from (rest below count) text inside) (beneath_less room lower some₁ less)
+
+        -- its restriction was refused
+        pub quantifier_unrestricted :
+            (q : Refusal) (p : ℕ) → from ((readers lower).restriction count scope) text inside ≡ refused q p → from reader text at ≡ refused q p
+        quantifier_unrestricted q p e = inner ∙ halt ((readers lower).restriction count scope) _ text inside q p e
+
+        -- the restriction, and what stands behind it
+        module _
+            (table : Words) (level : ℕ) (handed known : State) (out mid : Words) (excluded end : ℕ)
+            (restricts :
+            Value ((readers lower).restriction count scope) (RestrictedTold table level scope count handed out mid excluded known) text inside end)
+          where
+            restricted : from reader text at ≡ from (R.◌>>=◌ sign λ _. behind-sign (readers lower) count restricts.what) text end
+            restricted = inner ∙ onward ((readers lower).restriction count scope) _ text inside restricts.what end restricts.reads.reads
+
+            pub quantifier_unsigned : (q : Refusal) (p : ℕ) → from sign text end ≡ refused q p → from reader text at ≡ refused q p
+            quantifier_unsigned q p e = restricted ∙ halt sign _ text end q p e
+
+            module _ (start : ℕ) (signs : Reads sign text end tt start) where
+              signed : from reader text at ≡ from (behind-sign (readers lower) count restricts.what) text start
+              signed = restricted ∙ onward sign _ text end tt start signs.reads
+
+              -- its body may begin
+              pub quantifier-body :
+                  (s between : State) (lower' : ℕ) →
+                  lower' ≡ room - 1 →
+                  Begins table text inside lower level (scope + count) handed →
+                  Introduced scope count s.words known between →
+                  Begins table text start lower' level (scope + count) between
+              quantifier-body s between lower' less' begins introduced =
+                  let told = restricts.holds.told in
+                  let asked : between.asked ≡ Passed → handed.asked ≡ Passed =
+                  λ p. sym restricts.holds.asked ∙ told.passes (sym introduced.asked ∙ p) in
+                  record {
+                    high = signs.high;
+                    levels = omega (arith, less, less', begins.levels);
+                    variables = omega (arith, less, less', begins.variables);
+                    ready = record {
+                      few = begins.ready.few;
+                      counted = omega (arith, introduced.words, told.counted);
+                      marks = ap length introduced.set ∙ told.marks;
+                      level = λ p. begins.ready.level (asked p);
+                      range = λ p. begins.ready.range (asked p);
+                    };
+                  }
+
+              module _ (lower' : ℕ) (less' : lower' ≡ room - 1) where
+                abbrev body : Reader Tree
+                body = (readers lower').operand (is_formula formula) (scope + count)
+
+                -- its body was refused
+                pub quantifier_bodiless : (q : Refusal) (p : ℕ) → from body text start ≡ refused q p → from reader text at ≡ refused q p
+                unfolding is_formula
+                quantifier_bodiless q p e =
+                    signed
+                    ∙ halt ((readers lower).operand true (scope + count)) _ text start q p
+                    (ap (λ (k : ℕ). from ((readers k).operand true (scope + count)) text start) (less ∙ sym less') ∙ e)
+
+                -- the body, and the closing parenthesis
+                pub quantifier-read :
+                    (role : Role) (above tag second third : ℕ) (s between r : State) (last out₁ out₂ out' : Words) (deep free : Bool)
+                    (marks : List Bool) (last-end : ℕ) (close : Step) →
+                    is_formula role ≡ true →
+                    level ≡ above + cost role (M.Tag.quantifier b) →
+                    deep ≡ leb level level_limit →
+                    free ≡ leb (scope + count) scope_limit →
+                    Entered 3 deep free marks s handed →
+                    Outer scope marks →
+                    Introduced scope count s.words known between →
+                    Value body (λ f. Told table f formula level (scope + count) between r mid last) text start last-end →
+                    tag ≡ cond b 8 9 →
+                    Laid s.words tag last out₁ →
+                    Laid second count out₁ out₂ →
+                    second ≡ s.words + 1 →
+                    Laid third excluded out₂ out' →
+                    third ≡ s.words + 2 →
+                    Steps (token (41 ∷ [])) text last-end close →
+                    Valued reader (λ t. Told table t role above scope s r out out') text at close
+                unfolding is_formula cost bytes
+                quantifier-read
+                    role above tag second third s between r last out₁ out₂ out' deep free marks last-end close kind costs is-deep is_free entered
+                    outer introduced reads tagged laid₁ laid₂ at₂ laid₃ at₃ closes =
+                    let (some, few) = quantifier-variables in
+                    let c = restricts.what in
+                    let Body : Tree → Type 0 = λ f. Told table f formula level (scope + count) between r mid last in
+                    let f =
+                    subst (λ (k : ℕ). Value ((readers k).operand true (scope + count)) Body text start last-end) (less' ∙ sym less) reads in
+                    closed_from reader (token (41 ∷ [])) (quantifier b count c.excluded c.restriction f.what)
+                    (λ t. Told table t role above scope s r out out') text at last-end
+                    (signed ∙ onward ((readers lower).operand true (scope + count)) _ text start f.what last-end f.reads.reads)
+                    (omega (arith, binds.reads.low, opens.low, restricts.reads.low, signs.low, f.reads.low))
+                    (told-quantifier table b count c f.what role above scope level excluded tag
+                    s handed known between r out mid last out₁ out₂ out' deep free marks
+                    kind costs some few is-deep is_free entered outer restricts.holds introduced f.holds tagged laid₁
+                    (subst (λ (k : ℕ). Laid k count out₁ out₂) at₂ laid₂)
+                    (subst (λ (k : ℕ). Laid k excluded out₂ out') at₃ laid₃))
+                    close closes

@@ -6,7 +6,7 @@ use mathlib.Core.Logic.{inl, ⊎_elim}
 use mathlib.Core.Bool.{Bool, true, false}
 use mathlib.Core.List.{List, [], ◌∷◌}
 use lib.ListN.{length, drop, get_or}
-use lib.Dec.{ltb}
+use lib.Dec.{ltb, eqb}
 use lib.IntN.{ℤ}
 use borrow.Author.Tests.{ltb-true, ltb-false}
 use Rattle.model.specs.Words.{Words}
@@ -25,26 +25,21 @@ use Rattle.model.specs.declared.Refusal.TheVariants.{Tptp}
 use Rattle.laws.specs.Words.Tests.{decide, clash, and_left}
 use Rattle.laws.specs.Tptp.Sound.Lists.{tuple-reads}
 use Rattle.laws.specs.Tptp.Sound.Policies.{item_sound}
-use Rattle.tptp_tokens.specs.Steps.{from, got, Skips, Reads, Steps, Value, Valued, Within, Behind}
+use Rattle.tptp_tokens.specs.Steps.{Step, from, got, Skips, Reads, Value, Valued}
 use Rattle.tptp_binders.specs.Ahead.{StopsAt, begins}
 use Rattle.tptp_tokens.specs.Laying.{most_words}
-use Rattle.tptp_binders.specs.Tuples.{StoredTuples, TuplesRead}
+use Rattle.tptp_binders.specs.Tuples.{StoredTuples}
 use Rattle.tptp_state.specs.Told.{Told}
-use Rattle.tptp_reading.specs.Formula.{Many, Begins, beneath, chained, exclusion, NodeRead, OperandRead, RestrictedTold, RestrictionRead}
-use Rattle.tptp_tokens.specs.declared.tokens.Step.{Step}
-use Rattle.tptp_tokens.specs.declared.tokens.Step.TheVariants.{At, Refused}
-use Rattle.tptp_binders.specs.declared.binder.Counted.{Counted}
+use Rattle.tptp_reading.specs.Formula.{Begins, beneath, chained, exclusion, RestrictedTold}
 use Rattle.tptp_state.specs.declared.state.State.{State}
-use Rattle.tptp_reading.specs.declared.policy.Came.{Came}
 use Rattle.tptp_tokens.proofs.TokenLaws.{over, onward, halt, given_then, closed_then, look-here, look-over, token-from}
 use Rattle.tptp_tokens.proofs.BehindLaws.{valued_from}
 use Rattle.tptp_tokens.proofs.UpTo.{skips_self}
-use Rattle.tptp_tokens.proofs.Going.{Goes, going_start, going_token, going_value, going_end}
 use Rattle.tptp_tokens.proofs.Strict.{excludes_strict}
-use Rattle.tptp_binders.proofs.AheadLaws.{behind_skip, begins-here, begins-over}
+use Rattle.tptp_binders.proofs.AheadLaws.{behind_skip}
 use Rattle.tptp_reading.proofs.AheadTrees.{operand-stopping, stopping-here}
 use Rattle.tptp_reading.proofs.MoreLaws.{more-later}
-use Rattle.tptp_reading.proofs.StopLaws.{skips, joining_strays, excluding_strays}
+use Rattle.tptp_reading.proofs.StopLaws.{begins-here, begins-over, skips, joining_strays, excluding_strays}
 use Rattle.tptp_reading.proofs.RoomLaws.{opening-room}
 use Rattle.tptp_reading.proofs.OperandLaws.{operand-is}
 
@@ -107,12 +102,11 @@ module _ (room v x : ℕ) (first : Tree) (one : Reader Tree) (t : Text) (p : ℕ
 
 -- behind the words of excluded tuples an operand may begin
 pub excluding-begins :
-    (table : Words) (text : Text) (at room level scope words n : ℕ) (s handed : State) →
+    (table : Words) (text : Text) (at room level scope words n : ℕ) (s : State) →
     Begins table text at room level scope s →
     words ≡ min n most_words →
-    handed ≡ record { words = words; asked = s.asked; moded = s.moded; set = s.set } →
-    Begins table text at room level scope handed
-excluding-begins table text at room level scope words n s handed b e is = subst (Begins table text at room level scope) (sym is) record {
+    Begins table text at room level scope (record { words = words; asked = s.asked; moded = s.moded; set = s.set })
+excluding-begins table text at room level scope words n s b e = record {
   high = b.high;
   levels = b.levels;
   variables = b.variables;
@@ -125,115 +119,105 @@ excluding-begins table text at room level scope words n s handed b e is = subst 
   };
 }
 
--- a restriction with excluded tuples, which were read before it
-module _
-    (text : Text) (at stop room x v : ℕ) (table : Words) (level : ℕ) (s : State) (out between out' : Words)
-    (listed : Counted) (first : Came) (words : ℕ) (handed : State)
-    (h : at ≤ length text) (some : 1 ≤ v)
-    (stops : StopsAt text at stop) (is : begins_excluding v (drop stop text) ≡ true)
-    (tuples : TuplesRead room v x s.words text stop out between listed)
-    (count : words ≡ min (s.words + v * listed.count) most_words)
-    (counted : handed ≡ record { words = words; asked = s.asked; moded = s.moded; set = s.set })
-    (read : OperandRead room table restriction level (x + v) handed between out' text at first)
-  where
-    abbrev one : Reader Tree
-    one = (readers room).operand (is_formula restriction) (x + v)
+-- a restriction with excluded tuples
+module _ (text : Text) (at stop room x v : ℕ) where
+  abbrev one : Reader Tree
+  one = (readers room).operand (is_formula restriction) (x + v)
 
-    abbrev Known : Tree → Type 0
-    Known c = Told table c restriction level (x + v) handed first.state between out'
+  abbrev tuple : Reader (List ℤ)
+  tuple = read_tuple room v x
 
-    -- the restriction was refused
-    pub excluding-refused :
-        {q : Refusal} {p : ℕ} → first.end ≡ Refused q p →
-        RestrictionRead (exclusion room v x) table level x v s out out' text at (record { came = first; count = 0 })
-    unfolding is_formula
-    excluding-refused {q} {p} e =
-        subst
-        (λ (r : Step). Valued (exclusion room v x) (RestrictedTold table level x v s out out' 0 first.state) text at r × Within text r)
-        (sym e)
-        (halt one _ text at q p (subst (Valued one Known text at) e read.0), tt)
+  abbrev ends : Restricted → Reader Restricted
+  ends r = token (bytes ")") >>= λ _. give r
 
-    module _ (behind i : ℕ) (e : first.end ≡ At behind) (skipped : Skips text behind i) where
-      abbrev value : Value one Known text at behind
-      value = subst (Valued one Known text at) e read.0
+  -- the restriction was refused
+  pub excluding-refused : (q : Refusal) (p : ℕ) → from one text at ≡ refused q p → from (exclusion room v x) text at ≡ refused q p
+  unfolding is_formula
+  excluding-refused q p e = halt one _ text at q p e
+
+  module _
+      {Known : Tree → Type 0} (behind i : ℕ) (value : Value one Known text at behind) (skipped : Skips text behind i)
+      (some : 1 ≤ v) (stops : StopsAt text at stop) (is : begins_excluding v (drop stop text) ≡ true)
+    where
+      abbrev c : Tree
+      c = value.what
 
       -- something else stands behind it
-      pub excluding-other :
-          (i ≡ stop → ⊥) → (r : State) →
-          RestrictionRead (exclusion room v x) table level x v s out out' text at
-          (record { came = record { end = Refused Tptp i; state = r }; count = 0 })
+      pub excluding-other : (i ≡ stop → ⊥) → from (exclusion room v x) text at ≡ refused Tptp i
       unfolding is_formula
-      excluding-other n r =
-          let c = value.what in (
-            onward one _ text at c behind value.reads.reads
-                ∙ halt (excluding (suc room) (readers room) c one v x) _ text behind Tptp i
-                (none-behind room v x c one (drop behind text) behind
-                (excluding_strays room false (x + v) text at behind stop i c stops value.reads.reads skipped n v)
-                ∙ halt (joining R.stop c one) _ text behind Tptp i
-                (joining_strays room false (x + v) text at behind stop i c stops value.reads.reads skipped n one)),
-            tt,
-          )
+      excluding-other n =
+          onward one _ text at c behind value.reads.reads
+          ∙ halt (excluding (suc room) (readers room) c one v x) _ text behind Tptp i
+          (none-behind room v x c one (drop behind text) behind
+          (excluding_strays room false (x + v) text at behind stop i c stops value.reads.reads skipped n v)
+          ∙ halt (joining R.stop c one) _ text behind Tptp i
+          (joining_strays room false (x + v) text at behind stop i c stops value.reads.reads skipped n one))
 
       -- the tuples stand behind it
-      pub excluding-read :
-          i ≡ stop → (close : Step) →
-          Behind (Steps (token (41 ∷ [])) text) listed.end close × Within text close →
-          RestrictionRead (exclusion room v x) table level x v s out out' text at
-          (record { came = record { end = close; state = first.state }; count = listed.count })
-      unfolding is_formula bytes
-      excluding-read same close closes =
-          let whole = exclusion room v x in
-          let tuple = read_tuple room v x in
-          let s' : Skips text behind stop = subst (Skips text behind) same skipped in
-          let g₁ = going_value whole text at _ one Known _ (At at) (At behind) (going_start whole text at h) value in
-          let g₂ = going_value whole text at _ (more ampersand tuple) (StoredTuples v s.words listed.count out between)
-          (λ y tuples. token (41 ∷ []) >>= λ _. give (with_tuples y.1 tuples)) (At stop) listed.end (moves s' g₁) tuples in
-          let g₃ = going_token whole text at _ (token (41 ∷ [])) _ listed.end close g₂ closes.0 in (
-            going_end whole text at _ (λ y. with_tuples y.0.1 y.1)
-                (RestrictedTold table level x v s out out' listed.count first.state)
-                (λ y f. record {
-                  number = f.1.number;
-                  size = f.1.size;
-                  handed = handed;
-                  between = between;
-                  words = ap (λ (h : State). h.words) counted ∙ count;
-                  asked = ap (λ (h : State). h.asked) counted;
-                  moded = ap (λ (h : State). h.moded) counted;
-                  set = ap (λ (h : State). h.set) counted;
-                  laid = f.1.laid;
-                  told = f.0.1;
-                })
-                close g₃,
-            closes.1,
-          )
-        where
-          moves :
-              Skips text behind stop →
-              Goes (exclusion room v x) (λ (y : Unit {0} × Tree). Unit {0} × Known y.1)
-              (λ y. excluding (suc room) (readers room) y.1 one v x >>= λ r. token (41 ∷ []) >>= λ _. give r) text at (At behind) →
-              Goes (exclusion room v x) (λ (y : Unit {0} × Tree). Unit {0} × Known y.1)
-              (λ y. more ampersand (read_tuple room v x) >>= λ tuples. token (41 ∷ []) >>= λ _. give (with_tuples y.1 tuples))
-              text at (At stop)
-          moves s' g =
-              let c = g.x.1 in
-              let tuple = read_tuple room v x in
-              let rest : Restricted → Reader Restricted = λ r. token (41 ∷ []) >>= λ _. give r in
-              let there = sym (excluding-blanks v (drop behind text)) ∙ ap (begins_excluding v) (behind_skip text behind stop s') ∙ is in
-              record {
-                x = g.x;
-                goes =
-                    g.goes
-                    ∙ same_then (excluding (suc room) (readers room) c one v x) (more ampersand tuple >>= λ tuples. give (with_tuples c tuples)) rest
-                    (drop behind text) (drop behind text) behind behind
-                    (tuples-behind room v x c one (drop behind text) behind there)
-                    ∙ given_then (more ampersand tuple) (with_tuples c) rest (drop behind text) behind
-                    ∙ same_then (more ampersand tuple) (more ampersand tuple) (λ tuples. rest (with_tuples c tuples))
-                    (drop behind text) (drop stop text) behind stop
-                    (more-later ampersand tuple (tuple_shortens room v x some) text behind stop s' (excluding-some v text stop is));
-                low = omega (arith, g.low, s'.low);
-                high = s'.high;
-                holds = g.holds;
-              }
+      module _ (same : i ≡ stop) where
+        there : Skips text behind stop
+        there = subst (Skips text behind) same skipped
+
+        goes : from (exclusion room v x) text at ≡ from (more ampersand tuple >>= λ tuples. ends (with_tuples c tuples)) text stop
+        unfolding is_formula
+        goes =
+            let begun = sym (excluding-blanks v (drop behind text)) ∙ ap (begins_excluding v) (behind_skip text behind stop there) ∙ is in
+            onward one (λ first. excluding (suc room) (readers room) first one v x >>= ends) text at c behind value.reads.reads
+            ∙ same_then (excluding (suc room) (readers room) c one v x) (more ampersand tuple >>= λ tuples. give (with_tuples c tuples)) ends
+            (drop behind text) (drop behind text) behind behind
+            (tuples-behind room v x c one (drop behind text) behind begun)
+            ∙ given_then (more ampersand tuple) (with_tuples c) ends (drop behind text) behind
+            ∙ same_then (more ampersand tuple) (more ampersand tuple) (λ tuples. ends (with_tuples c tuples))
+            (drop behind text) (drop stop text) behind stop
+            (more-later ampersand tuple (tuple_shortens room v x some) text behind stop there (excluding-some v text stop is))
+
+        -- they were refused
+        pub excluding_unlisted : (q : Refusal) (p : ℕ) → from (more ampersand tuple) text stop ≡ refused q p → from (exclusion room v x) text at ≡ refused q p
+        excluding_unlisted q p e = goes ∙ halt (more ampersand tuple) _ text stop q p e
+
+        module _ {Stored : List (List ℤ) → Type 0} (next : ℕ) (tuples : Value (more ampersand tuple) Stored text stop next) where
+          -- no closing parenthesis stands behind them
+          pub excluding_unclosed : (q : Refusal) (p : ℕ) → from (token (41 ∷ [])) text next ≡ refused q p → from (exclusion room v x) text at ≡ refused q p
+          unfolding bytes
+          excluding_unclosed q p e =
+              goes ∙ onward (more ampersand tuple) _ text stop tuples.what next tuples.reads.reads ∙ halt (token (41 ∷ [])) _ text next q p e
+
+          pub excluding-read :
+              {facts : Restricted → Type 0} (close : ℕ) → Reads (token (41 ∷ [])) text next tt close → facts (with_tuples c tuples.what) →
+              Value (exclusion room v x) facts text at close
+          unfolding bytes give
+          excluding-read close closes holds = record {
+            what = with_tuples c tuples.what;
+            reads = record {
+              low = omega (arith, value.reads.low, there.low, tuples.reads.low, closes.low);
+              high = closes.high;
+              reads =
+                  goes
+                  ∙ onward (more ampersand tuple) _ text stop tuples.what next tuples.reads.reads
+                  ∙ onward (token (41 ∷ [])) (λ _. give (with_tuples c tuples.what)) text next tt close closes.reads;
+            };
+            holds = holds;
+          }
+
+-- what is known behind it: the tuples were laid before it
+pub excluding-told :
+    (table : Words) (level x v : ℕ) (s : State) (out between out' : Words) (n words : ℕ) (c : Tree) (tuples : List (List ℤ)) (last : State) →
+    StoredTuples v s.words n out between tuples →
+    words ≡ min (s.words + v * n) most_words →
+    Told table c restriction level (x + v) (record { words = words; asked = s.asked; moded = s.moded; set = s.set }) last between out' →
+    RestrictedTold table level x v s out out' n last (with_tuples c tuples)
+excluding-told table level x v s out between out' n words c tuples last stored count told = record {
+  number = stored.number;
+  size = stored.size;
+  handed = record { words = words; asked = s.asked; moded = s.moded; set = s.set };
+  between = between;
+  words = count;
+  asked = refl;
+  moded = refl;
+  set = refl;
+  laid = stored.laid;
+  told = told;
+}
 
 -- the reading of a restriction in room for so many parentheses
 restriction_as : (room v x : ℕ) → (readers room).restriction v x ≡ read_restriction room (beneath room) v x
@@ -377,14 +361,12 @@ chained_same text at stop room v x stops none = go (from one text at) refl
 
 -- behind its parenthesis there is room for one less
 pub restricted-begins :
-    (table : Words) (text : Text) (at room level scope lower inside : ℕ) (s : State) (entry : Step) →
+    (table : Words) (text : Text) (at room level scope lower inside : ℕ) (s : State) →
     Begins table text at room level scope s →
-    Steps (opening room) text at entry →
-    entry ≡ At inside →
+    Reads (opening room) text at tt inside →
     lower ≡ room - 1 →
     (lower < room) × Begins table text inside lower level scope s × (level + 1 + 2 * lower ≤ 600)
-restricted-begins table text at room level scope lower inside s entry b opens e less =
-    let reads = subst (Steps (opening room) text at) e opens in
+restricted-begins table text at room level scope lower inside s b reads less =
     let some = opening-room room text at inside reads.reads in (
       omega (arith, some),
       record {
@@ -397,86 +379,89 @@ restricted-begins table text at room level scope lower inside s entry b opens e 
     )
 
 -- a restriction with no excluded tuples
-module _ (table : Words) (level x v : ℕ) (s : State) (out out' : Words) (few : s.words ≤ most_words) (text : Text) where
-  plain-told : (one : Reader Tree) (at : ℕ) (r : Came) → at ≤ length text →
-      Valued one (λ c. Told table c restriction level (x + v) s r.state out out') text at r.end →
-      Valued (one >>= λ c. give (with_tuples c [])) (RestrictedTold table level x v s out out' 0 r.state) text at r.end
-  unfolding gather
-  plain-told one at r h t =
-      let whole : Reader Restricted = one >>= λ c. give (with_tuples c []) in
-      let Known : Tree → Type 0 = λ c. Told table c restriction level (x + v) s r.state out out' in
-      let g = going_value whole text at _ one Known _ (At at) r.end (going_start whole text at h) t in
-      going_end whole text at _ (λ y. with_tuples y.1 []) (RestrictedTold table level x v s out out' 0 r.state)
-      (λ y f. record {
-        number = refl;
-        size = omega arith;
-        handed = s;
-        between = out;
-        words = omega arith;
-        asked = refl;
-        moded = refl;
-        set = refl;
-        laid = λ _. refl;
-        told = f.1;
-      })
-      r.end g
+pub plain-told :
+    (table : Words) (level x v : ℕ) (s : State) (out out' : Words) (c : Tree) (last : State) → s.words ≤ most_words →
+    Told table c restriction level (x + v) s last out out' →
+    RestrictedTold table level x v s out out' 0 last (with_tuples c [])
+unfolding gather
+plain-told table level x v s out out' c last few told = record {
+  number = refl;
+  size = omega arith;
+  handed = s;
+  between = out;
+  words = omega arith;
+  asked = refl;
+  moded = refl;
+  set = refl;
+  laid = λ _. refl;
+  told = told;
+}
+
+module _ (text : Text) (v x : ℕ) where
+  plain-read :
+      (whole : Reader Restricted) (one : Reader Tree) (at j : ℕ) → from whole text at ≡ from (one >>= λ c. give (with_tuples c [])) text j → at ≤ j →
+      {facts : Tree → Type 0} {told : Restricted → Type 0} (next : ℕ) → Value one facts text j next →
+      ((c : Tree) → facts c → told (with_tuples c [])) →
+      Value whole told text at next
+  unfolding give
+  plain-read whole one at j e l next value h = record {
+    what = with_tuples value.what [];
+    reads = record {
+      low = omega (arith, value.reads.low);
+      high = value.reads.high;
+      reads = e ∙ onward one (λ c. give (with_tuples c [])) text j value.what next value.reads.reads;
+    };
+    holds = h value.what value.holds;
+  }
 
   module _ (at room : ℕ) (h : at ≤ length text) where
+    abbrev restricts : Reader Restricted
+    restricts = (readers room).restriction v x
+
     -- an operand
-    pub restricted-alone :
-        (r : Came) → begins 40 (drop at text) ≡ false →
-        OperandRead room table restriction level (x + v) s out out' text at r →
-        RestrictionRead ((readers room).restriction v x) table level x v s out out' text at (record { came = r; count = 0 })
-    unfolding is_formula
-    restricted-alone r none read = (
-      valued_from ((readers room).restriction v x) ((readers room).operand false (x + v) >>= λ c. give (with_tuples c []))
-          (RestrictedTold table level x v s out out' 0 r.state) text at at (alone-same text at room v x h none) (omega arith) r.end
-          (plain-told ((readers room).operand false (x + v)) at r h read.0),
-      read.1,
-    )
+    module _ (none : begins 40 (drop at text) ≡ false) where
+      abbrev single : Reader Tree
+      single = (readers room).operand (is_formula restriction) (x + v)
+
+      pub alone-refused : (q : Refusal) (p : ℕ) → from single text at ≡ refused q p → from restricts text at ≡ refused q p
+      unfolding is_formula
+      alone-refused q p e = alone-same text at room v x h none ∙ halt single _ text at q p e
+
+      pub restricted-alone :
+          {facts : Tree → Type 0} {told : Restricted → Type 0} (next : ℕ) → Value single facts text at next →
+          ((c : Tree) → facts c → told (with_tuples c [])) →
+          Value restricts told text at next
+      unfolding is_formula
+      restricted-alone next value = plain-read restricts single at at (alone-same text at room v x h none) (omega arith) next value
 
     -- its parenthesis is refused, or opens
-    module _ (is : begins 40 (drop at text) ≡ true) (entry : Step) (opens : Steps (opening room) text at entry) where
-      pub restricted-refused :
-          {q : Refusal} {p : ℕ} → entry ≡ Refused q p →
-          RestrictionRead ((readers room).restriction v x) table level x v s out out' text at
-          (record { came = record { end = entry; state = s }; count = 0 })
-      restricted-refused {q} {p} e =
-          subst
-          (λ (r : Step). Valued ((readers room).restriction v x) (RestrictedTold table level x v s out out' 0 s) text at r × Within text r)
-          (sym e)
-          (opens_same text at room v x h is ∙ halt (opening room) _ text at q p (subst (Steps (opening room) text at) e opens), tt)
+    module _ (is : begins 40 (drop at text) ≡ true) where
+      pub restricted-refused : (q : Refusal) (p : ℕ) → from (opening room) text at ≡ refused q p → from restricts text at ≡ refused q p
+      restricted-refused q p e = opens_same text at room v x h is ∙ halt (opening room) _ text at q p e
 
-      module _ (lower inside stop : ℕ) (e : entry ≡ At inside) (less : lower ≡ room - 1) where
-        abbrev open_read : Reads (opening room) text at tt inside
-        open_read = subst (Steps (opening room) text at) e opens
-
-        inner : from ((readers room).restriction v x) text at ≡ from (exclusion lower v x) text inside
-        inner = opened_inside text at room lower v x inside h is less open_read.reads
+      module _ (lower inside : ℕ) (opens : Reads (opening room) text at tt inside) (less : lower ≡ room - 1) where
+        inner : from restricts text at ≡ from (exclusion lower v x) text inside
+        inner = opened_inside text at room lower v x inside h is less opens.reads
 
         -- with excluded tuples
         pub restricted-excluding :
-            (r : Many) → RestrictionRead (exclusion lower v x) table level x v s out out' text inside r →
-            RestrictionRead ((readers room).restriction v x) table level x v s out out' text at r
-        restricted-excluding r read = (
-          valued_from ((readers room).restriction v x) (exclusion lower v x)
-              (RestrictedTold table level x v s out out' r.count r.came.state) text at inside
-              inner open_read.low r.came.end read.0,
-          read.1,
-        )
+            (told : Restricted → Type 0) (r : Step) → Valued (exclusion lower v x) told text inside r → Valued restricts told text at r
+        restricted-excluding told = valued_from restricts (exclusion lower v x) told text at inside inner opens.low
 
         -- an all-of or any-of
-        pub restricted-chain :
-            (r : Came) → StopsAt text inside stop → begins_excluding v (drop stop text) ≡ false →
-            NodeRead (chained ((readers lower).operand (is_formula restriction) (x + v))) table restriction level (x + v) s out out'
-            text inside r →
-            RestrictionRead ((readers room).restriction v x) table level x v s out out' text at (record { came = r; count = 0 })
-        unfolding is_formula
-        restricted-chain r stops none read =
-            let one = chained ((readers lower).operand false (x + v)) in (
-              valued_from ((readers room).restriction v x) (one >>= λ c. give (with_tuples c []))
-                  (RestrictedTold table level x v s out out' 0 r.state) text at inside
-                  (inner ∙ chained_same text inside stop lower v x stops none) open_read.low r.end
-                  (plain-told one inside r open_read.high read.0),
-              read.1,
-            )
+        module _ (stop : ℕ) (stops : StopsAt text inside stop) (none : begins_excluding v (drop stop text) ≡ false) where
+          abbrev joint : Reader Tree
+          joint = chained ((readers lower).operand (is_formula restriction) (x + v))
+
+          as_joint : from restricts text at ≡ from (joint >>= λ c. give (with_tuples c [])) text inside
+          unfolding is_formula
+          as_joint = inner ∙ chained_same text inside stop lower v x stops none
+
+          pub joint-refused : (q : Refusal) (p : ℕ) → from joint text inside ≡ refused q p → from restricts text at ≡ refused q p
+          joint-refused q p e = as_joint ∙ halt joint _ text inside q p e
+
+          pub restricted-chain :
+              {facts : Tree → Type 0} {told : Restricted → Type 0} (next : ℕ) → Value joint facts text inside next →
+              ((c : Tree) → facts c → told (with_tuples c [])) →
+              Value restricts told text at next
+          restricted-chain next value = plain-read restricts joint at inside as_joint opens.low next value

@@ -11,9 +11,7 @@ use Rattle.model.specs.TptpReading.{Got, Reader, stop, look, opening, onwards, r
 use Rattle.model.specs.declared.Refusal.TheVariants.{Level}
 use Rattle.laws.specs.Answer.{refused-passed}
 use Rattle.laws.specs.Words.Tests.{decide}
-use Rattle.tptp_tokens.specs.Steps.{from, got, Steps, Behind}
-use Rattle.tptp_tokens.specs.declared.tokens.Step.{Step}
-use Rattle.tptp_tokens.specs.declared.tokens.Step.TheVariants.{At, Refused}
+use Rattle.tptp_tokens.specs.Steps.{from, got}
 use Rattle.tptp_reading.specs.Formula.{beneath}
 
 -- a parenthesis was opened
@@ -31,12 +29,6 @@ opening-room zero text at next e = refuses (from look text at) e
     refuses (passed g) f =
         ⊎_elim (λ k. refused-passed (rw k at f)) (λ k. refused-passed (rw k at f)) (decide (eqb g.what parenthesis))
 opening-room (suc room) text at next e = omega arith
-
--- behind something else
-pub behind-room : (room : ℕ) (text : Text) (s r : Step) (inside : ℕ) → Behind (Steps (opening room) text) s r → r ≡ At inside → 1 ≤ room
-behind-room room text (At n) r inside b e = opening-room room text n inside (subst (Steps (opening room) text n) e b).reads
-behind-room room text (Refused q p) r inside b e =
-    absurd (let same : Refused q p ≡ At inside = sym b ∙ e in let z : ◌≡◌ {A = ℕ} 0 1 = cc in omega arith)
 
 -- what is read behind it
 pub beneath_less : (room lower : ℕ) → 1 ≤ room → lower ≡ room - 1 → beneath room ≡ readers lower

@@ -4,7 +4,7 @@ use native.Mathlib.Numerals.{add-one}
 use native.Mathlib.Omega.{arith}
 use mathlib.Core.Path.{◌≡◌, sym, ap, subst, ◌∙◌}
 use mathlib.Core.Bool.{Bool, true, false, not, ◌&&◌}
-use mathlib.Core.List.{List}
+use mathlib.Core.List.{List, [], ◌∷◌}
 use lib.ListN.{length, drop, set, get_or}
 use lib.Seq.{sets}
 use lib.Dec.{ltb, eqb}
@@ -12,7 +12,7 @@ use lib.IntN.{pos}
 use borrow.Author.Tests.{ltb-true}
 use Rattle.model.specs.Words.{Words, scope_limit, level_limit}
 use Rattle.model.specs.Bytes.{Text, bytes, blank, interrogation}
-use Rattle.model.specs.Answer.{Outcome, passed, ask, ◌>>=◌}
+use Rattle.model.specs.Answer.{Outcome, passed, refused, ask, ◌>>=◌}
 use Rattle.model.specs.Tree.{Tree, some, encode}
 use Rattle.model.specs.Level.{restriction}
 use Rattle.model.specs.Reading.{is_formula}
@@ -24,24 +24,17 @@ use Rattle.model.specs.declared.Refusal.TheVariants.{Level, Variable, Mode}
 use Rattle.laws.specs.Answer.{ask-passed, then_passed, then_both, then_assoc}
 use Rattle.laws.specs.Reading.Trees.{ask_tree}
 use Rattle.tables.specs.Checked.{outcome}
-use Rattle.tables.specs.declared.Checked.TheVariants.{Passed}
-use Rattle.modes.specs.Mode.{told}
-use Rattle.tptp_tokens.specs.Steps.{from, Steps, Valued, Within, Behind}
-use Rattle.tptp_binders.specs.Binder.{IsCount, BinderRead}
+use Rattle.tptp_tokens.specs.Steps.{from, Reads, Value}
+use Rattle.tptp_binders.specs.Binder.{IsCount}
 use Rattle.tptp_tokens.specs.Laying.{Laid}
-use Rattle.tptp_state.specs.Told.{Ready, Told, Entered, Dropped}
-use Rattle.tptp_reading.specs.Formula.{Begins, beneath, closed, NodeRead}
-use Rattle.tptp_tokens.specs.declared.tokens.Step.{Step}
-use Rattle.tptp_tokens.specs.declared.tokens.Step.TheVariants.{At, Refused}
-use Rattle.tptp_binders.specs.declared.binder.Counted.{Counted}
+use Rattle.tptp_state.specs.Told.{Passed, told, Ready, Told, Entered, Dropped}
+use Rattle.tptp_reading.specs.Formula.{Begins, beneath, closed}
 use Rattle.tptp_state.specs.declared.state.State.{State}
-use Rattle.tptp_reading.specs.declared.policy.Came.{Came}
-use Rattle.tptp_tokens.proofs.TokenLaws.{closed_then, token-here}
-use Rattle.tptp_tokens.proofs.Going.{Goes, going_start, going_token, going_value, goes_as, going_end}
+use Rattle.tptp_tokens.proofs.TokenLaws.{onward, halt, closed_then, token-here}
 use Rattle.tptp_state.proofs.StateLaws.{asked-passed}
 use Rattle.tptp_tokens.proofs.LayingLaws.{laid_one}
 use Rattle.tptp_reading.proofs.StopLaws.{skips_here}
-use Rattle.tptp_reading.proofs.RoomLaws.{behind-room, beneath_less}
+use Rattle.tptp_reading.proofs.RoomLaws.{opening-room, beneath_less}
 
 -- behind the first words of a node: both questions at it passed
 pub entered_passed :
@@ -128,88 +121,92 @@ module _
             ∙ rw (start, deep, free, add-one above, add-one scope)
 
 -- a "some" is read up to its child
-module _
-    (text : Text) (at room scope : ℕ) (h : at < length text) (byte : get_or text at 0 ≡ interrogation)
-    (bound : Counted) (binds : BinderRead 0 scope text (at + 1) bound)
-    (entry : Step) (opens : Behind (Steps (opening room) text) bound.end entry)
-  where
-    abbrev reader : Reader Tree
-    reader = read_some room (beneath room) scope
+module _ (text : Text) (at room scope : ℕ) (h : at < length text) (byte : get_or text at 0 ≡ interrogation) where
+  abbrev reader : Reader Tree
+  reader = read_some room (beneath room) scope
 
-    abbrev Bound : (Unit {0} × ℕ) → Type 0
-    Bound y = Unit {0} × IsCount 0 bound.count y.1
+  mark : Reads (token (interrogation ∷ [])) text at tt (at + 1)
+  unfolding blank
+  mark = token-here text at at (skips_here text at h (rw byte)) interrogation h byte
 
-    abbrev behind : (Unit {0} × ℕ) → Reader Tree
-    behind y = R.◌>>=◌ (R.whole ((beneath room).operand false (scope + 1))) λ c. R.◌>>=◌ (token (bytes ")")) λ _. give (some c)
+  -- its binder was refused
+  pub some_unbound : (q : Refusal) (p : ℕ) → from (read_binder 0 scope) text (at + 1) ≡ refused q p → from reader text at ≡ refused q p
+  unfolding read_some bytes
+  some_unbound q p e =
+      onward (token (interrogation ∷ [])) _ text at tt (at + 1) mark.reads ∙ halt (read_binder 0 scope) _ text (at + 1) q p e
 
-    opened : Goes reader Bound behind text at entry
-    unfolding read_some bytes blank
-    opened =
-        let mark = token-here text at at (skips_here text at h (rw byte)) interrogation h byte in
-        let g₁ = going_token reader text at _ (token (bytes "?")) _ (At at) (At (at + 1)) (going_start reader text at (omega arith)) mark in
-        let g₂ = going_value reader text at _ (read_binder 0 scope) (IsCount 0 bound.count) _ (At (at + 1)) bound.end g₁ binds.0 in
-        going_token reader text at _ (opening room) _ bound.end entry g₂ opens
+  module _ (count next : ℕ) (binds : Value (read_binder 0 scope) (IsCount 0 count) text (at + 1) next) where
+    bound : from reader text at ≡ from
+        (R.◌>>=◌ (opening room) λ _. R.◌>>=◌ (R.whole ((beneath room).operand false (scope + 1))) λ c. R.◌>>=◌ (token (bytes ")")) λ _. give (some c)) text next
+    unfolding read_some bytes
+    bound =
+        onward (token (interrogation ∷ [])) _ text at tt (at + 1) mark.reads
+        ∙ onward (read_binder 0 scope) _ text (at + 1) binds.what next binds.reads.reads
 
-    -- its child may begin
-    pub some-begins :
-        (table : Words) (above lower inside : ℕ) (deep free : Bool) (s handed : State) →
-        Begins table text at room above scope s →
-        entry ≡ At inside →
-        Within text entry →
-        lower ≡ room - 1 →
-        deep ≡ ltb above level_limit →
-        free ≡ ltb scope scope_limit →
-        Entered 1 deep free s.set s handed →
-        (5 * lower + 4 < 5 * room) × Begins table text inside lower (above + 1) (scope + 1) handed × (above + 1 + 1 + 2 * lower ≤ 600)
-    some-begins table above lower inside deep free s handed begins e within less is-deep is_free entered =
-        let some₁ = behind-room room text bound.end entry inside opens e in (
-          omega (arith, some₁),
-          record {
-            high = subst (Within text) e within;
-            levels = omega (arith, some₁, begins.levels);
-            variables = omega (arith, some₁, begins.variables);
-            ready =
-                entered_ready table 1 deep free s.set s handed above scope (above + 1) (scope + 1) begins.ready entered begins.ready.marks
-                (λ is. omega (arith, ltb-true above level_limit (sym is-deep ∙ is)))
-                (λ is. omega (arith, ltb-true scope scope_limit (sym is_free ∙ is)));
-          },
-          omega (arith, some₁, begins.levels),
-        )
+    -- its parenthesis was refused
+    pub some-refused : (q : Refusal) (p : ℕ) → from (opening room) text next ≡ refused q p → from reader text at ≡ refused q p
+    some-refused q p e = bound ∙ halt (opening room) _ text next q p e
 
-    module _ (table : Words) (above : ℕ) (s : State) (out out' : Words) where
-      pub some-refused :
-          {q : Refusal} {p : ℕ} → entry ≡ Refused q p →
-          NodeRead reader table restriction above scope s out out' text at (record { end = entry; state = s })
-      some-refused e =
-          subst (λ (x : Step). Valued reader (λ t. Told table t restriction above scope s s out out') text at x × Within text x) (sym e)
-          (subst (Goes reader Bound behind text at) e opened, tt)
+    module _ (inside : ℕ) (opens : Reads (opening room) text next tt inside) where
+      some₁ : 1 ≤ room
+      some₁ = opening-room room text next inside opens.reads
 
-      pub some_read :
-          (lower inside : ℕ) (level range : Bool) (handed : State) (child : Came) (mid : Words) (r : State) →
-          entry ≡ At inside →
+      -- its child may begin
+      pub some-begins :
+          (table : Words) (above lower : ℕ) (deep free : Bool) (s handed : State) →
+          Begins table text at room above scope s →
           lower ≡ room - 1 →
-          level ≡ ltb above level_limit →
-          range ≡ ltb scope scope_limit →
-          Entered 1 level range s.set s handed →
-          NodeRead (closed ((readers lower).operand (is_formula restriction) (scope + 1))) table restriction (above + 1) (scope + 1) handed out mid
-          text inside child →
-          Laid s.words 10 mid out' →
-          Dropped scope s.words child.state r →
-          NodeRead reader table restriction above scope s out out' text at (record { end = child.end; state = r })
-      unfolding is_formula
-      some_read lower inside level range handed child mid r e less deep free entered reads laid dropped =
-          let below = beneath_less room lower (behind-room room text bound.end entry inside opens e) less in
-          let one = closed ((readers lower).operand false (scope + 1)) in
-          let g₁ = goes_as reader text at Bound behind (λ y. R.◌>>=◌ one λ c. give (some c)) (At inside)
-          (λ y known n.
-          ap (λ (b : Readers). from (R.◌>>=◌ (R.whole (b.operand false (scope + 1))) λ c. R.◌>>=◌ (token (bytes ")")) λ _. give (some c)) text n)
-          below
-          ∙ closed_then (R.whole ((readers lower).operand false (scope + 1))) (bytes ")") (λ c. give (some c)) (drop n text) n)
-          (subst (Goes reader Bound behind text at) e opened) in
-          let Below : Tree → Type 0 = λ c. Told table c restriction (above + 1) (scope + 1) handed child.state out mid in
-          let g₂ = going_value reader text at Bound one Below _ (At inside) child.end g₁ reads.0 in (
-            going_end reader text at _ (λ y. some y.1) (λ t. Told table t restriction above scope s r out out')
-                (λ y f. told-some table y.1 above scope s handed child.state r out mid out' level range deep free entered f.1 laid dropped)
-                child.end g₂,
-            reads.1,
-          )
+          deep ≡ ltb above level_limit →
+          free ≡ ltb scope scope_limit →
+          Entered 1 deep free s.set s handed →
+          (5 * lower + 4 < 5 * room) × Begins table text inside lower (above + 1) (scope + 1) handed × (above + 1 + 1 + 2 * lower ≤ 600)
+      some-begins table above lower deep free s handed begins less is-deep is_free entered = (
+        omega (arith, some₁),
+        record {
+          high = opens.high;
+          levels = omega (arith, some₁, begins.levels);
+          variables = omega (arith, some₁, begins.variables);
+          ready =
+              entered_ready table 1 deep free s.set s handed above scope (above + 1) (scope + 1) begins.ready entered begins.ready.marks
+              (λ is. omega (arith, ltb-true above level_limit (sym is-deep ∙ is)))
+              (λ is. omega (arith, ltb-true scope scope_limit (sym is_free ∙ is)));
+        },
+        omega (arith, some₁, begins.levels),
+      )
+
+      module _ (lower : ℕ) (less : lower ≡ room - 1) where
+        abbrev child : Reader Tree
+        child = closed ((readers lower).operand (is_formula restriction) (scope + 1))
+
+        goes : from reader text at ≡ from (R.◌>>=◌ child λ c. give (some c)) text inside
+        unfolding is_formula
+        goes =
+            bound
+            ∙ onward (opening room) _ text next tt inside opens.reads
+            ∙ ap (λ (b : Readers). from (R.◌>>=◌ (R.whole (b.operand false (scope + 1))) λ c. R.◌>>=◌ (token (bytes ")")) λ _. give (some c)) text inside)
+            (beneath_less room lower some₁ less)
+            ∙ closed_then (R.whole ((readers lower).operand false (scope + 1))) (bytes ")") (λ c. give (some c)) (drop inside text) inside
+
+        -- its child was refused
+        pub some_childless : (q : Refusal) (p : ℕ) → from child text inside ≡ refused q p → from reader text at ≡ refused q p
+        some_childless q p e = goes ∙ halt child _ text inside q p e
+
+        pub some_read :
+            (table : Words) (above : ℕ) (s handed known r : State) (out mid out' : Words) (level range : Bool) (end : ℕ) →
+            level ≡ ltb above level_limit →
+            range ≡ ltb scope scope_limit →
+            Entered 1 level range s.set s handed →
+            Value child (λ c. Told table c restriction (above + 1) (scope + 1) handed known out mid) text inside end →
+            Laid s.words 10 mid out' →
+            Dropped scope s.words known r →
+            Value reader (λ t. Told table t restriction above scope s r out out') text at end
+        unfolding give
+        some_read table above s handed known r out mid out' level range end deep free entered below laid dropped = record {
+          what = some below.what;
+          reads = record {
+            low = omega (arith, binds.reads.low, opens.low, below.reads.low);
+            high = below.reads.high;
+            reads = goes ∙ onward child (λ c. give (some c)) text inside below.what end below.reads.reads;
+          };
+          holds = told-some table below.what above scope s handed known r out mid out' level range deep free entered below.holds laid dropped;
+        }

@@ -6,20 +6,29 @@ use mathlib.Core.Path.{◌≡◌, refl, sym, ap, ◌∙◌}
 use mathlib.Core.Logic.{◌⊎◌, inl, inr, ⊎_elim}
 use mathlib.Core.Bool.{Bool, false}
 use lib.ListN.{length, drop, get_or, length-drop}
-use lib.Dec.{ltb}
+use lib.Dec.{ltb, eqb}
 use borrow.Author.Tests.{eq-eqb, ne_eqb, ltb-true, ltb-false}
 use Rattle.model.specs.Bytes.{Text, blank}
 use Rattle.model.specs.Answer.{refused}
 use Rattle.model.specs.Tree.{Tree}
 use Rattle.model.specs.TptpReading as R
-use Rattle.model.specs.TptpReading.{Reader, look, joining, readers, begins_excluding}
+use Rattle.model.specs.TptpReading.{Reader, look, joining, readers, begins_with, begins_excluding}
 use Rattle.model.specs.declared.Refusal.TheVariants.{Tptp}
 use Rattle.laws.specs.Words.Tests.{decide}
 use Rattle.tptp_tokens.specs.Steps.{from, got, Skips}
 use Rattle.tptp_binders.specs.Ahead.{StopsAt, begins}
-use Rattle.tptp_tokens.proofs.TokenLaws.{onward, halt, look-here, look-over, skip_more, skip_stop, skip_end}
-use Rattle.tptp_binders.proofs.AheadLaws.{behind_skip, begins-here, excluding-over, excluding-other}
+use Rattle.tptp_tokens.proofs.TokenLaws.{here, over, onward, halt, look-here, look-over, skip_more, skip_stop, skip_end}
+use Rattle.tptp_binders.proofs.AheadLaws.{behind_skip, begins-at, excluding-other}
 use Rattle.tptp_reading.proofs.AheadTrees.{operand-stopping, stopping-here}
+
+-- the first byte behind blanks, or none
+pub begins-here : (text : Text) (at i : ℕ) → Skips text at i → (c : ℕ) → i < length text → eqb (get_or text i 0) c ≡ begins c (drop at text)
+unfolding begins_with
+begins-here text at i s c h = ap (begins_with c) (sym (here text i h)) ∙ begins-at text at i s c
+
+pub begins-over : (text : Text) (at i : ℕ) → Skips text at i → (c : ℕ) → length text ≤ i → false ≡ begins c (drop at text)
+unfolding begins_with
+begins-over text at i s c h = ap (begins_with c) (sym (over text i h)) ∙ begins-at text at i s c
 
 -- no blank stands where another byte does
 pub skips_here : (text : Text) (at : ℕ) → at < length text → blank (get_or text at 0) ≡ false → Skips text at at
@@ -28,7 +37,7 @@ skips_here text at h e = record { low = omega arith; high = omega arith; reads =
 -- there is a first index where no blank stands
 skips_within : (n : ℕ) (text : Text) (at : ℕ) → length text ≤ n + at → at ≤ length text → (i : ℕ) × Skips text at i
 skips_within zero text at h l =
-    (at, record { low = omega arith; high = l; reads = skip_end text at (omega arith); stop = λ k. absurd (omega arith) })
+    (length text, record { low = l; high = omega arith; reads = skip_end text at (omega arith); stop = λ k. absurd (omega arith) })
 skips_within (suc n) text at h l =
     ⊎_elim
     (λ k.
@@ -41,7 +50,7 @@ skips_within (suc n) text at h l =
     (decide (blank (get_or text at 0))))
     (λ k.
     let end = ltb-false at (length text) k in
-    (at, record { low = omega arith; high = l; reads = skip_end text at end; stop = λ i. absurd (omega (arith, end, i)) }))
+    (length text, record { low = l; high = omega arith; reads = skip_end text at (omega (arith, end, l)); stop = λ i. absurd (omega (arith, i)) }))
     (decide (ltb at (length text)))
 
 pub skips : (text : Text) (at : ℕ) → at ≤ length text → (i : ℕ) × Skips text at i
@@ -93,11 +102,15 @@ module _
         (decide (ltb i (length text)))
 
     -- and no excluded tuples begin there
-    pub excluding_strays : (v : ℕ) → begins_excluding v (drop behind text) ≡ false
-    excluding_strays v =
+    no_connective : begins_with 38 (drop i text) ≡ false
+    unfolding begins_with
+    no_connective =
         ⊎_elim
         (λ k.
         let h = ltb-true i (length text) k in
-        sym (excluding-other text behind i s v h (no_stop 38 (inl refl) h)))
-        (λ k. sym (excluding-over text behind i s v (ltb-false i (length text) k)))
+        ap (begins_with 38) (here text i h) ∙ ne_eqb (get_or text i 0) 38 (no_stop 38 (inl refl) h))
+        (λ k. ap (begins_with 38) (over text i (ltb-false i (length text) k)))
         (decide (ltb i (length text)))
+
+    pub excluding_strays : (v : ℕ) → begins_excluding v (drop behind text) ≡ false
+    excluding_strays v = sym (excluding-other text behind i s v (begins_with 38 (drop i text)) refl no_connective) ∙ no_connective

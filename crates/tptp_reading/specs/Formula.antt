@@ -1,5 +1,5 @@
 -- What the reading of formulas and restrictions comes to.
-use Rattle.std.specs.Prelude.{ℕ, zero, suc, ◌+◌, ◌*◌, ◌≤◌, min, ◌≡◌, Bool, true, false, cond, ◌&&◌, List, length, eqb}
+use Rattle.std.specs.Prelude.{ℕ, zero, suc, ◌+◌, ◌*◌, ◌≤◌, min, ◌≡◌, Bool, true, false, cond, ◌&&◌, List, length, eqb, Result, Ok, Err}
 use Rattle.std.proofs.lemmas.List.Edits.{sets}
 use Rattle.model.specs.Words.{Words, policy_limit}
 use Rattle.model.specs.Lists.{gather}
@@ -13,27 +13,33 @@ use Rattle.model.specs.TptpReading as R
 use Rattle.model.specs.TptpReading.{Reader, Readers, give, stop, token, more, trees, joining, excluding, no_readers, readers}
 use Rattle.laws.specs.Reading.Trees.{ask_trees}
 use Rattle.tables.specs.Checked.{outcome}
-use Rattle.tables.specs.declared.Checked.TheVariants.{Passed}
-use Rattle.modes.specs.Mode.{told}
-use Rattle.tptp_tokens.specs.Steps.{Valued, Within}
+use Rattle.tptp_tokens.specs.Steps.{Step, Valued}
 use Rattle.tptp_tokens.specs.Laying.{most_words}
-use Rattle.tptp_state.specs.Told.{Ready, Told}
-use Rattle.tptp_state.specs.Known.{state_of}
+use Rattle.tptp_state.specs.Told.{Passed, told, Ready, Told}
 use Rattle.tptp_state.specs.declared.state.State.{State}
-use Rattle.tptp_tokens.specs.declared.tokens.Step.{Step}
+use Rattle.model.specs.declared.Refused.{Refused}
 use Rattle.tptp_binders.specs.declared.binder.Counted.{Counted}
-use Rattle.tptp_reading.specs.declared.policy.Came.{Came}
 
--- what comes of a node, with what two arrays say; and of several, how many they are, or how many excluded tuples a restriction has
+-- what comes of a node, the index behind it or a refusal, with what is known then; and of several, how many they are, or how many
+-- excluded tuples a restriction has
+pub record Came : Type 0 where
+  pub end : Step
+  pub state : State
+
 pub record Many : Type 0 where
   pub came : Came
   pub count : ℕ
 
-abbrev pub came : (end : Step) (known : List ℕ) (marks : List Bool) → Came
-came end known marks = record { end = end; state = state_of known marks }
+abbrev pub came : (end : Step) (state : State) → Came
+came end state = record { end = end; state = state }
 
-abbrev pub many : (r : Counted) (known : List ℕ) (marks : List Bool) → Many
-many r known marks = record { came = came r.end known marks; count = r.count }
+abbrev pub count_of : (listed : Result Counted Refused) → ℕ
+count_of (Ok c) = c.count
+count_of (Err e) = 0
+
+abbrev pub many : (r : Result Counted Refused) (state : State) → Many
+many (Ok c) state = record { came = came (Ok c.next) state; count = c.count }
+many (Err e) state = record { came = came (Err e) state; count = 0 }
 
 -- what can be read behind one parenthesis more
 unfoldable pub beneath : ℕ → Readers
@@ -52,7 +58,7 @@ abbrev pub NodeRead :
     (reader : Reader Tree) (table : Words) (role : Role) (above scope : ℕ) (s : State) (out out' : Words) (text : Text) (at : ℕ)
     (r : Came) → Type 0
 NodeRead reader table role above scope s out out' text at r =
-    Valued reader (λ t. Told table t role above scope s r.state out out') text at r.end × Within text r.end
+    Valued reader (λ t. Told table t role above scope s r.state out out') text at r.end
 
 -- an operand, with room for so many parentheses
 abbrev pub OperandRead :
@@ -111,7 +117,6 @@ ChildrenRead room b table role above scope start first out out' text at r =
     (more (cond b ampersand bar) ((readers room).operand (is_formula role) scope))
     (Further table b role above scope start first r.came.state out out' r.count)
     text at r.came.end
-    × Within text r.came.end
 
 -- an all-of or any-of, and the closing parenthesis behind it; and also one operand that is none
 abbrev pub chained : (one : Reader Tree) → Reader Tree
@@ -138,7 +143,6 @@ abbrev pub RestrictionRead :
     Type 0
 RestrictionRead reader table level x v s out out' text at r =
     Valued reader (RestrictedTold table level x v s out out' r.count r.came.state) text at r.came.end
-    × Within text r.came.end
 
 -- behind the parenthesis of a restriction: an all-of or any-of, or a restriction and its excluded tuples
 abbrev pub exclusion : (room v x : ℕ) → Reader R.Restricted

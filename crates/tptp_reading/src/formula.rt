@@ -1,31 +1,27 @@
 // Formulas and restrictions, as they stand in a text: they are read, asked questions 4 to 7 and laid in a buffer in one walk. Each way
 // deeper opens a parenthesis; operands and tuples are loops. What a node is to the node above it hangs, for a first operand, on the
-// connective behind it, which is looked up ahead. A parenthesis takes at most some 900 bytes of stack: what is known is handed on as two
-// arrays that are lent, and a node with none below it is read by two calls, so that the frame of an operand has no room for its words.
+// connective behind it, which is looked up ahead. A parenthesis takes at most some 900 bytes of stack: what is known is lent, and a node with none below it is read by two calls, so that the frame of an operand has no room for its words.
 ghost use Rattle.std.specs.Prelude.{◌≡◌, true, false, cond, ◌+◌, ◌*◌, ◌≤◌, ◌<◌, length, get_or, drop};
 ghost use Rattle.model.specs.Bytes.{bytes, blank, ampersand, bar, exclamation, interrogation};
 ghost use Rattle.model.specs.Level.{restriction};
 ghost use Rattle.model.specs.Reading.{is_formula};
 ghost use Rattle.model.specs.TptpReading as R;
 ghost use Rattle.policies.specs.Node.{as_role};
-ghost use Rattle.tptp_tokens.specs.Steps.{Steps, Within, Behind};
+ghost use Rattle.tptp_tokens.specs.Steps.{Steps};
 ghost use Rattle.tptp_binders.specs.Ahead.{StopsAt};
 ghost use Rattle.tptp_state.specs.Told.{Ready};
-ghost use Rattle.tptp_state.specs.Known.{state_of};
 ghost use Rattle.tptp_reading.specs.Formula as F;
 
-use model::Refusal;
+use model::{Refusal, Refused};
 use policies::node;
 use policies::node::{Role, Tag};
 use tptp_binders::ahead::{begins, begins_excluding, stands, stop_index};
 use tptp_binders::binder::{Counted, binder};
 use tptp_binders::tuples::{behind_tuples, tuples};
-use tptp_leaves::leaves::{either, leaf, less};
-use tptp_state::known::{count_words, drop_variable, enter, hand, introduce, join, settle_leaf};
-use tptp_state::state::outer_variables;
-use tptp_tokens::behind::{then_expect, then_opening, then_token};
+use tptp_leaves::leaves::{either, leaf};
+use tptp_state::state::{State, outer_variables};
 use tptp_tokens::laying::lay;
-use tptp_tokens::tokens::{Step, opening, skip};
+use tptp_tokens::tokens::{Step, expect, opening, skip, token};
 
 // A node with none below it, whose first byte stands here; its words stand apart for a moment.
 fn leaf_apart(
@@ -36,24 +32,20 @@ fn leaf_apart(
     role: Role,
     above: usize,
     scope: usize,
-    known: &mut [usize; 5],
-    set: &mut [bool; 16],
+    state: &mut State,
     own: &mut [i32],
     out: &mut [i32],
 ) -> Step
-    requires { Ready table.now above scope (state_of known.old set.old)
+    requires { Ready table.now above scope state.old
         × (at < length text.now)
         × (blank (get_or text.now at 0) ≡ false)
         × F.LeafByte (is_formula (as_role role)) (get_or text.now at 0)
         × (length own.old ≡ 16) }
-    ensures { F.OperandRead room table.now (as_role role) above scope (state_of known.old set.old) out.old out.new text.now at (F.came result known.new set.new) }
+    ensures { F.OperandRead room table.now (as_role role) above scope state.old out.old out.new text.now at (F.came result state.new) }
 {
-    let end = leaf(text, at, room, own);
-    let Step::At(_) = end else {
-        return end;
-    };
-    settle_leaf(table, own, role, above, scope, known, set, out);
-    end
+    let end = leaf(text, at, room, own)?;
+    state.settle_leaf(table, own, role, above, scope, out);
+    Ok(end)
 }
 
 // A node with none below it, whose first byte stands here.
@@ -65,19 +57,18 @@ fn read_leaf(
     role: Role,
     above: usize,
     scope: usize,
-    known: &mut [usize; 5],
-    set: &mut [bool; 16],
+    state: &mut State,
     out: &mut [i32],
 ) -> Step
-    requires { Ready table.now above scope (state_of known.old set.old)
+    requires { Ready table.now above scope state.old
         × (at < length text.now)
         × (blank (get_or text.now at 0) ≡ false)
         × F.LeafByte (is_formula (as_role role)) (get_or text.now at 0) }
-    ensures { F.OperandRead room table.now (as_role role) above scope (state_of known.old set.old) out.old out.new text.now at (F.came result known.new set.new) }
+    ensures { F.OperandRead room table.now (as_role role) above scope state.old out.old out.new text.now at (F.came result state.new) }
 {
     let mut own = [0; 16];
     leaf_apart(
-        table, text, at, room, role, above, scope, known, set, &mut own, out,
+        table, text, at, room, role, above, scope, state, &mut own, out,
     )
 }
 
@@ -89,14 +80,14 @@ fn connective(every: bool) -> u8
 }
 
 // What stands between restriction and body.
-fn implies(text: &[u8], before: Step, every: bool) -> Step
-    requires { Within text.now before }
-    ensures { Behind (Steps (R.token (cond every (bytes "=>") (bytes "&"))) text.now) before result × Within text.now result }
+fn implies(text: &[u8], at: usize, every: bool) -> Step
+    requires { at ≤ length text.now }
+    ensures { Steps (R.token (cond every (bytes "=>") (bytes "&"))) text.now at result }
 {
     if every {
-        return then_token(text, before, b"=>");
+        return token(text, at, b"=>");
     }
-    then_expect(text, before, 38)
+    expect(text, at, 38)
 }
 
 // The further operands of an all-of (true) or any-of, of which the first is read and the first connective stands here.
@@ -111,12 +102,11 @@ fn children(
     scope: usize,
     every: bool,
     start: [bool; 16],
-    known: &mut [usize; 5],
-    set: &mut [bool; 16],
+    state: &mut State,
     out: &mut [i32],
-) -> Counted
-    requires { F.Begins table.now text.now at room above scope (state_of known.old set.old) × (at < length text.now) }
-    ensures { F.ChildrenRead room every table.now (as_role role) above scope start (state_of known.old set.old) out.old out.new text.now at (F.many result known.new set.new) }
+) -> Result<Counted, Refused>
+    requires { F.Begins table.now text.now at room above scope state.old × (at < length text.now) }
+    ensures { F.ChildrenRead room every table.now (as_role role) above scope start state.old out.old out.new text.now at (F.many result state.new) }
 {
     let connective = connective(every);
     let mut next = at;
@@ -124,36 +114,15 @@ fn children(
     loop {
         let i = skip(text, next);
         if text.len() <= i {
-            return Counted {
-                end: Step::Refused(Refusal::Tptp, i),
-                count: 0,
-            };
+            return Err(Refused(Refusal::Tptp, i));
         }
         if text[i] != connective {
-            return Counted {
-                end: Step::At(i),
-                count: n,
-            };
+            return Ok(Counted { next: i, count: n });
         }
-        let marks = *set;
-        hand(every, set, start);
-        let end = operand(
-            table,
-            text,
-            i + 1,
-            room,
-            role,
-            above,
-            scope,
-            known,
-            set,
-            out,
-        );
-        let Step::At(behind) = end else {
-            return Counted { end, count: 0 };
-        };
-        join(every, marks, set);
-        next = behind;
+        let marks = state.set;
+        state.hand(every, start);
+        next = operand(table, text, i + 1, room, role, above, scope, state, out)?;
+        state.join(every, marks);
         n += 1;
     }
 }
@@ -169,39 +138,24 @@ fn chain(
     role: Role,
     above: usize,
     scope: usize,
-    known: &mut [usize; 5],
-    set: &mut [bool; 16],
+    state: &mut State,
     out: &mut [i32],
 ) -> Step
-    requires { F.Begins table.now text.now at room above scope (state_of known.old set.old)
+    requires { F.Begins table.now text.now at room above scope state.old
         × (above + 1 + 2 * room ≤ 600)
         × StopsAt text.now at stop }
-    ensures { F.NodeRead (F.chained ((R.readers room).operand (is_formula (as_role role)) scope)) table.now (as_role role) above scope (state_of known.old set.old) out.old out.new text.now at (F.came result known.new set.new) }
+    ensures { F.NodeRead (F.chained ((R.readers room).operand (is_formula (as_role role)) scope)) table.now (as_role role) above scope state.old out.old out.new text.now at (F.came result state.new) }
 {
-    let w = known[0];
-    let start = *set;
+    let w = state.words;
+    let start = state.set;
     let every = stands(text, stop, 38);
     let some = stands(text, stop, 124);
     let below = node::under(role, every);
-    enter(known, set, 2, above < node::LEVEL_LIMIT, true, start);
-    let end = operand(
-        table,
-        text,
-        at,
-        room,
-        below,
-        above + 1,
-        scope,
-        known,
-        set,
-        out,
-    );
-    let Step::At(behind) = end else {
-        return end;
-    };
+    state.enter(2, above < node::LEVEL_LIMIT, true, start);
+    let behind = operand(table, text, at, room, below, above + 1, scope, state, out)?;
     let i = skip(text, behind);
     if (i != stop) | !(every | some) {
-        return Step::Refused(Refusal::Tptp, i);
+        return Err(Refused(Refusal::Tptp, i));
     }
     let rest = children(
         table,
@@ -213,14 +167,12 @@ fn chain(
         scope,
         every,
         start,
-        known,
-        set,
+        state,
         out,
-    );
+    )?;
     lay(out, w, either(every, 6, 7));
     lay(out, w + 1, rest.count);
-    let last = rest.end;
-    then_expect(text, last, 41)
+    expect(text, rest.next, 41)
 }
 
 // An all-of or any-of with no parentheses around it, or an operand that is none; and the closing parenthesis behind it.
@@ -233,30 +185,24 @@ pub fn whole(
     role: Role,
     above: usize,
     scope: usize,
-    known: &mut [usize; 5],
-    set: &mut [bool; 16],
+    state: &mut State,
     out: &mut [i32],
 ) -> Step
-    requires { F.Begins table.now text.now at room above scope (state_of known.old set.old) × (above + 1 + 2 * room ≤ 600) }
-    ensures { F.NodeRead (F.closed ((R.readers room).operand (is_formula (as_role role)) scope)) table.now (as_role role) above scope (state_of known.old set.old) out.old out.new text.now at (F.came result known.new set.new) }
+    requires { F.Begins table.now text.now at room above scope state.old × (above + 1 + 2 * room ≤ 600) }
+    ensures { F.NodeRead (F.closed ((R.readers room).operand (is_formula (as_role role)) scope)) table.now (as_role role) above scope state.old out.old out.new text.now at (F.came result state.new) }
 {
     let stop = stop_index(text, at);
     let every = stands(text, stop, 38);
     let some = stands(text, stop, 124);
     if every | some {
-        return chain(
-            table, text, at, stop, room, role, above, scope, known, set, out,
-        );
+        return chain(table, text, at, stop, room, role, above, scope, state, out);
     }
     let parenthesis = begins(text, at, 40);
-    let end = operand(table, text, at, room, role, above, scope, known, set, out);
-    let Step::At(behind) = end else {
-        return end;
-    };
+    let behind = operand(table, text, at, room, role, above, scope, state, out)?;
     if parenthesis {
-        return Step::Refused(Refusal::Tptp, skip(text, behind));
+        return Err(Refused(Refusal::Tptp, skip(text, behind)));
     }
-    then_expect(text, end, 41)
+    expect(text, behind, 41)
 }
 
 // A "some", whose first byte stands here.
@@ -268,26 +214,19 @@ fn some(
     room: usize,
     above: usize,
     scope: usize,
-    known: &mut [usize; 5],
-    set: &mut [bool; 16],
+    state: &mut State,
     out: &mut [i32],
 ) -> Step
-    requires { F.Begins table.now text.now at room above scope (state_of known.old set.old)
+    requires { F.Begins table.now text.now at room above scope state.old
         × (at < length text.now)
         × (get_or text.now at 0 ≡ interrogation) }
-    ensures { F.NodeRead (R.read_some room (F.beneath room) scope) table.now restriction above scope (state_of known.old set.old) out.old out.new text.now at (F.came result known.new set.new) }
+    ensures { F.NodeRead (R.read_some room (F.beneath room) scope) table.now restriction above scope state.old out.old out.new text.now at (F.came result state.new) }
 {
-    let bound = binder(text, at + 1, scope, 0);
-    let named = bound.end;
-    let open = then_opening(text, named, room);
-    let Step::At(inside) = open else {
-        return open;
-    };
-    let w = known[0];
-    let start = *set;
-    enter(
-        known,
-        set,
+    let bound = binder(text, at + 1, scope, 0)?;
+    let inside = opening(text, bound.next, room)?;
+    let w = state.words;
+    let start = state.set;
+    state.enter(
         1,
         above < node::LEVEL_LIMIT,
         scope < node::SCOPE_LIMIT,
@@ -297,21 +236,31 @@ fn some(
         table,
         text,
         inside,
-        less(room),
+        room.saturating_sub(1),
         Role::Restriction,
         above + 1,
         scope + 1,
-        known,
-        set,
+        state,
         out,
-    );
+    )?;
     lay(out, w, 10);
-    drop_variable(known, set, scope, w);
-    end
+    state.drop_variable(scope, w);
+    Ok(end)
+}
+
+// How many were read: none, if they were refused.
+fn count_of(listed: Result<Counted, Refused>) -> usize
+    ensures { result ≡ F.count_of listed }
+{
+    match listed {
+        Ok(found) => found.count,
+        Err(_) => 0,
+    }
 }
 
 // A restriction with excluded tuples, in parentheses of their own, the first of which is open; the connective before the first tuple
-// stands at an index ahead. The tuples are read first: in the words they stand before the restriction.
+// stands at an index ahead. The tuples are read first: in the words they stand before the restriction. In the text
+// they stand behind it, so that their refusal waits for that of the restriction.
 #[cycle(chain_children_excluding_operand_quantifier_restricted_some_whole)]
 fn excluding(
     table: &[i32],
@@ -322,21 +271,19 @@ fn excluding(
     level: usize,
     x: usize,
     v: usize,
-    known: &mut [usize; 5],
-    set: &mut [bool; 16],
+    state: &mut State,
     out: &mut [i32],
-) -> Counted
-    requires { F.Begins table.now text.now at room level (x + v) (state_of known.old set.old)
+) -> Result<Counted, Refused>
+    requires { F.Begins table.now text.now at room level (x + v) state.old
         × (1 ≤ v) × (v ≤ 4)
         × StopsAt text.now at stop
         × (R.begins_excluding v (drop stop text.now) ≡ true) }
-    ensures { F.RestrictionRead (F.exclusion room v x) table.now level x v (state_of known.old set.old) out.old out.new text.now at (F.many result known.new set.new) }
+    ensures { F.RestrictionRead (F.exclusion room v x) table.now level x v state.old out.old out.new text.now at (F.many result state.new) }
 {
-    let w = known[0];
+    let w = state.words;
     let listed = tuples(text, stop, room, v, x, out, w);
-    let count = listed.count;
-    count_words(known, behind_tuples(w, v, count));
-    let end = operand(
+    state.words = behind_tuples(w, v, count_of(listed));
+    let behind = operand(
         table,
         text,
         at,
@@ -344,23 +291,19 @@ fn excluding(
         Role::Restriction,
         level,
         x + v,
-        known,
-        set,
+        state,
         out,
-    );
-    let Step::At(behind) = end else {
-        return Counted { end, count: 0 };
-    };
+    )?;
     let i = skip(text, behind);
     if i != stop {
-        return Counted {
-            end: Step::Refused(Refusal::Tptp, i),
-            count: 0,
-        };
+        return Err(Refused(Refusal::Tptp, i));
     }
-    let last = listed.end;
-    let close = then_expect(text, last, 41);
-    Counted { end: close, count }
+    let found = listed?;
+    let close = expect(text, found.next, 41)?;
+    Ok(Counted {
+        next: close,
+        count: found.count,
+    })
 }
 
 // The restriction of a quantifier of v variables from x on.
@@ -373,15 +316,14 @@ fn restricted(
     level: usize,
     x: usize,
     v: usize,
-    known: &mut [usize; 5],
-    set: &mut [bool; 16],
+    state: &mut State,
     out: &mut [i32],
-) -> Counted
-    requires { F.Begins table.now text.now at room level (x + v) (state_of known.old set.old) × (1 ≤ v) × (v ≤ 4) }
-    ensures { F.RestrictionRead ((R.readers room).restriction v x) table.now level x v (state_of known.old set.old) out.old out.new text.now at (F.many result known.new set.new) }
+) -> Result<Counted, Refused>
+    requires { F.Begins table.now text.now at room level (x + v) state.old × (1 ≤ v) × (v ≤ 4) }
+    ensures { F.RestrictionRead ((R.readers room).restriction v x) table.now level x v state.old out.old out.new text.now at (F.many result state.new) }
 {
     if !begins(text, at, 40) {
-        let end = operand(
+        let next = operand(
             table,
             text,
             at,
@@ -389,19 +331,12 @@ fn restricted(
             Role::Restriction,
             level,
             x + v,
-            known,
-            set,
+            state,
             out,
-        );
-        return Counted { end, count: 0 };
+        )?;
+        return Ok(Counted { next, count: 0 });
     }
-    let open = opening(text, at, room);
-    let Step::At(inside) = open else {
-        return Counted {
-            end: open,
-            count: 0,
-        };
-    };
+    let inside = opening(text, at, room)?;
     let stop = stop_index(text, inside);
     if begins_excluding(text, stop, v) {
         return excluding(
@@ -409,29 +344,27 @@ fn restricted(
             text,
             inside,
             stop,
-            less(room),
+            room.saturating_sub(1),
             level,
             x,
             v,
-            known,
-            set,
+            state,
             out,
         );
     }
-    let end = chain(
+    let next = chain(
         table,
         text,
         inside,
         stop,
-        less(room),
+        room.saturating_sub(1),
         Role::Restriction,
         level,
         x + v,
-        known,
-        set,
+        state,
         out,
-    );
-    Counted { end, count: 0 }
+    )?;
+    Ok(Counted { next, count: 0 })
 }
 
 // A quantifier, for all (true) or exists, whose first byte stands here.
@@ -445,28 +378,21 @@ fn quantifier(
     role: Role,
     above: usize,
     scope: usize,
-    known: &mut [usize; 5],
-    set: &mut [bool; 16],
+    state: &mut State,
     out: &mut [i32],
 ) -> Step
-    requires { F.Begins table.now text.now at room above scope (state_of known.old set.old)
+    requires { F.Begins table.now text.now at room above scope state.old
         × (at < length text.now)
         × (get_or text.now at 0 ≡ cond every exclamation interrogation)
         × (is_formula (as_role role) ≡ true) }
-    ensures { F.NodeRead (R.read_quantifier room (F.beneath room) every scope) table.now (as_role role) above scope (state_of known.old set.old) out.old out.new text.now at (F.came result known.new set.new) }
+    ensures { F.NodeRead (R.read_quantifier room (F.beneath room) every scope) table.now (as_role role) above scope state.old out.old out.new text.now at (F.came result state.new) }
 {
-    let bound = binder(text, at + 1, scope, 3);
+    let bound = binder(text, at + 1, scope, 3)?;
     let v = bound.count;
-    let named = bound.end;
-    let open = then_opening(text, named, room);
-    let Step::At(inside) = open else {
-        return open;
-    };
-    let w = known[0];
+    let inside = opening(text, bound.next, room)?;
+    let w = state.words;
     let level = above + node::cost(role, Tag::Quantifier(every));
-    enter(
-        known,
-        set,
+    state.enter(
         3,
         level <= node::LEVEL_LIMIT,
         scope + v <= node::SCOPE_LIMIT,
@@ -476,37 +402,30 @@ fn quantifier(
         table,
         text,
         inside,
-        less(room),
+        room.saturating_sub(1),
         level,
         scope,
         v,
-        known,
-        set,
+        state,
         out,
-    );
-    let count = inner.count;
-    let end = inner.end;
-    let sign = implies(text, end, every);
-    let Step::At(start) = sign else {
-        return sign;
-    };
-    introduce(known, set, scope, v, w);
+    )?;
+    let start = implies(text, inner.next, every)?;
+    state.introduce(scope, v, w);
     let last = operand(
         table,
         text,
         start,
-        less(room),
+        room.saturating_sub(1),
         Role::Formula,
         level,
         scope + v,
-        known,
-        set,
+        state,
         out,
-    );
+    )?;
     lay(out, w, either(every, 8, 9));
     lay(out, w + 1, v);
-    lay(out, w + 2, count);
-    then_expect(text, last, 41)
+    lay(out, w + 2, inner.count);
+    expect(text, last, 41)
 }
 
 // An operand: a node with none below it, an all-of or any-of in parentheses, a quantifier in formulas, a "some" in restrictions.
@@ -519,54 +438,45 @@ fn operand(
     role: Role,
     above: usize,
     scope: usize,
-    known: &mut [usize; 5],
-    set: &mut [bool; 16],
+    state: &mut State,
     out: &mut [i32],
 ) -> Step
-    requires { F.Begins table.now text.now at room above scope (state_of known.old set.old) }
-    ensures { F.OperandRead room table.now (as_role role) above scope (state_of known.old set.old) out.old out.new text.now at (F.came result known.new set.new) }
+    requires { F.Begins table.now text.now at room above scope state.old }
+    ensures { F.OperandRead room table.now (as_role role) above scope state.old out.old out.new text.now at (F.came result state.new) }
 {
     let i = skip(text, at);
     if text.len() <= i {
-        return Step::Refused(Refusal::Tptp, i);
+        return Err(Refused(Refusal::Tptp, i));
     }
     let b = text[i];
     if b == 40 {
-        let open = opening(text, i, room);
-        let Step::At(inside) = open else {
-            return open;
-        };
+        let inside = opening(text, i, room)?;
         let stop = stop_index(text, inside);
         return chain(
             table,
             text,
             inside,
             stop,
-            less(room),
+            room.saturating_sub(1),
             role,
             above,
             scope,
-            known,
-            set,
+            state,
             out,
         );
     }
     let formula = node::is_formula(role);
     if formula {
         if b == 33 {
-            return quantifier(
-                table, text, i, room, true, role, above, scope, known, set, out,
-            );
+            return quantifier(table, text, i, room, true, role, above, scope, state, out);
         }
         if b == 63 {
-            return quantifier(
-                table, text, i, room, false, role, above, scope, known, set, out,
-            );
+            return quantifier(table, text, i, room, false, role, above, scope, state, out);
         }
-        return read_leaf(table, text, i, room, role, above, scope, known, set, out);
+        return read_leaf(table, text, i, room, role, above, scope, state, out);
     }
     if b == 63 {
-        return some(table, text, i, room, above, scope, known, set, out);
+        return some(table, text, i, room, above, scope, state, out);
     }
-    read_leaf(table, text, i, room, role, above, scope, known, set, out)
+    read_leaf(table, text, i, room, role, above, scope, state, out)
 }

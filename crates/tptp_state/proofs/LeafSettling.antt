@@ -25,12 +25,11 @@ use Rattle.laws.specs.Reading.Encoded.{node-there}
 use Rattle.laws.specs.Reading.Trees.{ask_tree, node_asks}
 use Rattle.tptp_leaves.specs.Leaves.{is_leaf, LeafStands}
 use Rattle.tables.specs.Checked.{outcome}
-use Rattle.tables.specs.declared.Checked.{Checked}
-use Rattle.tables.specs.declared.Checked.TheVariants.{Passed}
-use Rattle.modes.specs.Mode.{told}
+use Rattle.std.specs.Prelude.{Result}
+use Rattle.model.specs.declared.Refused.{Refused}
 use Rattle.policies.specs.Node.{There, Sized}
 use Rattle.tptp_tokens.specs.Laying.{most_words}
-use Rattle.tptp_state.specs.Told.{moved, Told, LeafBound}
+use Rattle.tptp_state.specs.Told.{Passed, told, moved, Told, LeafBound}
 use Rattle.tptp_state.specs.declared.state.State.{State}
 use Rattle.tptp_leaves.proofs.LeafLaws.{term-two}
 use Rattle.tptp_state.proofs.StateLaws.{asked-passed}
@@ -177,7 +176,7 @@ then_nothing (passed u) k h = h u
 
 -- all that is known behind it
 module _
-    (table own : Words) (t : Tree) (role : Role) (above scope : ℕ) (s : State) (out out' : Words) (n words : ℕ) (asked : Checked)
+    (table own : Words) (t : Tree) (role : Role) (above scope : ℕ) (s : State) (out out' : Words) (n words : ℕ) (asked : Result (Unit {0}) Refused)
     (stand : LeafStands own t) (good : good_tree t (is_formula role) ≡ true) (long : length own ≡ 16)
     (sized : n ≡ length (encode t))
     (count : words ≡ min (s.words + n) most_words)
@@ -224,15 +223,17 @@ module _
         is_formula role ≡ false → (b : State) →
         LeafBound table own above scope (record { words = s.words; asked = asked; moded = s.moded; set = s.set }) b →
         (asked ≡ Passed → Node table own restriction above scope 0 t (length (encode t))) →
-        Told table t role above scope s (record { words = words; asked = asked; moded = b.moded; set = b.set }) out out'
+        Told table t role above scope s (record { words = words; asked = b.asked; moded = b.moded; set = b.set }) out out'
     leaf-restricted f b bound node = record {
       counted = counted;
       marks = bound.marks;
-      passes = passes;
+      passes = λ p. passes (sym bound.asked ∙ p);
       settled = λ _. record {
-        asked = questions-told;
-        modes = λ passes. rw f (
-            bound.modes passes t (length (encode t)) (node passes)
+        asked = ap outcome bound.asked ∙ questions-told;
+        modes = λ p.
+            let asked-same = sym bound.asked ∙ p in
+            rw f
+            (bound.modes asked-same t (length (encode t)) (node asked-same)
             ∙ then_both (told s.moded s.set) λ vs. leaf-binds t table vs scope s.words stand.leaf);
         laid = words-laid;
       };
@@ -245,7 +246,7 @@ moved-passed w (passed u) e = refl
 
 -- in a restriction it stands there as a node, if its questions passed
 pub leaf-here :
-    (table own : Words) (t : Tree) (role : Role) (above scope w : ℕ) (asked before : Checked) →
+    (table own : Words) (t : Tree) (role : Role) (above scope w : ℕ) (asked before : Result (Unit {0}) Refused) →
     LeafStands own t → good_tree t (is_formula role) ≡ true → length own ≡ 16 →
     role ≡ restriction →
     outcome asked ≡ (outcome before >>= λ _. moved w (questions table own (tag_of (word own 0)) role above scope 0)) →

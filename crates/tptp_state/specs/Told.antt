@@ -1,5 +1,5 @@
 -- What is known behind a part of a policy that was read.
-use Rattle.std.specs.Prelude.{ℕ, ◌+◌, ◌≤◌, ◌<◌, min, ◌≡◌, Bool, true, false, cond, not, ◌&&◌, List, length, replicate, ltb, eqb}
+use Rattle.std.specs.Prelude.{ℕ, ◌+◌, ◌≤◌, ◌<◌, min, ◌≡◌, Bool, true, false, cond, not, ◌&&◌, List, length, replicate, ltb, eqb, Result, Ok, Err}
 use Rattle.std.proofs.lemmas.List.Edits.{sets}
 use Rattle.model.specs.Words.{Words, policy_limit, level_limit, scope_limit}
 use Rattle.model.specs.Lists.{span, all}
@@ -9,16 +9,25 @@ use Rattle.model.specs.Tree.{Tree, encode}
 use Rattle.model.specs.Level.{Role, restriction}
 use Rattle.model.specs.Reading.{is_formula}
 use Rattle.model.specs.Tptp.{good_tree}
-use Rattle.model.specs.Mode.{size, bindings, ask_modes}
+use Rattle.model.specs.Mode.{Variables, size, bindings, ask_modes}
 use Rattle.laws.specs.Reading.Nodes.{Node}
 use Rattle.laws.specs.Reading.Trees.{ask_tree}
 use Rattle.tables.specs.Checked.{outcome}
-use Rattle.tables.specs.declared.Checked.TheVariants.{Passed}
 use Rattle.model.specs.declared.Refusal.TheVariants.{Level, Variable, Mode}
-use Rattle.modes.specs.Mode.{set_of, told}
+use Rattle.modes.specs.Mode.{set_of}
+use Rattle.model.specs.declared.Refused.{Refused}
 use Rattle.tptp_tokens.specs.Laying.{most_words}
 use Rattle.tptp_leaves.specs.Leaves.{LeafStands}
 use Rattle.tptp_state.specs.declared.state.State.{State}
+
+-- questions that passed
+abbrev pub Passed : Result (Unit {0}) Refused
+Passed = Ok tt
+
+-- what question 7 comes to: the variables that are bound, by their marks, or a refusal
+abbrev pub told : (moded : Result (Unit {0}) Refused) (marks : List Bool) → Outcome Variables
+told (Ok u) marks = passed (set_of marks)
+told (Err e) marks = refused e.0 e.1
 
 -- the same refusal at another place
 unfoldable pub moved : {A : Type 0} → ℕ → Outcome A → Outcome A
@@ -107,10 +116,10 @@ abbrev pub Handed : (b : Bool) (start : List Bool) (s r : State) → Type 0
 Handed b start s r = r ≡ record { words = s.words; asked = s.asked; moded = s.moded; set = cond b s.set start }
 
 -- what is known behind an operand: as behind it, with the marks of those bound by all so far
-pub record Joined (b : Bool) (s child r : State) : Type 0 where
+pub record Joined (b : Bool) (before : List Bool) (child r : State) : Type 0 where
   pub words : r.words ≡ child.words
   pub asked : r.asked ≡ child.asked
   pub moded : r.moded ≡ child.moded
   pub marks : length child.set ≡ 16 → length r.set ≡ 16
   pub every : b ≡ true → r.set ≡ child.set
-  pub some : b ≡ false → (x : ℕ) → set_of r.set x ≡ (set_of s.set x && set_of child.set x)
+  pub some : b ≡ false → (x : ℕ) → set_of r.set x ≡ (set_of before x && set_of child.set x)

@@ -1,34 +1,13 @@
--- Laws for what is read behind something else: indices stay within the text, and a refusal is passed on to the end.
+-- Laws for what is read behind something else.
 use Prim.Native.Nat.{ℕ, ◌≤◌}
 use native.Mathlib.Omega.{arith}
-use mathlib.Core.Path.{◌≡◌, refl, sym, subst, ◌∙◌}
+use mathlib.Core.Path.{◌≡◌, sym, subst, ◌∙◌}
 use Rattle.model.specs.Bytes.{Text}
-use Rattle.model.specs.TptpReading.{Reader, ◌>>=◌}
-use Rattle.model.specs.declared.Refusal.{Refusal}
-use Rattle.tptp_tokens.specs.Steps.{from, Steps, Valued, Within, Behind}
-use Rattle.tptp_tokens.specs.declared.tokens.Step.{Step}
-use Rattle.tptp_tokens.specs.declared.tokens.Step.TheVariants.{At, Refused}
+use Rattle.model.specs.TptpReading.{Reader, give, ◌>>=◌}
+use Rattle.std.specs.Prelude.{Ok, Err}
+use Rattle.model.specs.declared.Refused.{Refused}
+use Rattle.tptp_tokens.specs.Steps.{Step, from, Steps, Valued}
 use Rattle.tptp_tokens.proofs.TokenLaws.{onward, halt}
-
-pub steps_within : (reader : Reader (Unit {0})) (text : Text) (at : ℕ) (r : Step) → Steps reader text at r → Within text r
-steps_within reader text at (At n) s = s.high
-steps_within reader text at (Refused q p) s = tt
-
-pub valued_within :
-    {A : Type 0} (reader : Reader A) (facts : A → Type 0) (text : Text) (at : ℕ) (r : Step) → Valued reader facts text at r → Within text r
-valued_within reader facts text at (At n) v = v.reads.high
-valued_within reader facts text at (Refused q p) v = tt
-
--- behind a refusal comes the same
-pub falls : (next : ℕ → Step → Type 0) {s r : Step} {q : Refusal} {p : ℕ} → Behind next s r → s ≡ Refused q p → r ≡ Refused q p
-falls next {r = r} b e = subst (λ (x : Step). Behind next x r) e b
-
--- a call behind an index, and the refusal that is passed on by it
-pub behind-read : (next : ℕ → Step → Type 0) {s r : Step} {n : ℕ} → s ≡ At n → next n r → Behind next s r
-behind-read next {r = r} e b = subst (λ (x : Step). Behind next x r) (sym e) b
-
-pub behind-same : (next : ℕ → Step → Type 0) {s : Step} {q : Refusal} {p : ℕ} → s ≡ Refused q p → Behind next s s
-behind-same next {s = s} e = subst (λ (x : Step). Behind next x x) (sym e) refl
 
 -- what is read from a later index on by another reader
 pub valued_from :
@@ -36,20 +15,30 @@ pub valued_from :
     (r : Step) →
     Valued reader facts text j r →
     Valued whole facts text at r
-valued_from whole reader facts text at j e l (At next) v = record {
+valued_from whole reader facts text at j e l (Ok next) v = record {
   what = v.what;
   reads = record { low = omega (arith, v.reads.low); high = v.reads.high; reads = e ∙ v.reads.reads };
   holds = v.holds;
 }
-valued_from whole reader facts text at j e l (Refused q p) v = e ∙ v
+valued_from whole reader facts text at j e l (Err r) v = e ∙ v
 
--- a token, and something behind it
-pub token_then :
-    {A : Type 0} (first : Reader (Unit {0})) (second : Reader A) (facts : A → Type 0) (text : Text) (at : ℕ) (s r : Step) →
-    Steps first text at s →
-    Behind (Valued second facts text) s r →
-    Valued (first >>= λ _. second) facts text at r
-token_then first second facts text at (At n) r a b =
-    valued_from (first >>= λ _. second) second facts text at n (onward first (λ _. second) text at tt n a.reads) a.low r b
-token_then first second facts text at (Refused q p) r a b =
-    subst (Valued (first >>= λ _. second) facts text at) (sym b) (halt first (λ _. second) text at q p a)
+pub steps_from :
+    (whole reader : Reader (Unit {0})) (text : Text) (at j : ℕ) → from whole text at ≡ from reader text j → at ≤ j → (r : Step) →
+    Steps reader text j r →
+    Steps whole text at r
+steps_from whole reader text at j e l (Ok next) s = record { low = omega (arith, s.low); high = s.high; reads = e ∙ s.reads }
+steps_from whole reader text at j e l (Err r) s = e ∙ s
+
+-- what was read is given when the last token was
+pub closed_from :
+    {A : Type 0} (whole : Reader A) (last : Reader (Unit {0})) (a : A) (facts : A → Type 0) (text : Text) (at j : ℕ) →
+    from whole text at ≡ from (last >>= λ _. give a) text j → at ≤ j → facts a → (r : Step) →
+    Steps last text j r →
+    Valued whole facts text at r
+unfolding give
+closed_from whole last a facts text at j e l h (Ok next) s = record {
+  what = a;
+  reads = record { low = omega (arith, s.low); high = s.high; reads = e ∙ onward last (λ _. give a) text j tt next s.reads };
+  holds = h;
+}
+closed_from whole last a facts text at j e l h (Err r) s = e ∙ halt last (λ _. give a) text j r.0 r.1 s

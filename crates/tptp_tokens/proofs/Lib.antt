@@ -2,7 +2,6 @@ pub mod TokenLaws
 pub mod NumberLaws
 pub mod BehindLaws
 pub mod UpTo
-pub mod Going
 pub mod Strict
 pub mod LayingLaws
 pub mod NameLaws

@@ -22,9 +22,9 @@ pub word-stop : (text : Text) (i : ℕ) → i < length text → word_byte (get_o
 unfolding word_bytes
 word-stop text i h e = rw (here text i h, e)
 
-pub word_over : (text : Text) (i : ℕ) → length text ≤ i → from word_bytes text i ≡ got text tt i
+pub word_over : (text : Text) (i : ℕ) → i ≡ length text → from word_bytes text i ≡ got text tt (length text)
 unfolding word_bytes
-word_over text i h = rw (over text i h)
+word_over text i e = rw (e, over text (length text) (omega arith))
 
 -- a name by its first byte
 module _ (text : Text) (at i : ℕ) (s : Skips text at i) where

@@ -11,11 +11,11 @@ use borrow.Author.Tests.{eq-eqb, ne_eqb}
 use Rattle.model.specs.Bytes.{Text, blank, bytes}
 use Rattle.model.specs.Answer.{Outcome, passed, refused}
 use Rattle.model.specs.TptpReading.{Got, Reader, give, onwards, ◌>>=◌, stop, blanks, peek, literal, look, token, opening}
+use Rattle.std.specs.Prelude.{Ok, Err}
 use Rattle.model.specs.declared.Refusal.{Refusal}
+use Rattle.model.specs.declared.Refused.{Refused}
 use Rattle.model.specs.declared.Refusal.TheVariants.{Level, Tptp}
-use Rattle.tptp_tokens.specs.declared.tokens.Step.{Step}
-use Rattle.tptp_tokens.specs.declared.tokens.Step.TheVariants.{At, Refused}
-use Rattle.tptp_tokens.specs.Steps.{from, got, Skips, Reads, Steps}
+use Rattle.tptp_tokens.specs.Steps.{Step, from, got, Skips, Reads, Steps}
 
 -- the text from an index on: a byte and the rest, or nothing
 pub here : (text : Text) (i : ℕ) → i < length text → drop i text ≡ get_or text i 0 ∷ drop (i + 1) text
@@ -74,9 +74,9 @@ pub skip_stop : (text : Text) (i : ℕ) → i < length text → blank (get_or te
 unfolding blanks
 skip_stop text i h e = rw (here text i h, e)
 
-pub skip_end : (text : Text) (i : ℕ) → length text ≤ i → from blanks text i ≡ got text tt i
+pub skip_end : (text : Text) (i : ℕ) → i ≡ length text → from blanks text i ≡ got text tt (length text)
 unfolding blanks
-skip_end text i h = rw (over text i h)
+skip_end text i e = rw (e, over text (length text) (omega arith))
 
 -- bytes of a literal one after another
 pub literal-more :
@@ -125,8 +125,8 @@ module _ (text : Text) (at i : ℕ) (s : Skips text at i) where
   token-from word = onward blanks (λ _. literal word) text at tt i s.reads
 
   pub token_steps : (word : Text) (r : Step) → Steps (literal word) text i r → Steps (token word) text at r
-  token_steps word (At next) l = record { low = omega (arith, s.low, l.low); high = l.high; reads = token-from word ∙ l.reads }
-  token_steps word (Refused q p) l = token-from word ∙ l
+  token_steps word (Ok next) l = record { low = omega (arith, s.low, l.low); high = l.high; reads = token-from word ∙ l.reads }
+  token_steps word (Err e) l = token-from word ∙ l
 
   pub token-here : (c : ℕ) → i < length text → get_or text i 0 ≡ c → Reads (token (c ∷ [])) text at tt (i + 1)
   token-here c h e = record {
@@ -161,11 +161,3 @@ module _ (text : Text) (at i : ℕ) (s : Skips text at i) where
   unfolding opening bytes
   opening-over zero h = halt look _ text at Tptp i (look-over h)
   opening-over (suc room) h = token-over 40 h
-
--- a refusal that is passed on
-pub stays :
-    (C D : Step → Type 0) → ((q : Refusal) (p : ℕ) → C (Refused q p) → D (Refused q p)) → {r : Step} {q : Refusal} {p : ℕ} →
-    r ≡ Refused q p →
-    C r →
-    D r
-stays C D f e c = subst D (sym e) (f _ _ (subst C e c))

@@ -1,39 +1,38 @@
 -- What the reading of numbers comes to.
-use Rattle.std.specs.Prelude.{ℕ, ◌≤◌, ◌<◌, ◌≡◌, Bool, ◌&&◌, not, eqb}
+use Rattle.std.specs.Prelude.{ℕ, ◌≤◌, ◌<◌, ◌≡◌, Bool, ◌&&◌, not, eqb, Result, Ok, Err}
 use Rattle.model.specs.Bytes.{Text, digit, nought}
 use Rattle.model.specs.Answer.{refused}
 use Rattle.model.specs.TptpReading.{Reader, more_digits, number, natural, integer}
 use Rattle.text.specs.Reading.{signed, Sized}
 use Rattle.tptp_tokens.specs.Steps.{from, Reads}
+use Rattle.model.specs.declared.Refused.{Refused}
 use Rattle.tptp_tokens.specs.declared.numbers.Digits.{Digits}
-use Rattle.tptp_tokens.specs.declared.numbers.Digits.TheVariants as D
 use Rattle.tptp_tokens.specs.declared.numbers.Signed.{Signed}
-use Rattle.tptp_tokens.specs.declared.numbers.Signed.TheVariants as S
 
 -- further digits of a number that is at most `most`
-abbrev pub More : (most first : ℕ) (text : Text) (at : ℕ) (digits : Digits) → Type 0
-More most first text at (D.Read next n) = Reads (more_digits most first) text at n next × (first ≤ n) × (n ≤ most)
-More most first text at (D.Refused q p) = from (more_digits most first) text at ≡ refused q p
+abbrev pub More : (most first : ℕ) (text : Text) (at : ℕ) (digits : Result Digits Refused) → Type 0
+More most first text at (Ok d) = Reads (more_digits most first) text at d.number d.next × (first ≤ d.number) × (d.number ≤ most)
+More most first text at (Err e) = from (more_digits most first) text at ≡ refused e.0 e.1
 
 -- the number of a predicate or a variable, which takes a byte at least
-abbrev pub Naturals : (text : Text) (at : ℕ) (digits : Digits) → Type 0
-Naturals text at (D.Read next n) = Reads natural text at n next × (at < next) × (n ≤ 2147483647)
-Naturals text at (D.Refused q p) = from natural text at ≡ refused q p
+abbrev pub Naturals : (text : Text) (at : ℕ) (digits : Result Digits Refused) → Type 0
+Naturals text at (Ok d) = Reads natural text at d.number d.next × (at < d.next) × (d.number ≤ 2147483647)
+Naturals text at (Err e) = from natural text at ≡ refused e.0 e.1
 
 -- the digits behind a minus: the first is not 0
 abbrev pub behind_minus : Reader ℕ
 behind_minus = number (λ c. digit c && not (eqb c nought)) 2147483648
 
-abbrev pub Magnitudes : (text : Text) (at : ℕ) (digits : Digits) → Type 0
-Magnitudes text at (D.Read next n) = Reads behind_minus text at n next × (1 ≤ n) × (n ≤ 2147483648)
-Magnitudes text at (D.Refused q p) = from behind_minus text at ≡ refused q p
+abbrev pub Magnitudes : (text : Text) (at : ℕ) (digits : Result Digits Refused) → Type 0
+Magnitudes text at (Ok d) = Reads behind_minus text at d.number d.next × (1 ≤ d.number) × (d.number ≤ 2147483648)
+Magnitudes text at (Err e) = from behind_minus text at ≡ refused e.0 e.1
 
 -- a number of 32 bits takes a byte at least
-abbrev pub Integers : (text : Text) (at : ℕ) (signed : Signed) → Type 0
-Integers text at (S.Read next negative n) = Reads integer text at (signed negative n) next × Sized negative n × (at < next)
-Integers text at (S.Refused q p) = from integer text at ≡ refused q p
+abbrev pub Integers : (text : Text) (at : ℕ) (number : Result Signed Refused) → Type 0
+Integers text at (Ok s) = Reads integer text at (signed s.negative s.magnitude) s.next × Sized s.negative s.magnitude × (at < s.next)
+Integers text at (Err e) = from integer text at ≡ refused e.0 e.1
 
 -- digits with a sign in front, or none
-abbrev pub with_sign : (digits : Digits) (negative : Bool) → Signed
-with_sign (D.Read next n) negative = S.Read next negative n
-with_sign (D.Refused q p) negative = S.Refused q p
+abbrev pub with_sign : (digits : Result Digits Refused) (negative : Bool) → Result Signed Refused
+with_sign (Ok d) negative = Ok (record { next = d.next; negative = negative; magnitude = d.number })
+with_sign (Err e) negative = Err e

@@ -1,10 +1,13 @@
 -- What a reading comes to, from one index of a text to another.
-use Rattle.std.specs.Prelude.{ℕ, ◌≤◌, ◌<◌, ◌≡◌, false, length, drop, get_or}
+use Rattle.std.specs.Prelude.{ℕ, ◌≤◌, ◌<◌, ◌≡◌, false, length, drop, get_or, Result, Ok, Err}
 use Rattle.model.specs.Bytes.{Text, blank}
 use Rattle.model.specs.Answer.{Outcome, passed, refused}
+use Rattle.model.specs.declared.Refused.{Refused}
 use Rattle.model.specs.TptpReading.{Got, Reader, blanks}
-use Rattle.tptp_tokens.specs.declared.tokens.Step.{Step}
-use Rattle.tptp_tokens.specs.declared.tokens.Step.TheVariants.{At, Refused}
+
+-- the index behind what was read, or a refusal with its place
+abbrev pub Step : Type 0
+Step = Result ℕ Refused
 
 -- a reader, started at an index of a text
 abbrev pub from : {A : Type 0} (reader : Reader A) (text : Text) (at : ℕ) → Outcome (Got A)
@@ -28,8 +31,8 @@ pub record Reads {A : Type 0} (reader : Reader A) (text : Text) (at : ℕ) (a : 
   pub reads : from reader text at ≡ got text a next
 
 abbrev pub Steps : (reader : Reader (Unit {0})) (text : Text) (at : ℕ) (step : Step) → Type 0
-Steps reader text at (At next) = Reads reader text at tt next
-Steps reader text at (Refused q p) = from reader text at ≡ refused q p
+Steps reader text at (Ok next) = Reads reader text at tt next
+Steps reader text at (Err e) = from reader text at ≡ refused e.0 e.1
 
 -- a reader comes to something of which facts hold, or to a refusal
 pub record Value {A : Type 0} (reader : Reader A) (facts : A → Type 0) (text : Text) (at next : ℕ) : Type 0 where
@@ -38,14 +41,5 @@ pub record Value {A : Type 0} (reader : Reader A) (facts : A → Type 0) (text :
   pub holds : facts what
 
 abbrev pub Valued : {A : Type 0} (reader : Reader A) (facts : A → Type 0) (text : Text) (at : ℕ) (step : Step) → Type 0
-Valued reader facts text at (At next) = Value reader facts text at next
-Valued reader facts text at (Refused q p) = from reader text at ≡ refused q p
-
--- an index is one of the text; what was read is followed by something else, unless it was refused
-abbrev pub Within : (text : Text) (step : Step) → Type 0
-Within text (At n) = n ≤ length text
-Within text (Refused q p) = Unit {0}
-
-abbrev pub Behind : (next : ℕ → Step → Type 0) (step r : Step) → Type 0
-Behind next (At n) r = next n r
-Behind next (Refused q p) r = r ≡ Refused q p
+Valued reader facts text at (Ok next) = Value reader facts text at next
+Valued reader facts text at (Err e) = from reader text at ≡ refused e.0 e.1

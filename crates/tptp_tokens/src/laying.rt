@@ -2,10 +2,10 @@
 ghost use Rattle.std.specs.Prelude.{◌≡◌, Bool, ◌+◌, ◌*◌, ◌≤◌, ◌<◌, min, length, set, pos};
 ghost use Rattle.model.specs.TptpReading as R;
 ghost use Rattle.text.specs.Reading.{signed, Sized};
-ghost use Rattle.tptp_tokens.specs.Steps.{Valued, Within, Behind};
+ghost use Rattle.tptp_tokens.specs.Steps.{Valued};
 ghost use Rattle.tptp_tokens.specs.Laying as L;
 
-use crate::numbers::{Signed, integer};
+use crate::numbers::integer;
 use crate::tokens::Step;
 use text::word::put;
 
@@ -17,8 +17,7 @@ pub fn more_words(words: usize, n: usize) -> usize
     requires { (words ≤ L.most_words) × (n ≤ 4 * L.most_words) }
     ensures { result ≡ min (words + n) L.most_words }
 {
-    let sum = words + n;
-    if MOST < sum { MOST } else { sum }
+    (words + n).min(MOST)
 }
 
 // A number of 32 bits becomes the word at an index, if the buffer has it.
@@ -58,20 +57,12 @@ pub fn lay_three(out: &mut [i32], w: usize, tag: usize, v: usize, m: usize)
     lay(out, w + 2, m);
 }
 
-// A number, behind something else, which becomes the word at an index.
-pub fn then_integer(text: &[u8], before: Step, out: &mut [i32], w: usize) -> Step
-    requires { Within text.now before }
-    ensures { Behind (Valued R.integer (L.Stored w out.old out.new) text.now) before result × Within text.now result }
+// A number, which becomes the word at an index.
+pub fn lay_integer(text: &[u8], at: usize, out: &mut [i32], w: usize) -> Step
+    requires { at ≤ length text.now }
+    ensures { Valued R.integer (L.Stored w out.old out.new) text.now at result }
 {
-    let Step::At(at) = before else {
-        return before;
-    };
-    let found = integer(text, at);
-    match found {
-        Signed::Refused(q, p) => Step::Refused(q, p),
-        Signed::Read(next, negative, n) => {
-            lay_signed(out, w, n, negative);
-            Step::At(next)
-        }
-    }
+    let found = integer(text, at)?;
+    lay_signed(out, w, found.magnitude, found.negative);
+    Ok(found.next)
 }

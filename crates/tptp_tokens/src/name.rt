@@ -2,10 +2,10 @@
 ghost use Rattle.std.specs.Prelude.{◌≡◌, ◌≤◌, length};
 ghost use Rattle.model.specs.Bytes.{small, word_byte};
 ghost use Rattle.model.specs.TptpReading as R;
-ghost use Rattle.tptp_tokens.specs.Steps.{Reads, Steps, Within, Behind};
+ghost use Rattle.tptp_tokens.specs.Steps.{Reads, Steps};
 
 use crate::tokens::{Step, skip};
-use model::Refusal;
+use model::{Refusal, Refused};
 use text::bytes;
 
 // The byte is a small letter.
@@ -28,40 +28,26 @@ fn word_end(text: &[u8], at: usize) -> usize
     requires { at ≤ length text.now }
     ensures { Reads R.word_bytes text.now at tt result }
 {
-    let mut i = at;
-    while i < text.len() {
-        let b = text[i];
-        if !is_word(b) {
+    for i in at..text.len() {
+        if !is_word(text[i]) {
             return i;
         }
-        i += 1;
     }
-    i
+    text.len()
 }
 
 // A name.
-fn name(text: &[u8], at: usize) -> Step
+pub fn name(text: &[u8], at: usize) -> Step
     requires { at ≤ length text.now }
     ensures { Steps R.name text.now at result }
 {
     let i = skip(text, at);
     if text.len() <= i {
-        return Step::Refused(Refusal::Tptp, i);
+        return Err(Refused(Refusal::Tptp, i));
     }
     let b = text[i];
     if !is_small(b) {
-        return Step::Refused(Refusal::Tptp, i);
+        return Err(Refused(Refusal::Tptp, i));
     }
-    Step::At(word_end(text, i))
-}
-
-// A name, behind what was read before.
-pub fn then_name(text: &[u8], before: Step) -> Step
-    requires { Within text.now before }
-    ensures { Behind (Steps R.name text.now) before result × Within text.now result }
-{
-    let Step::At(at) = before else {
-        return before;
-    };
-    name(text, at)
+    Ok(word_end(text, i))
 }

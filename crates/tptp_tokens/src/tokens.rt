@@ -4,15 +4,11 @@ ghost use Rattle.model.specs.Bytes.{blank};
 ghost use Rattle.model.specs.TptpReading as R;
 ghost use Rattle.tptp_tokens.specs.Steps.{Skips, Steps};
 
-use model::Refusal;
+use model::{Refusal, Refused};
 use text::bytes;
 
 // What comes of a token: the index behind it, or a refusal with its place.
-#[derive(Clone, Copy)]
-pub enum Step {
-    At(usize),
-    Refused(Refusal, usize),
-}
+pub type Step = Result<usize, Refused>;
 
 // The byte may stand around tokens.
 fn is_blank(b: u8) -> bool
@@ -26,15 +22,12 @@ pub fn skip(text: &[u8], at: usize) -> usize
     requires { at ≤ length text.now }
     ensures { Skips text.now at result }
 {
-    let mut i = at;
-    while i < text.len() {
-        let b = text[i];
-        if !is_blank(b) {
+    for i in at..text.len() {
+        if !is_blank(text[i]) {
             return i;
         }
-        i += 1;
     }
-    i
+    text.len()
 }
 
 // A token of one byte.
@@ -44,12 +37,12 @@ pub fn expect(text: &[u8], at: usize, c: u8) -> Step
 {
     let i = skip(text, at);
     if text.len() <= i {
-        return Step::Refused(Refusal::Tptp, i);
+        return Err(Refused(Refusal::Tptp, i));
     }
     if text[i] != c {
-        return Step::Refused(Refusal::Tptp, i);
+        return Err(Refused(Refusal::Tptp, i));
     }
-    Step::At(i + 1)
+    Ok(i + 1)
 }
 
 // These bytes, right here.
@@ -57,19 +50,16 @@ pub fn literal(text: &[u8], at: usize, word: &[u8]) -> Step
     requires { at ≤ length text.now }
     ensures { Steps (R.literal word.now) text.now at result }
 {
-    let mut next = at;
-    let mut i = 0;
-    while i < word.len() {
+    for i in 0..word.len() {
+        let next = at + i;
         if text.len() <= next {
-            return Step::Refused(Refusal::Tptp, next);
+            return Err(Refused(Refusal::Tptp, next));
         }
         if text[next] != word[i] {
-            return Step::Refused(Refusal::Tptp, next);
+            return Err(Refused(Refusal::Tptp, next));
         }
-        next += 1;
-        i += 1;
     }
-    Step::At(next)
+    Ok(at + word.len())
 }
 
 // A token of these bytes.
@@ -87,13 +77,13 @@ pub fn opening(text: &[u8], at: usize, room: usize) -> Step
 {
     let i = skip(text, at);
     if text.len() <= i {
-        return Step::Refused(Refusal::Tptp, i);
+        return Err(Refused(Refusal::Tptp, i));
     }
     if text[i] != 40 {
-        return Step::Refused(Refusal::Tptp, i);
+        return Err(Refused(Refusal::Tptp, i));
     }
     if room == 0 {
-        return Step::Refused(Refusal::Level, i);
+        return Err(Refused(Refusal::Level, i));
     }
-    Step::At(i + 1)
+    Ok(i + 1)
 }

@@ -13,17 +13,16 @@ use Rattle.nodes.proofs.prepare.prepare.Goals as goal
 pub list-requires : goal.list-requires
 list-requires c =
     let a = c.args in
-    let (ρ, o) = c.requires.5 in
+    let (ρ, o) = c.requires.4 in
     let here =
     subst
-    (λ (m : ℕ). Here a.table.now a.words.now restriction a.level (a.scope + a.v) (a.at + 3 + a.v * m))
-    (sym c.value-m.ensures) c.requires.4 in
+    (λ (m : ℕ). Here a.log.now.table.now a.words.now restriction a.level (a.scope + a.v) (a.at + 3 + a.v * m))
+    (sym c.value-m.ensures) c.requires.3 in
     let places = length a.scratch.now / 17 in (
       c.requires.0,
       c.requires.1,
-      c.requires.2,
       here,
-      room-asked a.environment a.scope places a.scratch.now _ _ c.if-places-lt1.false (omega arith) c.room.ensures c.store.ensures c.requires.5,
+      room-asked a.environment a.scope places a.scratch.now _ _ c.if-places-lt1.false (omega arith) c.room.ensures c.store.ensures c.requires.4,
       (
         outer ρ ∷ [],
         room-holds a.environment a.scope places a.scratch.now _ _ c.if-places-lt1.false (omega arith) c.room.ensures c.store.ensures ρ o,
@@ -37,7 +36,7 @@ returns-in_err-to c =
     λ ρ d body o node.
     rw c.from_residual.ensures
     (prepare_short a.environment a.scope places a.scratch.now _ _ c.if-places-lt1.false (omega arith) c.room.ensures c.store.ensures
-    a.table.now a.words.now a.log.now a.level a.v a.at _ c.value-m.ensures _ _ c.list.ensures c.in_err-to.was ρ d body o node)
+    a.log.now.table.now a.words.now a.log.now.rows.now a.level a.v a.at _ c.value-m.ensures _ _ c.list.ensures c.in_err-to.was ρ d body o node)
 
 pub instances-count-requires : goal.instances-count-requires
 instances-count-requires c =
@@ -45,12 +44,12 @@ instances-count-requires c =
     let places = length a.scratch.now / 17 in
     let within =
     prepare_inside a.environment a.scope places a.scratch.now _ _ c.if-places-lt1.false (omega arith) c.room.ensures c.store.ensures
-    a.table.now a.words.now a.log.now a.level a.v a.at _ c.value-m.ensures _ _ c.list.ensures _ c.in_ok-to.was c.requires.5 c.requires.4 in
+    a.log.now.table.now a.words.now a.log.now.rows.now a.level a.v a.at _ c.value-m.ensures _ _ c.list.ensures _ c.in_ok-to.was c.requires.4 c.requires.3 in
     let long = c.list.auto.scratch in
     let longer = c.store.auto.scratch in (
-      c.requires.2,
+      c.requires.1,
       omega arith,
-      subst (λ (k : ℕ). a.at + 3 + a.v * k ≤ length a.words.now) (sym c.value-m.ensures) c.requires.3,
+      subst (λ (k : ℕ). a.at + 3 + a.v * k ≤ length a.words.now) (sym c.value-m.ensures) c.requires.2,
     )
 
 pub returns : goal.returns
@@ -58,5 +57,5 @@ returns c =
     let a = c.args in
     let places = length a.scratch.now / 17 in
     prepare_stood a.environment a.scope places a.scratch.now _ _ c.if-places-lt1.false (omega arith) c.room.ensures c.store.ensures
-    a.table.now a.words.now a.log.now a.level a.v a.at _ c.value-m.ensures _ _ c.list.ensures _ c.in_ok-to.was c.requires.2 _ _
+    a.log.now.table.now a.words.now a.log.now.rows.now a.level a.v a.at _ c.value-m.ensures _ _ c.list.ensures _ c.in_ok-to.was c.requires.1 _ _
     c.instances-count.ensures

@@ -1,8 +1,8 @@
 -- `tptp_binders::ahead::begins_tuple` meets its contract.
 use native.Mathlib.Omega.{arith}
-use mathlib.Core.Path.{◌∙◌}
+use mathlib.Core.Path.{sym, ◌∙◌}
 use lib.ListN.{drop}
-use Rattle.tptp_binders.proofs.AheadLaws.{tuple-one, tuple-over, tuple-other, tuple-here}
+use Rattle.tptp_binders.proofs.AheadLaws.{stands-within, tuple-one, tuple-other, tuple-here}
 use Rattle.tptp_binders.proofs.ahead.begins_tuple.Goals as goal
 
 pub returns-then-v-eq1 : goal.returns-then-v-eq1
@@ -10,18 +10,18 @@ returns-then-v-eq1 c =
     let a = c.args in
     c.begins.ensures ∙ tuple-one (drop a.at a.text.now) a.v c.if-v-eq1.true
 
-pub returns-then-text-i : goal.returns-then-text-i
-returns-then-text-i c =
-    let a = c.args in
-    tuple-over a.text.now a.at _ c.skip-i.ensures a.v c.if-v-eq1.false c.if-text-i.true
+pub begins-requires-then-stands : goal.begins-requires-then-stands
+begins-requires-then-stands c =
+    let within = stands-within c.args.text.now c.skip-i.result 40 (sym c.stands.ensures ∙ c.if-stands.true) in
+    omega (arith, within)
 
-pub returns-then-text-i-ne40 : goal.returns-then-text-i-ne40
-returns-then-text-i-ne40 c =
+pub returns-then-stands : goal.returns-then-stands
+returns-then-stands c =
     let a = c.args in
-    tuple-other a.text.now a.at _ c.skip-i.ensures a.v c.if-v-eq1.false (omega (arith, c.if-text-i.false)) c.if-text-i-ne40.true
+    c.begins-then-stands.ensures
+    ∙ tuple-here a.text.now a.at _ c.skip-i.ensures a.v c.if-v-eq1.false _ c.stands.ensures c.if-stands.true
 
-pub returns : goal.returns
-returns c =
+pub returns-else-stands : goal.returns-else-stands
+returns-else-stands c =
     let a = c.args in
-    c.begins-2.ensures
-    ∙ tuple-here a.text.now a.at _ c.skip-i.ensures a.v c.if-v-eq1.false (omega (arith, c.if-text-i.false)) c.if-text-i-ne40.false
+    tuple-other a.text.now a.at _ c.skip-i.ensures a.v c.if-v-eq1.false _ c.stands.ensures c.if-stands.false

@@ -1,11 +1,6 @@
 -- `tptp_binders::ahead::stop_index` meets its contract. The loop's invariant: the scan from here goes as that from the start.
-use Prim.Native.Nat.{◌-◌}
-use lib.ListN.{length}
 use Rattle.tptp_binders.proofs.AheadLaws.{Scans}
 use Rattle.tptp_binders.proofs.ahead.stop_index.Given as goal
 
 abbrev pub invariant-loop-i : goal.invariant-loop-i
 invariant-loop-i l = Scans l.text l.at l.i l.depth
-
-abbrev pub decreases-loop-i : goal.decreases-loop-i
-decreases-loop-i l = length l.text - l.i

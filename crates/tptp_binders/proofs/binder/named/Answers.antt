@@ -4,7 +4,7 @@ use Rattle.model.specs.Bytes.{Text}
 use Rattle.model.specs.Decimal.{digits}
 use Rattle.model.specs.TptpReading.{token}
 use Rattle.text.specs.Put.{Puts}
-use Rattle.tptp_tokens.specs.Steps.{Steps, Behind}
+use Rattle.tptp_tokens.specs.Steps.{Steps}
 use Rattle.tptp_binders.proofs.BinderLaws.{never-full, variable-word}
 use Rattle.tptp_binders.proofs.binder.named.Goals as goal
 
@@ -20,9 +20,7 @@ pub returns : goal.returns
 returns c =
     let a = c.args in
     let w =
-    subst (Puts (digits 10 a.x) 1 a.word.now c.put_natural-put.new.out) c.in-At.is
-    c.put_natural-put.ensures in (
-      subst (λ (word : Text). Behind (Steps (token word) a.text.now) a.before c.then_token.result)
-          (variable-word a.x _ a.word.now _ c.requires.2 w) c.then_token.ensures.0,
-      c.then_token.ensures.1,
-    )
+    subst (Puts (digits 10 a.x) 1 a.word.now c.put_natural-put.new.out) c.in-Some.is
+    c.put_natural-put.ensures in
+    subst (λ (word : Text). Steps (token word) a.text.now a.at c.token.result)
+    (variable-word a.x _ a.word.now _ c.requires.2 w) c.token.ensures

@@ -1,10 +1,6 @@
 -- `tptp_binders::binder::variables` meets its contract. The loop's invariant: so many variables were read.
-use Prim.Native.Nat.{◌+◌, ◌-◌}
 use Rattle.tptp_binders.proofs.BinderLaws.{Counting}
 use Rattle.tptp_binders.proofs.binder.variables.Given as goal
 
 abbrev pub invariant-loop-count : goal.invariant-loop-count
 invariant-loop-count l = Counting l.most l.x l.text l.at l.next l.count
-
-abbrev pub decreases-loop-count : goal.decreases-loop-count
-decreases-loop-count l = l.most + 1 - l.count

@@ -1,7 +1,13 @@
 -- `tptp_binders::tuples::closed` meets its contract.
-use Rattle.model.specs.Bytes.{bytes}
+use Rattle.tptp_binders.proofs.TupleLaws.{closing_one, closing_more}
 use Rattle.tptp_binders.proofs.tuples.closed.Goals as goal
 
+pub returns-then-v-eq1 : goal.returns-then-v-eq1
+returns-then-v-eq1 c =
+    let a = c.args in
+    closing_one a.text.now a.at 0 a.v c.if-v-eq1.true c.requires
+
 pub returns : goal.returns
-unfolding bytes
-returns c = record { one = λ e. absurd (c.if-v-eq1.false e); more = λ _. c.then_expect.ensures.0 }
+returns c =
+    let a = c.args in
+    closing_more a.text.now a.at 0 a.v c.if-v-eq1.false c.expect.result c.expect.ensures

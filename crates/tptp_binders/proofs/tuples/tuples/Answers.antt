@@ -1,12 +1,6 @@
 -- `tptp_binders::tuples::tuples` meets its contract. The loop's invariant: so many tuples were read and laid.
 use native.Mathlib.Omega.{arith}
-use Prim.Native.Nat.{◌+◌, ◌-◌}
-use mathlib.Core.Path.{subst}
-use Rattle.model.specs.Bytes.{ampersand}
-use Rattle.model.specs.TptpReading.{more, read_tuple}
-use Rattle.tptp_tokens.specs.Steps.{Valued}
-use Rattle.tptp_binders.specs.Tuples.{StoredAll, StoredTuples}
-use Rattle.tptp_tokens.proofs.TokenLaws.{stays}
+use Rattle.laws.specs.Answer.{passed_on}
 use Rattle.tptp_binders.proofs.TuplesLaws.{tupling_none, tupling_over, tupling_stop, tupling_refused, tupling_more}
 use Rattle.tptp_binders.proofs.tuples.tuples.Goals as goal
 
@@ -26,26 +20,16 @@ returns-then-text-i-ne38 c =
     tupling_stop a.room a.v a.x a.w a.text.now a.at a.out.now c.loop-at.invariant _ c.skip-i.ensures
     (omega (arith, c.if-text-i.false)) c.if-text-i-ne38.true
 
-pub returns-in_default : goal.returns-in_default
-returns-in_default c =
+pub returns-in_err-next : goal.returns-in_err-next
+returns-in_err-next c =
     let a = c.args in
-    stays
-    (Valued (read_tuple a.room a.v a.x)
-    (StoredAll a.v c.loop-at.to c.loop-at.out c.tuple-one.new.out) a.text.now
-    (c.skip-i.result + 1))
-    (Valued (more ampersand (read_tuple a.room a.v a.x))
-    (StoredTuples a.v a.w 0 a.out.now c.tuple-one.new.out) a.text.now a.at)
+    rw (passed_on _ c.from_residual.ensures.1)
     (tupling_refused a.room a.v a.x a.w a.text.now a.at a.out.now c.loop-at.invariant _
-    c.skip-i.ensures (omega (arith, c.if-text-i.false)) c.if-text-i-ne38.false) c.in_default.is c.tuple-one.ensures
+    c.skip-i.ensures (omega (arith, c.if-text-i.false)) c.if-text-i-ne38.false _ _ c.in_err-next.ensures)
 
 pub loop-at-preserved : goal.loop-at-preserved
 loop-at-preserved c =
     let a = c.args in
-    let r =
-    subst
-    (Valued (read_tuple a.room a.v a.x)
-    (StoredAll a.v c.loop-at.to c.loop-at.out c.tuple-one.new.out) a.text.now
-    (c.skip-i.result + 1)) c.in-At.is c.tuple-one.ensures in
     tupling_more a.room a.v a.x a.w a.text.now a.at a.out.now c.loop-at.invariant _ c.skip-i.ensures
-    (omega (arith, c.if-text-i.false)) c.if-text-i-ne38.false c.tuple-one.new.out _ _ c.requires.1 r
-    c.tuple-one.auto.out c.more_words-to.ensures
+    (omega (arith, c.if-text-i.false)) c.if-text-i-ne38.false c.tuple.new.out _ _ c.requires.1 c.in_ok-next.ensures
+    c.tuple.auto.out c.more_words-to.ensures

@@ -1,10 +1,6 @@
 -- `tptp_leaves::terms::terms` meets its contract. The loop's invariant: so many terms were read and stand with their number.
-use Prim.Native.Nat.{◌-◌}
 use Rattle.tptp_leaves.proofs.TermLaws.{Listing}
 use Rattle.tptp_leaves.proofs.terms.terms.Given as goal
 
 abbrev pub invariant-loop-n : goal.invariant-loop-n
 invariant-loop-n l = Listing l.text l.at l.initial.own l.own l.next l.n
-
-abbrev pub decreases-loop-n : goal.decreases-loop-n
-decreases-loop-n l = 6 - l.n

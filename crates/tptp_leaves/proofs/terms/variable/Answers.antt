@@ -2,22 +2,20 @@
 use mathlib.Core.Path.{sym, subst}
 use Rattle.model.specs.Words.{Words}
 use Rattle.model.specs.TptpReading.{natural}
-use Rattle.tptp_tokens.specs.Numbers.{Naturals}
 use Rattle.tptp_tokens.specs.Steps.{Value}
 use Rattle.tptp_leaves.specs.Terms.{TermStands, read_variable}
 use Rattle.tptp_tokens.proofs.TokenLaws.{halt}
+use Rattle.laws.specs.Answer.{passed_on}
 use Rattle.tptp_leaves.proofs.TermLaws.{variable-at}
 use Rattle.tptp_leaves.proofs.terms.variable.Goals as goal
 
-pub returns-in-Refused : goal.returns-in-Refused
-returns-in-Refused c =
+pub returns-in_err-found : goal.returns-in_err-found
+returns-in_err-found c =
     let a = c.args in
-    halt natural _ a.text.now a.at _ _
-    (subst (Naturals a.text.now a.at) c.in-Refused.is c.natural-found.ensures)
+    rw (passed_on _ c.from_residual.ensures.1) (halt natural _ a.text.now a.at _ _ c.in_err-found.ensures)
 
-pub returns-in-Read : goal.returns-in-Read
-returns-in-Read c =
+pub returns : goal.returns
+returns c =
     let a = c.args in
-    subst (λ (own : Words). Value read_variable (TermStands a.k a.own.now own) a.text.now a.at c.in-Read.next) (sym c.put_term.ensures)
-    (variable-at a.text.now a.at a.k a.own.now _ c.in-Read.x c.requires.1
-    (subst (Naturals a.text.now a.at) c.in-Read.is c.natural-found.ensures))
+    subst (λ (own : Words). Value read_variable (TermStands a.k a.own.now own) a.text.now a.at c.in_ok-found.found.next) (sym c.put_term.ensures)
+    (variable-at a.text.now a.at a.k a.own.now c.in_ok-found.found c.requires.1 c.in_ok-found.ensures)

@@ -6,7 +6,6 @@
 use Prim.Native.Nat.{◌+◌, ◌*◌, ◌-◌}
 use lib.ListN.{length}
 use Rattle.policies.specs.Node.{as_role}
-use Rattle.tptp_state.specs.Known.{state_of}
 use Rattle.tptp_reading.proofs.ChildrenLaws.{Joining}
 use Rattle.tptp_reading.proofs.formula.+chain_children_excluding_operand_quantifier_restricted_some_whole.Given as goal
 
@@ -36,7 +35,7 @@ decreases-whole l = 5 * l.room + 4
 
 abbrev pub invariant-children-loop-role : goal.invariant-children-loop-role
 invariant-children-loop-role l =
-    Joining l.room l.every l.table (as_role l.role) l.above l.scope l.start (state_of l.initial.known l.initial.set) l.text l.at l.initial.out l.out (state_of l.known l.set) l.next l.n
+    Joining l.room l.every l.table (as_role l.role) l.above l.scope l.start l.initial.state l.text l.at l.initial.out l.out l.state l.next l.n
 
 abbrev pub decreases-children-loop-role : goal.decreases-children-loop-role
 decreases-children-loop-role l = length l.text - l.next

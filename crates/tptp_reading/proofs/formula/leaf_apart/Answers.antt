@@ -1,25 +1,26 @@
 -- `tptp_reading::formula::leaf_apart` meets its contract.
 use mathlib.Core.Path.{◌∙◌}
 use Rattle.model.specs.Reading.{is_formula}
+use Rattle.laws.specs.Answer.{passed_on}
 use Rattle.policies.specs.Node.{as_role}
 use Rattle.tptp_reading.proofs.OperandLaws.{leaf-refused, leaf-stands, leaf-read}
 use Rattle.tptp_reading.proofs.formula.leaf_apart.Goals as goal
 
-pub returns-in_default : goal.returns-in_default
-returns-in_default c =
+pub returns-in_err-end : goal.returns-in_err-end
+returns-in_err-end c =
     let a = c.args in
-    leaf-refused a.room (is_formula (as_role a.role)) a.scope a.text.now a.at c.requires.1 c.requires.2 c.requires.3 _
-    c.leaf-end.ensures _ c.in_default.is
+    rw (passed_on _ c.from_residual.ensures.1)
+    (leaf-refused a.room (is_formula (as_role a.role)) a.scope a.text.now a.at c.requires.1 c.requires.2 c.requires.3 _ _ c.in_err-end.ensures)
 
 pub settle_leaf-requires : goal.settle_leaf-requires
 settle_leaf-requires c =
     let a = c.args in
     let stands = leaf-stands a.room (is_formula (as_role a.role)) a.scope a.text.now a.at c.requires.1 c.requires.2 c.requires.3
-    _ c.leaf-end.ensures c.in-At.is in
-    (c.requires.0, stands, c.leaf-end.auto.own ∙ c.requires.4)
+    _ c.in_ok-end.ensures in
+    (c.requires.0, stands, c.leaf.auto.own ∙ c.requires.4)
 
 pub returns : goal.returns
 returns c =
     let a = c.args in
     leaf-read a.room (is_formula (as_role a.role)) a.scope a.text.now a.at c.requires.1 c.requires.2 c.requires.3 _
-    c.leaf-end.ensures _ c.in-At.is c.settle_leaf.ensures
+    c.in_ok-end.ensures _ c.settle_leaf.ensures

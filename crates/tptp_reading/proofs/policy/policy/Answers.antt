@@ -1,39 +1,72 @@
 -- `tptp_reading::policy::policy` meets its contract.
-use mathlib.Core.Bool.{true}
-use Rattle.model.specs.Level.{formula}
+use Rattle.model.specs.Bytes.{bytes}
 use Rattle.model.specs.Reading.{is_formula}
-use Rattle.model.specs.TptpReading.{readers}
-use Rattle.tptp_tokens.specs.Steps.{Valued}
-use Rattle.tptp_state.specs.Told.{Told}
-use Rattle.tptp_reading.specs.Formula.{closed}
-use Rattle.tptp_reading.specs.Policy.{start_state}
-use Rattle.tptp_state.specs.declared.state.State.{State}
-use Rattle.tptp_state.proofs.KnownLaws.{as_held}
-use Rattle.tptp_reading.proofs.PolicyLaws.{header_refused, policy-read, start-held}
+use Rattle.model.specs.TptpReading.{read_whole, onwards, ◌>>=◌}
+use Rattle.laws.specs.Answer.{passed_on}
+use Rattle.tptp_reading.proofs.PolicyLaws.{start-ready, policy-refused, policy_undotted, policy_unended, policy-read}
 use Rattle.tptp_reading.proofs.policy.policy.Goals as goal
 
-pub returns-in_default : goal.returns-in_default
-returns-in_default c =
-    let a = c.args in
-    header_refused a.text.now 255 c.token-word.result c.then_expect-open.result c.then_name-named.result c.then_expect-comma.result
-    c.then_token-kind.result c.then_expect-second.result
-    c.token-word.ensures c.then_expect-open.ensures.0 c.then_name-named.ensures.0 c.then_expect-comma.ensures.0 c.then_token-kind.ensures.0
-    c.then_expect-second.ensures.0
-    (λ tree. Told a.table.now tree formula 0 0 start_state c.held-state.result a.out.now a.out.now) c.in_default.is
+pub returns-in_err-word : goal.returns-in_err-word
+unfolding read_whole bytes ◌>>=◌ onwards
+returns-in_err-word c =
+    rw (passed_on _ c.from_residual.ensures.1)
+    (rw c.in_err-word.ensures)
+
+pub returns-in_err-open : goal.returns-in_err-open
+unfolding read_whole bytes ◌>>=◌ onwards
+returns-in_err-open c =
+    rw (passed_on _ c.from_residual-in_err-open.ensures.1)
+    (rw (c.in_ok-word.ensures.reads, c.in_err-open.ensures))
+
+pub returns-in_err-named : goal.returns-in_err-named
+unfolding read_whole bytes ◌>>=◌ onwards
+returns-in_err-named c =
+    rw (passed_on _ c.from_residual-in_err-named.ensures.1)
+    (rw (c.in_ok-word.ensures.reads, c.in_ok-open.ensures.reads, c.in_err-named.ensures))
+
+pub returns-in_err-comma : goal.returns-in_err-comma
+unfolding read_whole bytes ◌>>=◌ onwards
+returns-in_err-comma c =
+    rw (passed_on _ c.from_residual-in_err-comma.ensures.1)
+    (rw (c.in_ok-word.ensures.reads, c.in_ok-open.ensures.reads, c.in_ok-named.ensures.reads, c.in_err-comma.ensures))
+
+pub returns-in_err-kind : goal.returns-in_err-kind
+unfolding read_whole bytes ◌>>=◌ onwards
+returns-in_err-kind c =
+    rw (passed_on _ c.from_residual-in_err-kind.ensures.1)
+    (rw (c.in_ok-word.ensures.reads, c.in_ok-open.ensures.reads, c.in_ok-named.ensures.reads, c.in_ok-comma.ensures.reads, c.in_err-kind.ensures))
+
+pub returns-in_err-at : goal.returns-in_err-at
+unfolding read_whole bytes ◌>>=◌ onwards
+returns-in_err-at c =
+    rw (passed_on _ c.from_residual-in_err-at.ensures.1)
+    (rw (c.in_ok-word.ensures.reads, c.in_ok-open.ensures.reads, c.in_ok-named.ensures.reads, c.in_ok-comma.ensures.reads, c.in_ok-kind.ensures.reads, c.in_err-at.ensures))
+
+pub returns-in_err-end : goal.returns-in_err-end
+unfolding bytes is_formula
+returns-in_err-end c =
+    rw (passed_on _ c.from_residual-in_err-end.ensures.1)
+    (policy-refused c.args.text.now 255 c.in_ok-word.ensures c.in_ok-open.ensures c.in_ok-named.ensures c.in_ok-comma.ensures c.in_ok-kind.ensures c.in_ok-at.ensures
+    _ _ c.in_err-end.ensures)
+
+pub returns-in_err-dot : goal.returns-in_err-dot
+unfolding bytes is_formula
+returns-in_err-dot c =
+    rw (passed_on _ c.from_residual-in_err-dot.ensures.1)
+    (policy_undotted c.args.text.now 255 c.in_ok-word.ensures c.in_ok-open.ensures c.in_ok-named.ensures c.in_ok-comma.ensures c.in_ok-kind.ensures c.in_ok-at.ensures
+    _ c.in_ok-end.ensures _ _ c.in_err-dot.ensures)
+
+pub returns-in_err-ended : goal.returns-in_err-ended
+unfolding bytes is_formula
+returns-in_err-ended c =
+    rw (passed_on _ c.from_residual-in_err-ended.ensures.1)
+    (policy_unended c.args.text.now 255 c.in_ok-word.ensures c.in_ok-open.ensures c.in_ok-named.ensures c.in_ok-comma.ensures c.in_ok-kind.ensures c.in_ok-at.ensures
+    _ c.in_ok-end.ensures _ c.in_ok-dot.ensures _ _ c.in_err-ended.ensures)
 
 pub returns : goal.returns
-unfolding is_formula
-returns c =
-    let a = c.args in
-    policy-read a.text.now 255 c.token-word.result c.then_expect-open.result c.then_name-named.result
-    c.then_expect-comma.result c.then_token-kind.result c.then_expect-second.result c.token-word.ensures
-    c.then_expect-open.ensures.0 c.then_name-named.ensures.0 c.then_expect-comma.ensures.0 c.then_token-kind.ensures.0
-    c.then_expect-second.ensures.0
-    (λ tree. Told a.table.now tree formula 0 0 start_state c.held-state-2.result a.out.now
-    c.whole-end.new.out) c.whole-end.result c.then_expect-dot.result c.ended-last.result
-    c.in-At.is
-    (as_held
-    (λ (s r : State). Valued (closed ((readers 255).operand true 0))
-    (λ tree. Told a.table.now tree formula 0 0 s r a.out.now c.whole-end.new.out)
-    a.text.now c.in-At.at c.whole-end.result) start-held c.held-state-2.ensures c.whole-end.ensures.0)
-    c.then_expect-dot.ensures.0 c.ended-last.ensures.0
+unfolding bytes is_formula
+returns c = (
+  _,
+  policy-read c.args.text.now 255 c.in_ok-word.ensures c.in_ok-open.ensures c.in_ok-named.ensures c.in_ok-comma.ensures c.in_ok-kind.ensures c.in_ok-at.ensures
+      _ c.in_ok-end.ensures _ c.in_ok-dot.ensures _ c.in_ok-ended.ensures,
+)

@@ -1,19 +1,23 @@
 -- `tptp_state::state::ask_leaf` meets its contract.
-use mathlib.Core.Path.{sym, ap, ◌∙◌}
+use mathlib.Core.Path.{ap, ◌∙◌}
+use Rattle.model.specs.Answer.{◌>>=◌}
 use Rattle.model.specs.Tag.{Tag}
 use Rattle.model.specs.Reading.{questions}
+use Rattle.laws.specs.Answer.{passed_on}
 use Rattle.policies.specs.Node.{as_role}
 use Rattle.tptp_state.specs.Told.{moved}
-use Rattle.tptp_state.proofs.StateLaws.{refused_then, passed_then}
 use Rattle.tptp_state.proofs.state.ask_leaf.Goals as goal
 
-pub returns-in-Refused : goal.returns-in-Refused
-returns-in-Refused c = refused_then c.in-Refused.is _
+pub returns-in_err-before : goal.returns-in_err-before
+unfolding ◌>>=◌
+returns-in_err-before c = rw (passed_on _ c.from_residual.ensures.1, c.in_err-before.was)
 
 pub returns : goal.returns
+unfolding ◌>>=◌
 returns c =
     let a = c.args in
-    c.at_place.ensures ∙ ap (moved a.place)
+    rw c.in_ok-before.was
+    (c.at_place.ensures ∙ ap (moved a.place)
     (c.questions-asked.ensures ∙ ap
     (λ (g : Tag). questions a.table.now a.own.now g (as_role a.role) a.above a.scope 0)
-    c.tag_at-tag.ensures) ∙ sym (passed_then c.in_default.is _)
+    c.tag_at-tag.ensures))

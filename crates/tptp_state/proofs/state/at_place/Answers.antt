@@ -1,11 +1,9 @@
 -- `tptp_state::state::at_place` meets its contract.
-use Rattle.tptp_state.specs.Told.{moved}
+use native.Mathlib.Omega.{arith}
+use Rattle.tptp_state.proofs.StateLaws.{refused_there}
 use Rattle.tptp_state.proofs.state.at_place.Goals as goal
 
-pub returns-in-Passed : goal.returns-in-Passed
-unfolding moved
-returns-in-Passed c = rw c.in-Passed.is
-
-pub returns-in-Refused : goal.returns-in-Refused
-unfolding moved
-returns-in-Refused c = rw c.in-Refused.is
+pub returns : goal.returns
+returns c =
+    let a = c.args in
+    refused_there a.place a.asked c.map_err.result _ c.map_err.ensures.cases (λ e d l. grind arith)

@@ -1,6 +1,5 @@
 -- `tptp_tokens::name::word_end` meets its contract. The loop's invariant: the bytes passed lead from the start to here.
 use native.Mathlib.Omega.{arith}
-use Prim.Native.Nat.{◌-◌}
 use mathlib.Core.Path.{sym, ◌∙◌}
 use Rattle.tptp_tokens.proofs.NameLaws.{word_more, word-stop, word_over}
 use Rattle.tptp_tokens.proofs.name.word_end.Goals as goal
@@ -10,17 +9,16 @@ returns-then-not-is_word c =
     let l = c.loop-i in
     let text = c.args.text.now in
     let stop = sym c.is_word.ensures ∙ c.if-not-is_word.true in
-    record { low = l.invariant.0; high = l.invariant.1; reads = l.invariant.2 ∙ word-stop text l.i c.loop-i-test.true stop }
+    record { low = omega arith; high = omega arith; reads = l.invariant ∙ word-stop text l.i c.loop-i-test.true stop }
 
 pub loop-i-preserved : goal.loop-i-preserved
 loop-i-preserved c =
     let l = c.loop-i in
     let text = c.args.text.now in
-    let more = word_more text l.i c.loop-i-test.true (sym c.is_word.ensures ∙ c.if-not-is_word.false) in
-    (omega arith, omega arith, l.invariant.2 ∙ more)
+    l.invariant ∙ word_more text l.i c.loop-i-test.true (sym c.is_word.ensures ∙ c.if-not-is_word.false)
 
 pub returns : goal.returns
 returns c =
     let l = c.loop-i in
     let text = c.args.text.now in
-    record { low = l.invariant.0; high = l.invariant.1; reads = l.invariant.2 ∙ word_over text l.i (omega (arith, c.loop-i-test.false)) }
+    record { low = c.requires; high = omega arith; reads = l.invariant ∙ word_over text l.i (omega (arith, l.auto.i-end, c.loop-i-test.false)) }

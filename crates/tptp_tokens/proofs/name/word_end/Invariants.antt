@@ -1,13 +1,8 @@
 -- `tptp_tokens::name::word_end` meets its contract. The loop's invariant: the bytes passed lead from the start to here.
-use Prim.Native.Nat.{◌-◌, ◌≤◌}
 use mathlib.Core.Path.{◌≡◌}
-use lib.ListN.{length}
 use Rattle.model.specs.TptpReading.{word_bytes}
 use Rattle.tptp_tokens.specs.Steps.{from}
 use Rattle.tptp_tokens.proofs.name.word_end.Given as goal
 
 abbrev pub invariant-loop-i : goal.invariant-loop-i
-invariant-loop-i l = (l.at ≤ l.i) × (l.i ≤ length l.text) × (from word_bytes l.text l.at ≡ from word_bytes l.text l.i)
-
-abbrev pub decreases-loop-i : goal.decreases-loop-i
-decreases-loop-i l = length l.text - l.i
+invariant-loop-i l = from word_bytes l.text l.at ≡ from word_bytes l.text l.i

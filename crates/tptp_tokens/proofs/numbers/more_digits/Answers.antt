@@ -1,6 +1,5 @@
 -- `tptp_tokens::numbers::more_digits` meets its contract. The loop's invariant: the digits passed lead from the start to here.
 use native.Mathlib.Omega.{arith}
-use Prim.Native.Nat.{◌-◌}
 use mathlib.Core.Path.{sym, ◌∙◌}
 use Rattle.laws.specs.Decimal.{digit-range}
 use Rattle.tptp_tokens.proofs.NumberLaws.{digits_more, digits-nought, digits_great, digits-stop, digits_end}
@@ -12,12 +11,12 @@ returns-then-not-digit c =
     let a = c.args in
     let other = sym c.digit.ensures ∙ c.if-not-digit.true in (
       record {
-        low = l.invariant.0;
-        high = l.invariant.1;
-        reads = l.invariant.4 ∙ digits-stop a.text.now l.i a.most l.n c.loop-i-test.true other;
+        low = omega arith;
+        high = omega arith;
+        reads = l.invariant.2 ∙ digits-stop a.text.now l.i a.most l.n c.loop-i-test.true other;
       },
-      l.invariant.2,
-      l.invariant.3,
+      l.invariant.0,
+      l.invariant.1,
     )
 
 pub returns-then-n-eq0 : goal.returns-then-n-eq0
@@ -25,7 +24,7 @@ returns-then-n-eq0 c =
     let l = c.loop-i in
     let a = c.args in
     let d = sym c.digit.ensures ∙ c.if-not-digit.false in
-    l.invariant.4 ∙ digits-nought a.text.now l.i a.most l.n c.loop-i-test.true d c.if-n-eq0.true
+    l.invariant.2 ∙ digits-nought a.text.now l.i a.most l.n c.loop-i-test.true d c.if-n-eq0.true
 
 pub overflow_sub-raised : goal.overflow_sub-raised
 overflow_sub-raised c =
@@ -37,7 +36,7 @@ returns-then-most-raised c =
     let l = c.loop-i in
     let a = c.args in
     let d = sym c.digit.ensures ∙ c.if-not-digit.false in
-    l.invariant.4 ∙ digits_great a.text.now l.i a.most l.n c.loop-i-test.true d c.if-n-eq0.false c.if-most-raised.true
+    l.invariant.2 ∙ digits_great a.text.now l.i a.most l.n c.loop-i-test.true d c.if-n-eq0.false c.if-most-raised.true
 
 pub loop-i-preserved : goal.loop-i-preserved
 loop-i-preserved c =
@@ -47,17 +46,17 @@ loop-i-preserved c =
     let more =
     digits_more a.text.now l.i a.most l.n c.loop-i-test.true d c.if-n-eq0.false
     (omega (arith, c.if-most-raised.false)) in
-    (omega arith, omega arith, omega (arith, l.invariant.2), omega (arith, c.if-most-raised.false), l.invariant.4 ∙ more)
+    (omega (arith, l.invariant.0), omega (arith, c.if-most-raised.false), l.invariant.2 ∙ more)
 
 pub returns : goal.returns
 returns c =
     let l = c.loop-i in
     let a = c.args in (
       record {
-        low = l.invariant.0;
-        high = l.invariant.1;
-        reads = l.invariant.4 ∙ digits_end a.text.now l.i a.most l.n (omega (arith, c.loop-i-test.false));
+        low = c.requires.0;
+        high = omega arith;
+        reads = l.invariant.2 ∙ digits_end a.text.now l.i a.most l.n (omega (arith, l.auto.i-end, c.loop-i-test.false));
       },
-      l.invariant.2,
-      l.invariant.3,
+      l.invariant.0,
+      l.invariant.1,
     )

@@ -1,13 +1,9 @@
 -- `tptp_tokens::numbers::more_digits` meets its contract. The loop's invariant: the digits passed lead from the start to here.
-use Prim.Native.Nat.{◌-◌, ◌≤◌}
+use Prim.Native.Nat.{◌≤◌}
 use mathlib.Core.Path.{◌≡◌}
-use lib.ListN.{length}
 use Rattle.model.specs.TptpReading.{more_digits}
 use Rattle.tptp_tokens.specs.Steps.{from}
 use Rattle.tptp_tokens.proofs.numbers.more_digits.Given as goal
 
 abbrev pub invariant-loop-i : goal.invariant-loop-i
-invariant-loop-i l = (l.at ≤ l.i) × (l.i ≤ length l.text) × (l.first ≤ l.n) × (l.n ≤ l.most) × (from (more_digits l.most l.first) l.text l.at ≡ from (more_digits l.most l.n) l.text l.i)
-
-abbrev pub decreases-loop-i : goal.decreases-loop-i
-decreases-loop-i l = length l.text - l.i
+invariant-loop-i l = (l.first ≤ l.n) × (l.n ≤ l.most) × (from (more_digits l.most l.first) l.text l.at ≡ from (more_digits l.most l.n) l.text l.i)

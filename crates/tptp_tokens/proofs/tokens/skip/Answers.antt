@@ -1,6 +1,5 @@
 -- `tptp_tokens::tokens::skip` meets its contract. The loop's invariant: the blanks passed lead from the start to here.
 use native.Mathlib.Omega.{arith}
-use Prim.Native.Nat.{◌-◌}
 use mathlib.Core.Path.{sym, ◌∙◌}
 use Rattle.tptp_tokens.proofs.TokenLaws.{skip_more, skip_stop, skip_end}
 use Rattle.tptp_tokens.proofs.tokens.skip.Goals as goal
@@ -11,9 +10,9 @@ returns-then-not-is_blank c =
     let text = c.args.text.now in
     let stop = sym c.is_blank.ensures ∙ c.if-not-is_blank.true in
     record {
-      low = l.invariant.0;
-      high = l.invariant.1;
-      reads = l.invariant.2 ∙ skip_stop text l.i c.loop-i-test.true stop;
+      low = omega arith;
+      high = omega arith;
+      reads = l.invariant ∙ skip_stop text l.i c.loop-i-test.true stop;
       stop = λ h. stop;
     }
 
@@ -21,16 +20,15 @@ pub loop-i-preserved : goal.loop-i-preserved
 loop-i-preserved c =
     let l = c.loop-i in
     let text = c.args.text.now in
-    let more = skip_more text l.i c.loop-i-test.true (sym c.is_blank.ensures ∙ c.if-not-is_blank.false) in
-    (omega arith, omega arith, l.invariant.2 ∙ more)
+    l.invariant ∙ skip_more text l.i c.loop-i-test.true (sym c.is_blank.ensures ∙ c.if-not-is_blank.false)
 
 pub returns : goal.returns
 returns c =
     let l = c.loop-i in
     let text = c.args.text.now in
     record {
-      low = l.invariant.0;
-      high = l.invariant.1;
-      reads = l.invariant.2 ∙ skip_end text l.i (omega (arith, c.loop-i-test.false));
-      stop = λ h. absurd (omega (arith, h, c.loop-i-test.false));
+      low = c.requires;
+      high = omega arith;
+      reads = l.invariant ∙ skip_end text l.i (omega (arith, l.auto.i-end, c.loop-i-test.false));
+      stop = λ h. absurd (omega (arith, h));
     }

@@ -1,13 +1,8 @@
 -- `tptp_tokens::tokens::skip` meets its contract. The loop's invariant: the blanks passed lead from the start to here.
-use Prim.Native.Nat.{◌-◌, ◌≤◌}
 use mathlib.Core.Path.{◌≡◌}
-use lib.ListN.{length}
 use Rattle.model.specs.TptpReading.{blanks}
 use Rattle.tptp_tokens.specs.Steps.{from}
 use Rattle.tptp_tokens.proofs.tokens.skip.Given as goal
 
 abbrev pub invariant-loop-i : goal.invariant-loop-i
-invariant-loop-i l = (l.at ≤ l.i) × (l.i ≤ length l.text) × (from blanks l.text l.at ≡ from blanks l.text l.i)
-
-abbrev pub decreases-loop-i : goal.decreases-loop-i
-decreases-loop-i l = length l.text - l.i
+invariant-loop-i l = from blanks l.text l.at ≡ from blanks l.text l.i

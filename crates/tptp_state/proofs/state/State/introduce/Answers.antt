@@ -1,4 +1,4 @@
--- `tptp_state::state::introduce` meets its contract.
+-- `tptp_state::state::State::introduce` meets its contract.
 use native.Mathlib.Omega.{arith}
 use mathlib.Core.Path.{ap, ◌∙◌}
 use mathlib.Core.Bool.{Bool}
@@ -6,11 +6,11 @@ use Rattle.model.specs.Answer.{ask, ◌>>=◌}
 use Rattle.model.specs.declared.Refusal.TheVariants.{Mode}
 use Rattle.tables.specs.Checked.{outcome}
 use Rattle.tptp_state.proofs.StateLaws.{introduces}
-use Rattle.tptp_state.proofs.state.introduce.Goals as goal
+use Rattle.tptp_state.proofs.state.State.introduce.Goals as goal
 
 pub returns : goal.returns
 returns c =
     let a = c.args in
-    introduces a.before a.scope a.v _ a.w c.then_ask-told.result
-    (c.then_ask-told.ensures ∙ ap (λ (b : Bool). outcome a.before.moded >>= λ _. ask b Mode a.w) c.introduced-bound.ensures) (omega arith)
+    introduces a.self.now a.scope a.v _ a.w c.then_ask-self.result
+    (c.then_ask-self.ensures ∙ ap (λ (b : Bool). outcome a.self.now.moded >>= λ _. ask b Mode a.w) c.introduced-bound.ensures) (omega arith)
     (omega (arith, c.if-scope-v-gt-SCOPE_LIMIT.false))

@@ -1,0 +1,9 @@
+-- `tptp_state::state::State::drop_variable` meets its contract.
+use native.Mathlib.Omega.{arith}
+use Rattle.tptp_state.proofs.StateLaws.{dropped}
+use Rattle.tptp_state.proofs.state.State.drop_variable.Goals as goal
+
+pub returns : goal.returns
+returns c =
+    let a = c.args in dropped a.self.now a.scope _ a.w c.then_ask-self.result c.then_ask-self.ensures (omega arith)
+    (omega (arith, c.if-scope-ge-SCOPE_LIMIT.false))
