@@ -10,7 +10,7 @@ use lib.ListN.{length, take, replicate, length-append}
 use lib.Seq.{take-suc-set}
 use lib.Dec.{leb, ltb, eqb}
 use lib.IntN.{pos}
-use borrow.Author.Tests.{leb-true, leb-false, ltb-true, le-leb, ne_eqb}
+use borrow.Author.Tests.{leb-false, ltb-true, le-leb, ne_eqb}
 use Rattle.model.specs.declared.Refusal.TheVariants.{Csv}
 use Rattle.model.specs.Answer.{Outcome, passed, refused, ◌>>=◌}
 use Rattle.model.specs.Words.{Words, value}

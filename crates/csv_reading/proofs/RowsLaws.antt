@@ -1,13 +1,12 @@
 -- Laws for the reading of a whole text: records one after another, question 14 of them, and their rows.
-use Prim.Native.Nat.{ℕ, suc, ◌+◌, ◌*◌, ◌-◌, ◌/◌, ◌≤◌, ◌<◌}
+use Prim.Native.Nat.{ℕ, suc, ◌+◌, ◌*◌, ◌≤◌, ◌<◌}
 use native.Mathlib.Numerals.{add-one}
 use native.Mathlib.Omega.{arith}
 use mathlib.Core.Path.{◌≡◌, refl, sym, ap, ap₂, ◌∙◌, subst}
 use mathlib.Core.Logic.{⊎_elim}
 use mathlib.Core.Bool.{Bool, true, false}
 use mathlib.Core.List.{List, [], ◌∷◌, ◌++◌, append_assoc, append-nil}
-use lib.ListN.{length, take, drop, length-append, length-take, length-drop}
-use lib.Seq.{take_at, length-take-le}
+use lib.ListN.{length, take, length-append}
 use lib.Dec.{leb}
 use borrow.Author.Tests.{leb-true, leb-false}
 use Rattle.model.specs.declared.Refusal.TheVariants.{Csv, Record}
@@ -21,9 +20,8 @@ use Rattle.laws.specs.Words.Tests.{decide}
 use Rattle.laws.specs.Answer.{then_same}
 use Rattle.csv_reading.specs.declared.record.Line.{Line}
 use Rattle.csv_reading.specs.declared.field.BadByte.{BadByte}
-use Rattle.std.specs.Prelude.{Result, Ok, Err}
+use Rattle.std.specs.Prelude.{Ok, Err}
 use Rattle.csv_reading.specs.Field.{reading}
-use Rattle.csv_reading.specs.Record.{RecordAt}
 use Rattle.csv_reading.specs.Rows.{Placed, good_before, ask_text, Stand}
 use Rattle.csv_reading.proofs.FieldLaws.{read_end}
 
