@@ -112,6 +112,7 @@ fn children(
     let connective = connective(every);
     let mut next = at;
     let mut n = 1;
+    // By hand: the index goes on behind the operand that was read.
     loop {
         let i = skip(text, next);
         if text.len() <= i {
