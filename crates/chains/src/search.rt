@@ -24,6 +24,7 @@ pub fn search(
 {
     let rows = log.len() / ROW_WORDS;
     let mut link = links[start] as usize;
+    // By hand: each turn goes to where the link of its row leads.
     'rows: loop {
         if link == 0 {
             break 'rows None;

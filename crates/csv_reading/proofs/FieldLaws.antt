@@ -1,9 +1,9 @@
 -- Laws for the reading of fields: bytes passed one after another, in a bare field and in quotes, and what stands behind them.
-use Prim.Native.Nat.{ℕ, zero, suc, ◌+◌, ◌-◌, ◌≤◌, ◌<◌}
+use Prim.Native.Nat.{ℕ, zero, suc, ◌+◌, ◌≤◌, ◌<◌}
 use native.Mathlib.Numerals.{add-one}
 use native.Mathlib.Nat.{eq-or-lt_of_le}
 use native.Mathlib.Omega.{arith}
-use mathlib.Core.Path.{◌≡◌, refl, sym, ap, ap₂, ◌∙◌}
+use mathlib.Core.Path.{◌≡◌, refl, sym, ap, ap₂, ◌∙◌, subst}
 use mathlib.Core.Logic.{⊎_elim}
 use mathlib.Core.Bool.{true, false}
 use mathlib.Core.List.{[], ◌∷◌, ◌++◌}
@@ -19,9 +19,11 @@ use Rattle.model.specs.Csv.{text_data, quotable}
 use Rattle.model.specs.CsvReading.{Records, State, start, field, inside, quoting, closing, ending, move_behind, move_bare, move_first, move}
 use Rattle.model.specs.CsvReading.{add_byte, add_record, at_end, follow, read_from}
 use Rattle.laws.specs.Words.Tests.{clash, and_left, and_right, or_left}
+use Rattle.laws.specs.Lists.Span.{side}
 use Rattle.laws.specs.Csv.Complete.{data_quote}
-use Rattle.csv_reading.specs.declared.field.End.TheVariants.{Bad, Comma, Line}
-use Rattle.csv_reading.specs.Field.{is_quote, add_all, attach, behind, reading, goes_on, Rest, EndsAt}
+use Rattle.csv_reading.specs.declared.field.End.TheVariants.{Comma, Line}
+use Rattle.std.specs.Prelude.{Ok, Err}
+use Rattle.csv_reading.specs.Field.{bad_at, is_quote, add_all, attach, behind, reading, goes_on, Rest, EndsAt}
 use Rattle.text.proofs.Slices.{slice-more, all_more}
 
 -- bytes put in front one part after another
@@ -140,40 +142,42 @@ module _ (text : Text) (i : ℕ) where
       ap (behind i) (drop-cons text i 0 h)
       ∙ ap (λ (j : ℕ). follow (move_behind (get_or text i 0)) (get_or text i 0) i (λ next. read_from next j (drop j text))) (sym (add-one i))
 
-  pub ends-text : i ≤ length text → length text ≤ i → EndsAt text i (Line i)
+  pub ends-text : i ≤ length text → length text ≤ i → EndsAt text i (Ok (Line i))
   unfolding behind goes_on at_end ◌>>=◌
   ends-text k h = record {
     reads = ap (behind i) (drop_of_length-le text h) ∙ sym (ap (λ o. o >>= λ rs. passed (add_record rs)) (read_end text start i h));
     onward = omega arith;
   }
 
-  pub ends-comma : i < length text → get_or text i 0 ≡ comma → EndsAt text i (Comma (i + 1))
+  pub ends-comma : i < length text → get_or text i 0 ≡ comma → EndsAt text i (Ok (Comma (i + 1)))
   unfolding move_behind follow goes_on
   ends-comma h e = record { reads = behind-at h ∙ rw e; onward = omega arith }
 
   module _ (h : i < length text) (no : get_or text i 0 ≡ comma → ⊥) where
-    pub ends_bad : (get_or text i 0 ≡ cr → ⊥) → EndsAt text i (Bad i)
-    unfolding move_behind follow goes_on
-    ends_bad k = record { reads = behind-at h ∙ rw (ne_eqb _ comma no, ne_eqb _ cr k); onward = tt }
+    pub ends_bad : (get_or text i 0 ≡ cr → ⊥) → EndsAt text i (Err (bad_at i))
+    unfolding move_behind follow
+    ends_bad k = behind-at h ∙ rw (ne_eqb _ comma no, ne_eqb _ cr k)
 
     behind_return : get_or text i 0 ≡ cr → behind i (drop i text) ≡ reading text ending (i + 1)
     unfolding move_behind follow
     behind_return e = behind-at h ∙ rw e
 
-    pub ends-early : get_or text i 0 ≡ cr → length text ≤ i + 1 → EndsAt text i (Bad (i + 1))
-    unfolding goes_on at_end
-    ends-early e k = record { reads = behind_return e ∙ read_end text ending (i + 1) k; onward = tt }
+    -- no LF behind the CR
+    pub ends-early : get_or text i 0 ≡ cr → (i + 1 < length text → get_or text (i + 1) 0 ≡ lf → ⊥) → EndsAt text i (Err (bad_at (i + 1)))
+    unfolding at_end move follow
+    ends-early e f =
+        behind_return e
+        ∙ ⊎_elim
+        (λ (k : i + 1 < length text). read_at text ending (i + 1) k ∙ rw (ne_eqb _ lf (f k)))
+        (λ (k : length text ≤ i + 1). read_end text ending (i + 1) k)
+        (side (length text) (i + 1))
 
-    pub ends-other : get_or text i 0 ≡ cr → i + 1 < length text → (get_or text (i + 1) 0 ≡ lf → ⊥) → EndsAt text i (Bad (i + 1))
+    pub ends-line : get_or text i 0 ≡ cr → i + 1 < length text → get_or text (i + 1) 0 ≡ lf → EndsAt text i (Ok (Line (i + 2)))
     unfolding goes_on move follow
-    ends-other e k f = record { reads = behind_return e ∙ read_at text ending (i + 1) k ∙ rw (ne_eqb _ lf f); onward = tt }
-
-    pub ends-line : get_or text i 0 ≡ cr → i + 1 < length text → get_or text (i + 1) 0 ≡ lf → EndsAt text i (Line (i + 1 + 1))
-    unfolding goes_on move follow
-    ends-line e k f = record {
-      reads = behind_return e ∙ read_at text ending (i + 1) k ∙ rw f;
-      onward = omega arith;
-    }
+    ends-line e k f =
+        let same : i + 1 + 1 ≡ i + 2 = omega arith in
+        subst (λ (n : ℕ). EndsAt text i (Ok (Line n))) same
+        (record { reads = behind_return e ∙ read_at text ending (i + 1) k ∙ rw f; onward = omega arith })
 
 -- bare bytes, one more
 pub bare-none : (text : Text) (i : ℕ) → all text_data (slice i i text) ≡ true

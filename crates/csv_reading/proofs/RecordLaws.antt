@@ -2,15 +2,15 @@
 use Prim.Native.Nat.{ℕ, ◌+◌, ◌-◌, ◌≤◌, ◌<◌}
 use native.Mathlib.Numerals.{add-one}
 use native.Mathlib.Omega.{arith}
-use mathlib.Core.Path.{◌≡◌, refl, sym, ap, ap₂, ◌∙◌}
+use mathlib.Core.Path.{◌≡◌, refl, sym, ap, ap₂, ◌∙◌, subst}
 use mathlib.Core.Logic.{⊎_elim}
-use mathlib.Core.Bool.{Bool, true, false, ◌&&◌, true≢false, false≢true}
+use mathlib.Core.Bool.{Bool, true, false, cond, ◌&&◌, false≢true}
 use mathlib.Core.List.{List, [], ◌∷◌, ◌++◌, map, map-append}
-use lib.ListN.{length, take, set, replicate, length-append}
+use lib.ListN.{length, take, replicate, length-append}
 use lib.Seq.{take-suc-set}
 use lib.Dec.{leb, ltb, eqb}
-use lib.IntN.{ℤ, pos}
-use borrow.Author.Tests.{leb-true, leb-false, ltb-true, le-leb, le-ltb, lt-ltb, ne_eqb}
+use lib.IntN.{pos}
+use borrow.Author.Tests.{leb-true, leb-false, ltb-true, le-leb, ne_eqb}
 use Rattle.model.specs.declared.Refusal.TheVariants.{Csv}
 use Rattle.model.specs.Answer.{Outcome, passed, refused, ◌>>=◌}
 use Rattle.model.specs.Words.{Words, value}
@@ -27,9 +27,11 @@ use Rattle.laws.specs.Answer.{then_same}
 use Rattle.laws.specs.LogText.Back.{good-arity}
 use Rattle.csv_reading.specs.declared.field.Field.{Field}
 use Rattle.csv_reading.specs.declared.field.End.{End}
-use Rattle.csv_reading.specs.declared.field.End.TheVariants.{Bad, Comma, Line}
-use Rattle.text.specs.Reading.{signed}
-use Rattle.csv_reading.specs.Field.{add_all, attach, reading, goes_on, Onward, FieldFrom}
+use Rattle.csv_reading.specs.declared.field.End.TheVariants.{Comma, Line}
+use Rattle.std.specs.Prelude.{Some, None}
+use Rattle.std.specs.Option.{is_some}
+use Rattle.text.specs.Reading.{spelt}
+use Rattle.csv_reading.specs.Field.{add_all, attach, reading, goes_on, Onward, FieldOf}
 use Rattle.csv_reading.specs.Record.{Put, RowAsked, Reads}
 use Rattle.text.proofs.Slices.{all-last}
 use Rattle.csv_reading.proofs.FieldLaws.{read_at}
@@ -114,38 +116,56 @@ good_more fs f k =
     room true true false true h = absurd (false≢true (h refl))
     room true true false false h = refl
 
+-- what bytes spell is a number exactly if they are a good one
+spelt-some : (t : Text) → is_some (spelt t) ≡ good_number t
+unfolding spelt
+spelt-some t = go (good_number t)
+  where
+    go : (b : Bool) → is_some (cond b (Some (number_of t)) None) ≡ b
+    go true = refl
+    go false = refl
+
+spelt-number : (t : Text) → good_number t ≡ true → spelt t ≡ Some (number_of t)
+unfolding spelt
+spelt-number t e = rw e refl
+
 pub held_more :
     (text : Text) (i j fields : ℕ) (good : Bool) (row : Words) (r : Field) (row' : Words) (put : Bool) →
     Held text i j fields good row →
-    FieldFrom text field j r →
-    Put r fields row row' put →
+    FieldOf text field j r →
+    Put r.value fields row row' put →
     length row' ≡ length row →
-    Ended text i j (fields + 1) (good && put) row' r.end
-held_more text i j fields good row r row' put held f p l =
-    let fits : put ≡ good_number f.content && ltb fields 8 =
-    p.said ∙ ap₂ (λ (b : Bool) (n : ℕ). b && ltb fields n) f.good held.long
-    in record {
-      contents = held.contents;
-      content = f.content;
-      size = length-append held.contents (f.content ∷ []) ∙ ap (λ (n : ℕ). n + 1) held.size;
-      from = omega (arith, held.from);
-      to = held.to;
-      onward = f.onward;
-      reads =
-          held.reads
-          ∙ ap (λ (o : Outcome Records). o >>= λ rs. passed (cons_all held.contents rs)) f.reads
-          ∙ attach_then f.content held.contents (goes_on text r.end);
-      said = ap₂ (λ (a b : Bool). a && b) held.said fits ∙ good_more held.contents f.content fields;
-      numbers = λ e.
-          let was = and_left good put e in
-          let now = and_right good put e in
-          let room : fields < 8 = ltb-true fields 8 (and_right (good_number f.content) _ (sym fits ∙ now)) in
-          ap₂ (λ (n : ℕ) (w : Words). take n w) (add-one fields) (p.put now)
-          ∙ take-suc-set row fields _ (omega (arith, room, held.long))
-          ∙ ap₂ (λ (x : Words) (z : ℤ). x ++ z ∷ []) (held.numbers was) (sym (f.is (and_left _ _ (sym p.said ∙ now))))
-          ∙ sym (map-append number_of held.contents (f.content ∷ []));
-      long = l ∙ held.long;
-    }
+    (end : End) → r.end ≡ end → Ended text i j (fields + 1) (good && put) row' end
+held_more text i j fields good row r row' put held f p l end ends =
+    subst (Ended text i j (fields + 1) (good && put) row') ends more
+  where
+    more : Ended text i j (fields + 1) (good && put) row' r.end
+    more =
+        let fits : put ≡ good_number f.content && ltb fields 8 =
+        p.said ∙ ap₂ (λ (b : Bool) (n : ℕ). b && ltb fields n) (ap is_some f.is ∙ spelt-some f.content) held.long
+        in record {
+          contents = held.contents;
+          content = f.content;
+          size = length-append held.contents (f.content ∷ []) ∙ ap (λ (n : ℕ). n + 1) held.size;
+          from = omega (arith, held.from);
+          to = held.to;
+          onward = f.onward;
+          reads =
+              held.reads
+              ∙ ap (λ (o : Outcome Records). o >>= λ rs. passed (cons_all held.contents rs)) f.reads
+              ∙ attach_then f.content held.contents (goes_on text r.end);
+          said = ap₂ (λ (a b : Bool). a && b) held.said fits ∙ good_more held.contents f.content fields;
+          numbers = λ e.
+              let was = and_left good put e in
+              let now = and_right good put e in
+              let room : fields < 8 = ltb-true fields 8 (and_right (good_number f.content) _ (sym fits ∙ now)) in
+              let number = f.is ∙ spelt-number f.content (and_left _ _ (sym fits ∙ now)) in
+              ap₂ (λ (n : ℕ) (w : Words). take n w) (add-one fields) (p.put now (number_of f.content) number)
+              ∙ take-suc-set row fields _ (omega (arith, room, held.long))
+              ∙ ap (λ (x : Words). x ++ number_of f.content ∷ []) (held.numbers was)
+              ∙ sym (map-append number_of held.contents (f.content ∷ []));
+          long = l ∙ held.long;
+        }
 
 module _ (text : Text) (i j fields : ℕ) (good : Bool) (row : Words) where
   -- a comma behind the field
@@ -170,9 +190,9 @@ module _ (text : Text) (i j fields : ℕ) (good : Bool) (row : Words) where
       go (passed rs) = ap passed (sym (cons_all_more e.contents e.content rs))
 
   -- a place where no allowed text goes on so
-  pub ended_bad : (p : ℕ) → Ended text i j fields good row (Bad p) → reading text start i ≡ refused Csv p
-  unfolding goes_on ◌>>=◌
-  ended_bad p e = e.reads
+  pub held_bad : (p : ℕ) → Held text i j fields good row → reading text field j ≡ refused Csv p → reading text start i ≡ refused Csv p
+  unfolding ◌>>=◌
+  held_bad p held e = held.reads ∙ rw e refl
 
   module _ (table : Words) (next : ℕ) (e : Ended text i j fields good row (Line next)) (h : i < length text) where
     -- the end of the record, whose row is as asked
@@ -244,23 +264,12 @@ pub row-spelt :
     length row ≡ 8 →
     length fields ≡ k →
     take k row ≡ map number_of fields →
-    take k row ++ zeros (length row - k) ≡ row_of fields
+    take k row ++ replicate (length row - k) (pos 0) ≡ row_of fields
 unfolding row_of zeros
 row-spelt row k fields l s e = ap₂ (λ (x : Words) (n : ℕ). x ++ replicate n (pos 0)) e (ap₂ (λ (m n : ℕ). m - n) l (sym s))
 
--- a field that is no number, one that has no room, and one that becomes a word
-module _ (field : Field) (k : ℕ) (row : Words) where
-  pub put-none : field.good ≡ false → Put field k row row false
-  put-none e = record { said = sym (ap (λ (b : Bool). b && ltb k (length row)) e); put = λ z. absurd (false≢true z); kept = λ z. refl }
-
-  pub put_full : length row ≤ k → Put field k row row false
-  put_full h = record { said = sym (and-false field.good (le-ltb k (length row) h)); put = λ z. absurd (false≢true z); kept = λ z. refl }
-
-  pub put_word : (row' : Words) → field.good ≡ true → k < length row → row' ≡ set row k (signed field.negative field.magnitude) → Put field k row row' true
-  put_word row' e h p = record { said = sym (rw (e, lt-ltb k (length row) h)); put = λ z. p; kept = λ z. absurd (true≢false z) }
-
 -- the answer to question 14, from the row with zeros behind the numbers
-module _ (table row : Words) (k : ℕ) (row' : Words) (l : length row ≡ 8) (c : row' ≡ take k row ++ zeros (length row - k)) where
+module _ (table row : Words) (k : ℕ) (row' : Words) (l : length row ≡ 8) (c : row' ≡ take k row ++ replicate (length row - k) (pos 0)) where
   pub spells_bad : good_row table row' ≡ false → RowAsked table row k row' false
   spells_bad e = λ fields s g t.
       let spelt : row' ≡ row_of fields = c ∙ row-spelt row k fields l s t in

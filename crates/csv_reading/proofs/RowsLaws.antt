@@ -20,7 +20,8 @@ use Rattle.model.specs.LogText.{row_of, spells_row, ask_records}
 use Rattle.laws.specs.Words.Tests.{decide}
 use Rattle.laws.specs.Answer.{then_same}
 use Rattle.csv_reading.specs.declared.record.Line.{Line}
-use Rattle.csv_reading.specs.declared.record.Line.TheVariants.{Bad, Read}
+use Rattle.csv_reading.specs.declared.field.BadByte.{BadByte}
+use Rattle.std.specs.Prelude.{Result, Ok, Err}
 use Rattle.csv_reading.specs.Field.{reading}
 use Rattle.csv_reading.specs.Record.{RecordAt}
 use Rattle.csv_reading.specs.Rows.{Placed, good_before, ask_text, Stand}
@@ -112,18 +113,18 @@ module _ (table : Words) (records : Records) (count : ℕ) (rows : Words) (g : G
 
 module _ (table : Words) (text : Text) (at count good : ℕ) (rows rows' : Words) (g : Gone table text at count good rows) where
   -- a place where no allowed text goes on so
-  pub gone_bad : (p : ℕ) → Placed table text at count rows rows' (Bad p) → ask_text table text ≡ refused Csv p
+  pub gone_bad : (bad : BadByte) → Placed table text at count rows rows' (Err bad) → ask_text table text ≡ refused Csv bad.0
   unfolding ask_text ◌>>=◌
-  gone_bad p l = rw (g.reads, l.reads)
+  gone_bad bad l = rw (g.reads, l.reads)
 
-  module _ (next : ℕ) (spelled : Bool) (l : Placed table text at count rows rows' (Read next spelled)) (same : length rows' ≡ length rows) where
+  module _ (line : Line) (l : Placed table text at count rows rows' (Ok line)) (same : length rows' ≡ length rows) where
     x : List Text
     x = l.reads.fields
 
-    reads_more : read_csv text ≡ (reading text start next >>= λ rs. passed ((g.records ++ x ∷ []) ++ rs))
+    reads_more : read_csv text ≡ (reading text start line.next >>= λ rs. passed ((g.records ++ x ∷ []) ++ rs))
     unfolding x ◌>>=◌
     reads_more =
-        g.reads ∙ ap (λ (o : Outcome Records). o >>= λ rs. passed (g.records ++ rs)) l.reads.reads ∙ go (reading text start next)
+        g.reads ∙ ap (λ (o : Outcome Records). o >>= λ rs. passed (g.records ++ rs)) l.reads.reads ∙ go (reading text start line.next)
       where
         go :
             (o : Outcome Records) →
@@ -131,8 +132,8 @@ module _ (table : Words) (text : Text) (at count good : ℕ) (rows rows' : Words
         go (refused r p) = refl
         go (passed rs) = ap passed (sym (append_assoc g.records (x ∷ []) rs))
 
-    -- all records spelled rows, and so does this one
-    gone_yes : spelled ≡ true → count ≤ good → Gone table text next (count + 1) (count + 1) rows'
+    -- all records line.spelled rows, and so does this one
+    gone_yes : line.spelled ≡ true → count ≤ good → Gone table text line.next (count + 1) (count + 1) rows'
     unfolding x
     gone_yes e h = record {
       records = g.records ++ x ∷ [];
@@ -144,8 +145,8 @@ module _ (table : Words) (text : Text) (at count good : ℕ) (rows rows' : Words
       all = λ k. good_more table g.records count rows (g.all h) x rows' l.row (sym l.reads.asked ∙ e) (l.reads.spelt e) l.long same l.stands;
     }
 
-    -- all records spelled rows, and this one does not
-    gone_no : spelled ≡ false → count ≤ good → Gone table text next (count + 1) good rows'
+    -- all records line.spelled rows, and this one does not
+    gone_no : line.spelled ≡ false → count ≤ good → Gone table text line.next (count + 1) good rows'
     unfolding x
     gone_no e h = record {
       records = g.records ++ x ∷ [];
@@ -160,7 +161,7 @@ module _ (table : Words) (text : Text) (at count good : ℕ) (rows rows' : Words
     }
 
     -- one of them did not
-    gone_behind : good < count → Gone table text next (count + 1) good rows'
+    gone_behind : good < count → Gone table text line.next (count + 1) good rows'
     unfolding x
     gone_behind h = record {
       records = g.records ++ x ∷ [];
@@ -173,18 +174,18 @@ module _ (table : Words) (text : Text) (at count good : ℕ) (rows rows' : Words
     }
 
     -- a record more
-    pub gone_more : Gone table text next (count + 1) (good_before good count spelled) rows'
+    pub gone_more : Gone table text line.next (count + 1) (good_before good count line.spelled) rows'
     gone_more =
         ⊎_elim
         (λ (e : leb count good ≡ true).
         ⊎_elim
-        (λ (h : spelled ≡ true).
-        subst (λ (n : ℕ). Gone table text next (count + 1) n rows') (before-yes good count spelled h e) (gone_yes h (leb-true count good e)))
-        (λ (h : spelled ≡ false).
-        subst (λ (n : ℕ). Gone table text next (count + 1) n rows') (before-no good count spelled h) (gone_no h (leb-true count good e)))
-        (decide spelled))
+        (λ (h : line.spelled ≡ true).
+        subst (λ (n : ℕ). Gone table text line.next (count + 1) n rows') (before-yes good count line.spelled h e) (gone_yes h (leb-true count good e)))
+        (λ (h : line.spelled ≡ false).
+        subst (λ (n : ℕ). Gone table text line.next (count + 1) n rows') (before-no good count line.spelled h) (gone_no h (leb-true count good e)))
+        (decide line.spelled))
         (λ (e : leb count good ≡ false).
-        subst (λ (n : ℕ). Gone table text next (count + 1) n rows') (before_less good count spelled e) (gone_behind (leb-false count good e)))
+        subst (λ (n : ℕ). Gone table text line.next (count + 1) n rows') (before_less good count line.spelled e) (gone_behind (leb-false count good e)))
         (decide (leb count good))
 
 module _ (table : Words) (text : Text) (at count good : ℕ) (rows : Words) (g : Gone table text at count good rows) (h : length text ≤ at) where
@@ -213,7 +214,7 @@ pub row-long : (count : ℕ) (rows : Words) → count < length rows / 8 → leng
 row-long count rows h = simp (length-take, length-drop) (omega arith)
 
 -- a record's row behind the others, and in a spare place
-module _ (table : Words) (text : Text) (i count : ℕ) (rows row : Words) (r : Line) (long : length row ≡ 8) (e : RecordAt table text i row r) where
+module _ (table : Words) (text : Text) (i count : ℕ) (rows row : Words) (r : Result Line BadByte) (long : length row ≡ 8) (e : RecordAt table text i row r) where
   pub placed_row : (rest : Words) → count < length rows / 8 → Placed table text i count rows (take (8 * count) rows ++ (row ++ rest)) r
   placed_row rest h = record {
     row = row;

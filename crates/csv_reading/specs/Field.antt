@@ -1,20 +1,26 @@
 -- What the reading of a field finds, as a part of the reading of the whole text.
-use Rattle.std.specs.Prelude.{ℕ, suc, ◌+◌, ◌≤◌, ◌<◌, min, ◌≡◌, Bool, true, false, [], ◌∷◌, length, get_or, drop, eqb}
+use Rattle.std.specs.Prelude.{ℕ, suc, ◌+◌, ◌≤◌, ◌<◌, min, ◌≡◌, Bool, true, false, [], ◌∷◌, length, get_or, drop, eqb, Result, Ok, Err}
 use Rattle.std.proofs.Math.Seq.{slice}
 use Rattle.model.specs.declared.Refusal.TheVariants.{Csv}
-use Rattle.model.specs.Answer.{Outcome, passed, refused, ◌>>=◌}
+use Rattle.model.specs.declared.Refused.{Refused}
+use Rattle.model.specs.Answer.{Outcome, passed, refused, refused_at, ◌>>=◌}
 use Rattle.model.specs.Bytes.{Text, quote}
 use Rattle.model.specs.Lists.{all}
 use Rattle.model.specs.Csv.{text_data}
 use Rattle.model.specs.CsvReading.{Records, State, start, field, quoting, closing, move_behind, add_byte, add_field, add_record, follow}
 use Rattle.model.specs.CsvReading.{read_from}
-use Rattle.model.specs.Decimal.{good_number, number_of}
 use Rattle.csv_reading.specs.declared.field.End.{End}
-use Rattle.csv_reading.specs.declared.field.End.TheVariants.{Bad, Comma, Line}
-use Rattle.csv_reading.specs.declared.field.Closed.{Closed}
-use Rattle.csv_reading.specs.declared.field.Closed.TheVariants.{Bad as BadAt, At}
+use Rattle.csv_reading.specs.declared.field.End.TheVariants.{Comma, Line}
+use Rattle.csv_reading.specs.declared.field.BadByte.{BadByte}
 use Rattle.csv_reading.specs.declared.field.Field.{Field}
-use Rattle.text.specs.Reading.{signed, Sized}
+use Rattle.text.specs.Reading.{spelt}
+
+-- a bad byte at a place; it is refused by question 13, at that place
+abbrev pub bad_at : ℕ → BadByte
+bad_at p = record { 0 = p }
+
+abbrev pub csv_refused : BadByte → Refused
+csv_refused bad = refused_at Csv bad.0
 
 -- a quote stands at an index; past the end of a text stands none
 abbrev pub is_quote : (text : Text) (i : ℕ) → Bool
@@ -42,7 +48,6 @@ module _ (text : Text) where
 
   -- what comes of what was found behind a field
   unfoldable pub goes_on : End → Outcome Records
-  goes_on (Bad p) = refused Csv p
   goes_on (Comma next) = do
     rs ← reading field next
     passed (add_field rs)
@@ -52,7 +57,6 @@ module _ (text : Text) where
 
   -- where the reading goes on lies behind an index, unless that is the text's end, and in the text
   abbrev pub Onward : (i : ℕ) (end : End) → Type 0
-  Onward i (Bad p) = Unit {0}
   Onward i (Comma next) = (i < next) × (next ≤ length text)
   Onward i (Line next) = (min (i + 1) (length text) ≤ next) × (next ≤ length text)
 
@@ -74,21 +78,27 @@ module _ (text : Text) where
     pub some : (next ≡ i + 1 → ⊥) → (t : Text) × (bytes ≡ get_or text i 0 ∷ t)
 
   -- such a rest, or a place where no allowed text goes on so
-  abbrev pub QuotedTo : (i : ℕ) (closed : Closed) → Type 0
-  QuotedTo i (BadAt p) = reading quoting i ≡ refused Csv p
-  QuotedTo i (At next) = Rest i next
+  abbrev pub QuotedTo : (i : ℕ) (closed : Result ℕ BadByte) → Type 0
+  QuotedTo i (Err bad) = reading quoting i ≡ refused Csv bad.0
+  QuotedTo i (Ok next) = Rest i next
 
   -- what stands behind a field at an index
-  pub record EndsAt (i : ℕ) (r : End) : Type 0 where
-    pub reads : behind i (drop i text) ≡ goes_on r
-    pub onward : Onward i r
+  pub record EndOf (i : ℕ) (end : End) : Type 0 where
+    pub reads : behind i (drop i text) ≡ goes_on end
+    pub onward : Onward i end
 
-  -- the rest of a field, read from a state and an index on: its content, whether that is a number and which, and what comes of
+  abbrev pub EndsAt : (i : ℕ) (r : Result End BadByte) → Type 0
+  EndsAt i (Err bad) = behind i (drop i text) ≡ refused Csv bad.0
+  EndsAt i (Ok end) = EndOf i end
+
+  -- the rest of a field, read from a state and an index on: its content, the number that this is, if it is one, and what comes of
   -- the text behind it
-  pub record FieldFrom (s : State) (i : ℕ) (r : Field) : Type 0 where
+  pub record FieldOf (s : State) (i : ℕ) (found : Field) : Type 0 where
     pub content : Text
-    pub reads : reading s i ≡ attach content (goes_on r.end)
-    pub good : r.good ≡ good_number content
-    pub is : r.good ≡ true → number_of content ≡ signed r.negative r.magnitude
-    pub sized : r.good ≡ true → Sized r.negative r.magnitude
-    pub onward : Onward i r.end
+    pub reads : reading s i ≡ attach content (goes_on found.end)
+    pub is : found.value ≡ spelt content
+    pub onward : Onward i found.end
+
+  abbrev pub FieldFrom : (s : State) (i : ℕ) (r : Result Field BadByte) → Type 0
+  FieldFrom s i (Err bad) = reading s i ≡ refused Csv bad.0
+  FieldFrom s i (Ok found) = FieldOf s i found

@@ -1,17 +1,17 @@
 -- What the reading of a whole text finds, and the rows that it leaves.
-use Rattle.std.specs.Prelude.{ℕ, suc, ◌+◌, ◌*◌, ◌≤◌, ◌≡◌, Bool, cond, ◌&&◌, ◌++◌, length, take, leb}
+use Rattle.std.specs.Prelude.{ℕ, suc, ◌+◌, ◌*◌, ◌≤◌, ◌≡◌, Bool, cond, ◌&&◌, ◌++◌, length, take, leb, Result, Ok, Err}
+use Rattle.model.specs.declared.Refused.{Refused}
 use Rattle.model.specs.Answer.{Outcome, passed, refused, ◌>>=◌}
 use Rattle.model.specs.Words.{Words}
 use Rattle.model.specs.Bytes.{Text}
 use Rattle.model.specs.CsvReading.{read_csv}
 use Rattle.model.specs.LogText.{ask_records}
 use Rattle.csv_reading.specs.declared.record.Line.{Line}
-use Rattle.csv_reading.specs.declared.rows.Rows.{Rows}
-use Rattle.csv_reading.specs.declared.rows.Rows.TheVariants.{Refused, Read}
+use Rattle.csv_reading.specs.declared.field.BadByte.{BadByte}
 use Rattle.csv_reading.specs.Record.{RecordAt}
 
 -- a record that is the next behind so many, and its row, which stands behind theirs if there is room
-pub record Placed (table : Words) (text : Text) (i count : ℕ) (rows rows' : Words) (r : Line) : Type 0 where
+pub record Placed (table : Words) (text : Text) (i count : ℕ) (rows rows' : Words) (r : Result Line BadByte) : Type 0 where
   pub row : Words
   pub long : length row ≡ 8
   pub reads : RecordAt table text i row r
@@ -34,6 +34,6 @@ pub record Stand (table : Words) (text : Text) (rows : Words) (n : ℕ) : Type 0
   pub long : length log ≡ 8 * n
   pub stands : 8 * n ≤ length rows → take (8 * n) rows ≡ log
 
-abbrev pub RowsRead : (table : Words) (text : Text) (rows : Words) (r : Rows) → Type 0
-RowsRead table text rows (Refused q p) = ask_text table text ≡ refused q p
-RowsRead table text rows (Read n) = Stand table text rows n
+abbrev pub RowsRead : (table : Words) (text : Text) (rows : Words) (r : Result ℕ Refused) → Type 0
+RowsRead table text rows (Err e) = ask_text table text ≡ refused e.0 e.1
+RowsRead table text rows (Ok n) = Stand table text rows n

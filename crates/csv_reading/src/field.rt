@@ -3,31 +3,35 @@ ghost use Rattle.std.specs.Prelude.{◌≡◌, false, ◌≤◌, length};
 ghost use Rattle.model.specs.CsvReading.{field, quoting};
 ghost use Rattle.csv_reading.specs.Field as F;
 
-use text::{bytes, reading};
+use model::{Refusal, Refused};
+use text::bytes;
+use text::reading::{Number, number_at};
 
-// What stands behind a field: a byte that no allowed text has there, or the text's end too early, with the place; or a comma,
-// or the end of the record, which is CRLF or that of the text, with the index behind it.
+// The place of a byte that no allowed text has there, or of the text's end too early.
+#[derive(Clone, Copy, PartialEq, Eq, Debug)]
+pub struct BadByte(pub usize);
+
+// It is refused by question 13.
+impl From<BadByte> for Refused {
+    ghost from_gives = { λ bad refused. refused ≡ F.csv_refused bad };
+
+    fn from(bad: BadByte) -> Refused {
+        Refused(Refusal::Csv, bad.0)
+    }
+}
+
+// What stands behind a field: a comma, or the end of the record, which is CRLF or that of the text; with the index behind it.
 #[derive(Clone, Copy)]
 pub enum End {
-    Bad(usize),
     Comma(usize),
     Line(usize),
 }
 
-// What is read where a field stands: whether it is a number, and which; and what stands behind it.
+// What is read where a field stands: the number that it is, if it is one; and what stands behind it.
 #[derive(Clone, Copy)]
 pub struct Field {
-    pub magnitude: usize,
-    pub negative: bool,
-    pub good: bool,
+    pub value: Option<i32>,
     pub end: End,
-}
-
-// What is read behind a quote: a place where no allowed text goes on so; or the index behind the closing quote.
-#[derive(Clone, Copy)]
-pub enum Closed {
-    Bad(usize),
-    At(usize),
 }
 
 // The first index from one on whose byte can't stand in a bare field.
@@ -35,119 +39,90 @@ fn bare(text: &[u8], from: usize) -> usize
     requires { from ≤ length text.now }
     ensures { F.BareTo text.now from result }
 {
-    let mut i = from;
-    while i < text.len() {
-        let b = text[i];
-        if !bytes::text_data(b) {
+    for i in from..text.len() {
+        if !bytes::text_data(text[i]) {
             return i;
         }
-        i += 1;
     }
-    i
+    text.len()
 }
 
-// The rest of a field in quotes.
-fn quoted(text: &[u8], from: usize) -> Closed
+// The rest of a field in quotes, up to the index behind the closing quote.
+fn quoted(text: &[u8], from: usize) -> Result<usize, BadByte>
     requires { from ≤ length text.now }
     ensures { F.QuotedTo text.now from result }
 {
     let mut i = from;
+    // By hand: a doubled quote is passed in one step.
     while i < text.len() {
         let b = text[i];
         if b == bytes::QUOTE {
             let next = i + 1;
             if !is_quote(text, next) {
-                return Closed::At(next);
+                return Ok(next);
             }
             i += 2;
         } else {
             if !bytes::quotable(b) {
-                return Closed::Bad(i);
+                return Err(BadByte(i));
             }
             i += 1;
         }
     }
-    Closed::Bad(i)
+    Err(BadByte(i))
 }
 
 // A quote stands at an index.
 fn is_quote(text: &[u8], i: usize) -> bool
     ensures { result ≡ F.is_quote text.now i }
 {
-    if i < text.len() {
-        text[i] == bytes::QUOTE
-    } else {
-        false
-    }
+    text.get(i) == Some(&bytes::QUOTE)
 }
 
 // What stands behind a field.
-fn ending(text: &[u8], at: usize) -> End
+fn ending(text: &[u8], at: usize) -> Result<End, BadByte>
     requires { at ≤ length text.now }
     ensures { F.EndsAt text.now at result }
 {
-    if text.len() <= at {
-        return End::Line(at);
+    match text.get(at) {
+        None => Ok(End::Line(at)),
+        Some(&bytes::COMMA) => Ok(End::Comma(at + 1)),
+        Some(&bytes::CR) => {
+            if text.get(at + 1) != Some(&bytes::LF) {
+                return Err(BadByte(at + 1));
+            }
+            Ok(End::Line(at + 2))
+        }
+        Some(_) => Err(BadByte(at)),
     }
-    let b = text[at];
-    let next = at + 1;
-    if b == bytes::COMMA {
-        return End::Comma(next);
-    }
-    if b != bytes::CR {
-        return End::Bad(at);
-    }
-    if text.len() <= next {
-        return End::Bad(next);
-    }
-    if text[next] != bytes::LF {
-        return End::Bad(next);
-    }
-    End::Line(next + 1)
 }
 
 // A field in quotes, the first of which stands before the index.
-fn in_quotes(text: &[u8], at: usize) -> Field
+fn in_quotes(text: &[u8], at: usize) -> Result<Field, BadByte>
     requires { at ≤ length text.now }
     ensures { F.FieldFrom text.now quoting at result }
 {
-    let found = reading::number_at(text, at);
-    let next = found.next;
-    let closed = quoted(text, next);
-    match closed {
-        Closed::Bad(place) => Field {
-            magnitude: 0,
-            negative: false,
-            good: false,
-            end: End::Bad(place),
-        },
-        Closed::At(close) => Field {
-            magnitude: found.magnitude,
-            negative: found.negative,
-            good: found.good & (close - next == 1),
-            end: ending(text, close),
-        },
-    }
+    let Number { next, value } = number_at(text, at);
+    let close = quoted(text, next)?;
+    let end = ending(text, close)?;
+    let value = if close - next == 1 { value } else { None };
+    Ok(Field { value, end })
 }
 
 // A bare field.
-fn in_text(text: &[u8], at: usize) -> Field
+fn in_text(text: &[u8], at: usize) -> Result<Field, BadByte>
     requires { (at ≤ length text.now) × (F.is_quote text.now at ≡ false) }
     ensures { F.FieldFrom text.now field at result }
 {
-    let found = reading::number_at(text, at);
-    let next = found.next;
-    let end = bare(text, next);
-    Field {
-        magnitude: found.magnitude,
-        negative: found.negative,
-        good: found.good & (end == next),
-        end: ending(text, end),
-    }
+    let Number { next, value } = number_at(text, at);
+    let stop = bare(text, next);
+    let end = ending(text, stop)?;
+    let value = if stop == next { value } else { None };
+    Ok(Field { value, end })
 }
 
 // The field at an index.
-pub fn field_at(text: &[u8], at: usize) -> Field
+pub fn field_at(text: &[u8], at: usize) -> Result<Field, BadByte>
     requires { at ≤ length text.now }
     ensures { F.FieldFrom text.now field at result }
 {

@@ -2,38 +2,32 @@
 ghost use Rattle.std.specs.Prelude.{◌≡◌, true, ◌≤◌, ◌<◌, length};
 ghost use Rattle.model.specs.Answer.{passed};
 ghost use Rattle.model.specs.Table.{ask_table};
-ghost use Rattle.text.specs.Reading.{Sized};
 ghost use Rattle.csv_reading.specs.Record as R;
 
-use crate::field;
-use crate::field::{End, Field};
+use crate::field::{BadByte, End, Field, field_at};
 use logs::log;
 use model::ARGUMENTS_FROM;
 use tables::table;
-use text::word::put;
 use words::clearing::clear;
 
-// What is read where a record stands: a place where no allowed text goes on so; or the index behind the record, and whether it
-// spells a row.
+// What is read where a record stands: the index behind the record, and whether it spells a row.
 #[derive(Clone, Copy)]
-pub enum Line {
-    Bad(usize),
-    Read(usize, bool),
+pub struct Line {
+    pub next: usize,
+    pub spelled: bool,
 }
 
 // A field becomes a word of a row, if it is a number and the row has that word.
-fn put_field(row: &mut [i32], k: usize, field: Field) -> bool
-    requires { field.good ≡ true → Sized field.negative field.magnitude }
+fn put_field(row: &mut [i32], k: usize, field: Option<i32>) -> bool
     ensures { R.Put field k row.old row.new result }
 {
-    let good = field.good;
-    if !good {
+    let Some(value) = field else {
         return false;
-    }
+    };
     if row.len() <= k {
         return false;
     }
-    put(row, k, field.magnitude, field.negative);
+    row[k] = value;
     true
 }
 
@@ -42,7 +36,7 @@ fn spells(table: &[i32], row: &mut [i32], fields: usize) -> bool
     requires { (ask_table table.now ≡ passed tt) × (length row.old ≡ 8) × (fields ≤ 8) }
     ensures { R.RowAsked table.now row.old fields row.new result }
 {
-    clear(row, fields);
+    clear(row, fields, 0);
     if !log::good_row(table, row) {
         return false;
     }
@@ -50,7 +44,7 @@ fn spells(table: &[i32], row: &mut [i32], fields: usize) -> bool
 }
 
 // The record at an index, which becomes a row.
-pub fn record(table: &[i32], text: &[u8], at: usize, row: &mut [i32]) -> Line
+pub fn record(table: &[i32], text: &[u8], at: usize, row: &mut [i32]) -> Result<Line, BadByte>
     requires { (ask_table table.now ≡ passed tt) × (at < length text.now) × (length row.old ≡ 8) }
     ensures { R.RecordAt table.now text.now at row.new result }
 {
@@ -58,20 +52,16 @@ pub fn record(table: &[i32], text: &[u8], at: usize, row: &mut [i32]) -> Line
     let mut fields = 0;
     let mut good = true;
     loop {
-        let field = field::field_at(text, from);
-        good = good & put_field(row, fields, field);
+        let Field { value, end } = field_at(text, from)?;
+        good = good & put_field(row, fields, value);
         fields += 1;
-        let end = field.end;
         match end {
-            End::Bad(place) => return Line::Bad(place),
             End::Comma(next) => {
                 from = next;
             }
             End::Line(next) => {
-                if !good {
-                    return Line::Read(next, false);
-                }
-                return Line::Read(next, spells(table, row, fields));
+                let spelled = good && spells(table, row, fields);
+                return Ok(Line { next, spelled });
             }
         }
     }

@@ -4,18 +4,18 @@ ghost use Rattle.model.specs.Answer.{passed};
 ghost use Rattle.model.specs.Table.{ask_table};
 ghost use Rattle.csv_reading.specs.Rows as R;
 
+use crate::field::BadByte;
 use crate::record::{Line, record};
-use model::{ROW_WORDS, Refusal};
-
-// What is read of a text: a refusal with its place, or the number of rows.
-#[derive(Clone, Copy)]
-pub enum Rows {
-    Refused(Refusal, usize),
-    Read(usize),
-}
+use model::{ROW_WORDS, Refusal, Refused};
 
 // The record at an index, the next behind so many. Its row goes behind the rows, if these have room for it.
-fn place_record(table: &[i32], text: &[u8], at: usize, rows: &mut [i32], count: usize) -> Line
+fn place_record(
+    table: &[i32],
+    text: &[u8],
+    at: usize,
+    rows: &mut [i32],
+    count: usize,
+) -> Result<Line, BadByte>
     requires { (ask_table table.now ≡ passed tt) × (at < length text.now) }
     ensures { R.Placed table.now text.now at count rows.old rows.new result }
 {
@@ -42,27 +42,23 @@ fn good_before(good: usize, count: usize, spelled: bool) -> usize
     count + 1
 }
 
-// Questions 13 and 14. The rows stand in the slice, if they fit it.
-pub fn read_rows(table: &[i32], text: &[u8], rows: &mut [i32]) -> Rows
+// Questions 13 and 14, and the number of rows. These stand in the slice, if they fit it.
+pub fn read_rows(table: &[i32], text: &[u8], rows: &mut [i32]) -> Result<usize, Refused>
     requires { ask_table table.now ≡ passed tt }
     ensures { R.RowsRead table.now text.now rows.new result }
 {
     let mut at = 0;
     let mut count = 0;
     let mut good = 0;
+    // By hand: the step is the length of the record that stands there.
     while at < text.len() {
-        let line = place_record(table, text, at, rows, count);
-        match line {
-            Line::Bad(place) => return Rows::Refused(Refusal::Csv, place),
-            Line::Read(next, spelled) => {
-                good = good_before(good, count, spelled);
-                count += 1;
-                at = next;
-            }
-        }
+        let Line { next, spelled } = place_record(table, text, at, rows, count)?;
+        good = good_before(good, count, spelled);
+        count += 1;
+        at = next;
     }
     if good < count {
-        return Rows::Refused(Refusal::Record, good);
+        return Err(Refused(Refusal::Record, good));
     }
-    Rows::Read(count)
+    Ok(count)
 }

@@ -21,7 +21,7 @@ use Rattle.model.specs.LogText.{log_lines, log_text}
 use Rattle.laws.specs.Log as log-laws
 use Rattle.laws.specs.Log.{row_at-length}
 use Rattle.laws.specs.LogText.Back.{used-short}
-use Rattle.std.specs.Prelude.{Option, Some, None}
+use Rattle.std.specs.Prelude.{Option, Some}
 use Rattle.text.specs.Put.{Wrote, Puts}
 use Rattle.csv_writing.specs.Row.{fields_of, line_of}
 use Rattle.text.proofs.PutLaws.{Part, part_none, part-more, part-last, byte-wrote}

@@ -11,24 +11,17 @@ ghost use Rattle.model.specs.LogText.{log_text};
 ghost use Rattle.text.specs.Put.{Writes};
 
 use model::ROW_WORDS;
-use text::writing::Put;
 
 // An accepted log, written as text: a line for each row. What stands behind the text is left open.
-pub fn write_rows(table: &[i32], log: &[i32], out: &mut [u8]) -> Put
+pub fn write_rows(table: &[i32], log: &[i32], out: &mut [u8]) -> Option<usize>
     requires { (ask_table table.now ≡ passed tt) × (ask_log table.now log.now ≡ passed tt) }
     ensures { Writes (log_text table.now log.now) out.old out.new result }
 {
     let rows = log.len() / ROW_WORDS;
     let mut next = 0;
-    let mut row = 0;
-    while row < rows {
+    for row in 0..rows {
         let at = ROW_WORDS * row;
-        let line = row::put_row(table, &log[at..at + ROW_WORDS], out, next);
-        let Put::At(end) = line else {
-            return Put::Full;
-        };
-        next = end;
-        row += 1;
+        next = row::put_row(table, &log[at..at + ROW_WORDS], out, next)?;
     }
-    Put::At(next)
+    Some(next)
 }

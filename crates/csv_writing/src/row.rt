@@ -11,58 +11,47 @@ ghost use Rattle.csv_writing.specs.Row as R;
 
 use model::ARGUMENTS_FROM;
 use tables::table;
-use text::writing::Put;
 use text::{bytes, writing};
 
 // A field behind others: a comma, and a word of the row.
-fn put_field(row: &[i32], i: usize, out: &mut [u8], at: usize) -> Put
+fn put_field(row: &[i32], i: usize, out: &mut [u8], at: usize) -> Option<usize>
     requires { at ≤ length out.old }
     ensures { Puts (B.comma ∷ decimal (word row.now i)) at out.old out.new result }
 {
     if out.len() <= at {
-        return Put::Full;
+        return None;
     }
     out[at] = bytes::COMMA;
     writing::put_number(out, at + 1, row, i)
 }
 
 // The first words of a row, at least one, as fields with commas between them.
-fn put_fields(row: &[i32], n: usize, out: &mut [u8], at: usize) -> Put
+fn put_fields(row: &[i32], n: usize, out: &mut [u8], at: usize) -> Option<usize>
     requires { (n ≤ length row.now) × (at ≤ length out.old) }
     ensures { Puts (R.fields_of row.now n) at out.old out.new result }
 {
-    let first = writing::put_number(out, at, row, 0);
-    let Put::At(start) = first else {
-        return Put::Full;
-    };
-    let mut next = start;
-    let mut i = 1;
-    while i < n {
-        let field = put_field(row, i, out, next);
-        let Put::At(end) = field else {
-            return Put::Full;
-        };
-        next = end;
-        i += 1;
+    let mut next = writing::put_number(out, at, row, 0)?;
+    for i in 1..n {
+        next = put_field(row, i, out, next)?;
     }
-    Put::At(next)
+    Some(next)
 }
 
 // The end of a line.
-fn put_end(out: &mut [u8], at: usize) -> Put
+fn put_end(out: &mut [u8], at: usize) -> Option<usize>
     requires { at ≤ length out.old }
     ensures { Puts (B.cr ∷ B.lf ∷ []) at out.old out.new result }
 {
     if out.len() < at + 2 {
-        return Put::Full;
+        return None;
     }
     out[at] = bytes::CR;
     out[at + 1] = bytes::LF;
-    Put::At(at + 2)
+    Some(at + 2)
 }
 
 // The line of a good row: as many fields as its predicate's arity wants, and CR LF.
-pub fn put_row(table: &[i32], row: &[i32], out: &mut [u8], at: usize) -> Put
+pub fn put_row(table: &[i32], row: &[i32], out: &mut [u8], at: usize) -> Option<usize>
     requires { (ask_table table.now ≡ passed tt)
         × (length row.now ≡ 8)
         × (good_row table.now row.now ≡ true)
@@ -70,9 +59,6 @@ pub fn put_row(table: &[i32], row: &[i32], out: &mut [u8], at: usize) -> Put
     ensures { Puts (R.line_of table.now row.now) at out.old out.new result }
 {
     let n = ARGUMENTS_FROM + table::arity(table, words::value(row, 0));
-    let fields = put_fields(row, n, out, at);
-    let Put::At(next) = fields else {
-        return Put::Full;
-    };
+    let next = put_fields(row, n, out, at)?;
     put_end(out, next)
 }

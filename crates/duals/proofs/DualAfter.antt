@@ -1,163 +1,146 @@
--- The index behind the words of a node that its dual keeps, by the node's tag.
-use Prim.Native.Nat.{ℕ, suc, ◌+◌, ◌≤◌}
+-- The words of a node that its dual keeps, passed: its own, and its restriction's if there is one below it.
+use Prim.Native.Nat.{ℕ, suc, ◌+◌, ◌-◌, ◌≤◌}
 use native.Mathlib.Omega.{arith}
 use mathlib.Core.Path.{◌≡◌, refl, sym, ap, ◌∙◌, subst}
-use mathlib.Core.Bool.{Bool, true, false, false≢true}
+use mathlib.Core.Logic.{◌⊎◌, ⊎_elim}
+use mathlib.Core.Bool.{Bool, true, false, cond, true≢false, false≢true}
 use mathlib.Core.List.{List}
 use lib.ListN.{length, length-append}
-use lib.IntN.{ℤ}
 use Rattle.model.specs.Words.{Words, word}
 use Rattle.model.specs.Lists.{gather}
 use Rattle.model.specs.Tag as T
-use Rattle.model.specs.Tree.{Tree, plain, atom, compare, join, quantifier, some, nil, cons, count, encode}
-use Rattle.model.specs.Level as L
+use Rattle.model.specs.Tree.{Tree, Trees, plain, atom, compare, join, quantifier, some, nil, cons, encode}
+use lib.IntN.{ℤ}
 use Rattle.laws.specs.Reading.Parts.{root}
-use Rattle.policies.specs.Node.{as_tag, There, Sized}
+use Rattle.policies.specs.Node.{as_tag}
 use Rattle.policies.specs.declared.node.Tag.{Tag}
 use Rattle.policies.specs.declared.node.Tag.TheVariants.{Plain, Atom, Compare, Join, Quantifier, Some, Unused}
-use Rattle.trees.specs.Grown.{Grown, Tree-at}
-use Rattle.trees.proofs.Rows.{Row, row_first, row_one, row-children, glue, children, tree_tag, tree-own}
+use Rattle.trees.specs.declared.walk.Walk.{Walk}
+use Rattle.trees.specs.Grown.{Grown, Tree-at, below}
 use Rattle.trees.specs.Own.{mine}
-use Rattle.trees.proofs.Ahead.{Ahead, ahead, ahead_there}
-use Rattle.duals.specs.Dual.{kept}
+use Rattle.trees.specs.Walk.{Row, Ahead, Passed}
+use Rattle.trees.proofs.Ahead.{ahead_tree}
+use Rattle.trees.proofs.Rows.{row_first, row_one, row-children, glue, children, tree_tag, tree-own}
+use Rattle.duals.specs.Dual.{kept, formulas, PastKept}
 
--- a tag whose node keeps its own words and no more
-unfoldable simple : T.Tag → Bool
-simple (T.Tag.plain b) = true
-simple (T.Tag.atom b) = true
-simple (T.Tag.compare b) = true
-simple (T.Tag.join b) = true
-simple (T.Tag.quantifier b) = false
-simple T.Tag.some = false
-simple T.Tag.unused = true
+-- the tags of the nodes that have a restriction below them
+unfoldable pub restricts : T.Tag → Bool
+restricts (T.Tag.plain b) = false
+restricts (T.Tag.atom b) = false
+restricts (T.Tag.compare b) = false
+restricts (T.Tag.join b) = false
+restricts (T.Tag.quantifier b) = true
+restricts T.Tag.some = true
+restricts T.Tag.unused = false
 
-simple_tags : (tag : Tag) → (((b : Bool) → tag ≡ Quantifier b → ⊥) × (tag ≡ Some → ⊥)) → simple (as_tag tag) ≡ true
-unfolding simple
-simple_tags (Plain b) k = refl
-simple_tags (Atom b) k = refl
-simple_tags (Compare b) k = refl
-simple_tags (Join b) k = refl
-simple_tags (Quantifier b) k = absurd (k.0 b refl)
-simple_tags Some k = absurd (k.1 refl)
-simple_tags Unused k = refl
+-- as the code tells them
+pub restricts-some : (tag : Tag) → ((b : Bool) × (tag ≡ Quantifier b)) ⊎ (tag ≡ Some) → restricts (as_tag tag) ≡ true
+unfolding restricts
+restricts-some tag =
+    ⊎_elim (λ (b, e). ap (λ (k : Tag). restricts (as_tag k)) e) (λ e. ap (λ (k : Tag). restricts (as_tag k)) e)
 
-simple_kept : (t : Tree) → simple (root t) ≡ true → kept t ≡ mine t
-unfolding simple root kept mine
-simple_kept (plain b) e = refl
-simple_kept (atom b p ts) e = refl
-simple_kept (compare b d x y) e = refl
-simple_kept (join b ts) e = refl
-simple_kept (quantifier b v excluded c f) e = absurd (false≢true e)
-simple_kept (some c) e = absurd (false≢true e)
+pub restricts-none : (tag : Tag) → ((b : Bool) → tag ≡ Quantifier b → ⊥) → (tag ≡ Some → ⊥) → restricts (as_tag tag) ≡ false
+unfolding restricts
+restricts-none (Plain b) k l = refl
+restricts-none (Atom b) k l = refl
+restricts-none (Compare b) k l = refl
+restricts-none (Join b) k l = refl
+restricts-none (Quantifier b) k l = absurd (k b refl)
+restricts-none Some k l = absurd (l refl)
+restricts-none Unused k l = refl
 
--- the quantifiers, and the nodes that bind one variable
-unfoldable pub is_quantifier : T.Tag → Bool
-is_quantifier (T.Tag.plain b) = false
-is_quantifier (T.Tag.atom b) = false
-is_quantifier (T.Tag.compare b) = false
-is_quantifier (T.Tag.join b) = false
-is_quantifier (T.Tag.quantifier b) = true
-is_quantifier T.Tag.some = false
-is_quantifier T.Tag.unused = false
+-- of the trees below a node all are formulas but the restriction
+formulas-below : (words : Words) (tag : T.Tag) (at : ℕ) → below words tag at ≡ cond (restricts tag) 1 0 + formulas words tag at
+unfolding restricts below formulas
+formulas-below words (T.Tag.plain b) at = refl
+formulas-below words (T.Tag.atom b) at = refl
+formulas-below words (T.Tag.compare b) at = refl
+formulas-below words (T.Tag.join b) at = omega arith
+formulas-below words (T.Tag.quantifier b) at = refl
+formulas-below words T.Tag.some at = refl
+formulas-below words T.Tag.unused at = refl
 
-unfoldable pub is_some : T.Tag → Bool
-is_some (T.Tag.plain b) = false
-is_some (T.Tag.atom b) = false
-is_some (T.Tag.compare b) = false
-is_some (T.Tag.join b) = false
-is_some (T.Tag.quantifier b) = false
-is_some T.Tag.some = true
-is_some T.Tag.unused = false
+-- the words kept of a node without one are its own
+own-kept : (t : Tree) → restricts (root t) ≡ false → kept t ≡ mine t
+unfolding restricts root kept mine
+own-kept (plain b) e = refl
+own-kept (atom b p ts) e = refl
+own-kept (compare b d x y) e = refl
+own-kept (join b ts) e = refl
+own-kept (quantifier b v excluded c f) e = absurd (true≢false e)
+own-kept (some c) e = absurd (true≢false e)
 
--- the words kept of a quantifier: its own, and its restriction's
-kept-long :
-    (b : Bool) (v : ℕ) (excluded : List (List ℤ)) (c f : Tree) →
-    let q = quantifier b v excluded c f in
-    suc (length (mine q)) + length (encode c) ≡ suc (length (kept q))
-unfolding mine kept
-kept-long b v excluded c f = omega (arith, length-append (gather (λ (tuple : List ℤ). tuple) excluded) (encode c))
-
-restriction-words :
-    (words : Words) (at next : ℕ) (b : Bool) (v : ℕ) (excluded : List (List ℤ)) (c f : Tree) →
-    let q = quantifier b v excluded c f in
-    Grown words at q next →
-    Grown words (at + suc (length (mine q))) c (at + suc (length (kept q)))
-unfolding children glue
-restriction-words words at next b v excluded c f g =
-    let q = quantifier b v excluded c f in
-    let row : Row words (at + suc (length (mine q))) (cons c (cons f nil)) next
-    = row-children words at next q nil (row_one words at next q g) in
-    let long : at + suc (length (mine q)) + length (encode c) ≡ at + suc (length (kept q))
-    = omega (arith, kept-long b v excluded c f) in
-    subst (λ (n : ℕ). Grown words (at + suc (length (mine q))) c n) long
-    (row_first words (at + suc (length (mine q))) next c (cons f nil) row)
+-- and else those of its restriction too, which stands behind its own
+first-below :
+    (words : Words) (at next : ℕ) (t c : Tree) (others : Trees) → Grown words at t next → children t ≡ cons c others →
+    suc (length (mine t)) + length (encode c) ≡ suc (length (kept t)) →
+    Grown words (at + suc (length (mine t))) c (at + suc (length (kept t)))
+unfolding glue
+first-below words at next t c others g is long =
+    let from = at + suc (length (mine t)) in
+    let row : Row words from (cons c (glue others nil)) next
+    = subst (λ (ts : Trees). Row words from (glue ts nil) next) is (row-children words at next t nil (row_one words at next t g)) in
+    let end : from + length (encode c) ≡ at + suc (length (kept t)) = omega (arith, long) in
+    subst (λ (n : ℕ). Grown words from c n) end (row_first words from next c (glue others nil) row)
 
 restricted :
-    (words : Words) (at next : ℕ) (t : Tree) →
-    Grown words at t next →
-    is_quantifier (root t) ≡ true →
+    (words : Words) (at next : ℕ) (t : Tree) → Grown words at t next → restricts (root t) ≡ true →
     (c : Tree) × Grown words (at + suc (length (mine t))) c (at + suc (length (kept t)))
-unfolding is_quantifier root
+unfolding restricts root children mine kept
 restricted words at next (plain b) g e = absurd (false≢true e)
 restricted words at next (atom b p ts) g e = absurd (false≢true e)
 restricted words at next (compare b d x y) g e = absurd (false≢true e)
 restricted words at next (join b ts) g e = absurd (false≢true e)
-restricted words at next (quantifier b v excluded c f) g e = (c, restriction-words words at next b v excluded c f g)
-restricted words at next (some c) g e = absurd (false≢true e)
+restricted words at next (quantifier b v excluded c f) g e = (
+  c,
+  first-below words at next (quantifier b v excluded c f) c (cons f nil) g refl
+      (omega (arith, length-append (gather (λ (tuple : List ℤ). tuple) excluded) (encode c))),
+)
+restricted words at next (some c) g e = (c, first-below words at next (some c) c nil g refl (omega arith))
 
-some-kept : (words : Words) (at next : ℕ) (t : Tree) → Grown words at t next → is_some (root t) ≡ true → next ≡ at + suc (length (kept t))
-unfolding is_some root kept encode
-some-kept words at next (plain b) g e = absurd (false≢true e)
-some-kept words at next (atom b p ts) g e = absurd (false≢true e)
-some-kept words at next (compare b d x y) g e = absurd (false≢true e)
-some-kept words at next (join b ts) g e = absurd (false≢true e)
-some-kept words at next (quantifier b v excluded c f) g e = absurd (false≢true e)
-some-kept words at next (some c) g e = g.stands.ends
+module _ (words : Words) (walk : Walk) (tag : T.Tag) (told : tag ≡ T.tag_of (word words walk.at)) (behind : Walk) (step : Passed words tag walk behind) where
+  behind-own : (t : Tree) (next : ℕ) → Grown words walk.at t next → behind.at ≡ walk.at + suc (length (mine t))
+  behind-own t next g = step.at ∙ ap (λ (n : ℕ). walk.at + n) (tree-own words walk.at next t g tag told step.own step.size)
 
-module _ (words : Words) (at : ℕ) (tag : Tag) (told : as_tag tag ≡ T.tag_of (word words at)) where
-  one : (t : Tree) (next : ℕ) → Grown words at t next → Ahead words at 1 next
-  unfolding count
-  one t next g = ahead words at 1 next (cons t nil) (row_one words at next t g) refl (omega arith)
+  -- no restriction
+  pub kept-own : restricts tag ≡ false → PastKept words tag walk behind
+  kept-own e =
+      record {
+        at = λ t next g.
+            behind-own t next g
+            ∙ ap (λ (l : Words). walk.at + suc (length l)) (sym (own-kept t (sym (ap restricts (told ∙ tree_tag words walk.at next t g)) ∙ e)));
+        left =
+            step.left
+            ∙ ap (λ (n : ℕ). walk.left - 1 + n)
+            (formulas-below words tag walk.at ∙ ap (λ (b : Bool). cond b 1 0 + formulas words tag walk.at) e ∙ omega arith);
+      }
 
-  -- the own words of a node are there
-  pub node-there : Tree-at words at → There words (as_tag tag) at
-  node-there (t, next, g) = ahead_there words at 1 next (one t next g) (as_tag tag) told
+  -- a restriction, which is passed too
+  module _ (e : restricts tag ≡ true) where
+    restriction-behind :
+        (t : Tree) (next : ℕ) → Grown words walk.at t next → (c : Tree) × Grown words behind.at c (walk.at + suc (length (kept t)))
+    restriction-behind t next g =
+        let (c, h) = restricted words walk.at next t g (sym (ap restricts (told ∙ tree_tag words walk.at next t g)) ∙ e) in
+        (c, subst (λ (n : ℕ). Grown words n c (walk.at + suc (length (kept t)))) (sym (behind-own t next g)) h)
 
-  module _ (own : ℕ) (o : Sized words (as_tag tag) at own) where
-    pub node-fits : Tree-at words at → at + own ≤ length words
-    node-fits there = rw (o L.Role.formula 0) (node-there there L.Role.formula 0)
+    pub restriction-there : (end : ℕ) × Ahead words walk.at walk.left end → Tree-at words behind.at
+    restriction-there (end, a) =
+        let (c, h) = restriction-behind a.first _ (ahead_tree words walk.at walk.left end a) in (c, _, h)
 
-    own-mine : (t : Tree) (next : ℕ) → Grown words at t next → own ≡ suc (length (mine t))
-    own-mine t next g = tree-own words at next t g (as_tag tag) told own o
+    left-is : behind.left ≡ walk.left - 1 + (1 + formulas words tag walk.at)
+    left-is =
+        step.left
+        ∙ ap (λ (n : ℕ). walk.left - 1 + n)
+        (formulas-below words tag walk.at ∙ ap (λ (b : Bool). cond b 1 0 + formulas words tag walk.at) e)
 
-    -- a quantifier: its restriction stands behind its own words
-    pub restriction-there : is_quantifier (as_tag tag) ≡ true → Tree-at words at → Tree-at words (at + own)
-    restriction-there q (t, next, g) =
-        let (c, h) = restricted words at next t g (sym (ap is_quantifier (told ∙ tree_tag words at next t g)) ∙ q) in
-        (c, _, subst (λ (n : ℕ). Grown words (at + n) c (at + suc (length (kept t)))) (sym (own-mine t next g)) h)
+    pub some-left : 1 ≤ behind.left
+    some-left = omega (arith, left-is)
 
-    pub after-restriction :
-        is_quantifier (as_tag tag) ≡ true →
-        (r : ℕ) →
-        ((tree : Tree) (next : ℕ) → Grown words (at + own) tree next → r ≡ next) →
-        (tree : Tree) (next : ℕ) → Grown words at tree next → r ≡ at + suc (length (kept tree))
-    after-restriction q r f t next g =
-        let (c, h) = restricted words at next t g (sym (ap is_quantifier (told ∙ tree_tag words at next t g)) ∙ q) in
-        f c _ (subst (λ (n : ℕ). Grown words (at + n) c (at + suc (length (kept t)))) (sym (own-mine t next g)) h)
-
-    -- a node that keeps its own words
-    pub after-own :
-        (((b : Bool) → tag ≡ Quantifier b → ⊥) × (tag ≡ Some → ⊥)) →
-        (tree : Tree) (next : ℕ) → Grown words at tree next → at + own ≡ at + suc (length (kept tree))
-    after-own k t next g =
-        let same = simple_kept t (sym (ap simple (told ∙ tree_tag words at next t g)) ∙ simple_tags tag k) in
-        ap (λ (n : ℕ). at + n) (own-mine t next g ∙ ap (λ (l : Words). suc (length l)) (sym same))
-
-  -- a node that is kept whole
-  pub after-whole :
-      is_some (as_tag tag) ≡ true →
-      (r : ℕ) →
-      ((tree : Tree) (next : ℕ) → Grown words at tree next → r ≡ next) →
-      (tree : Tree) (next : ℕ) → Grown words at tree next → r ≡ at + suc (length (kept tree))
-  after-whole q r f t next g =
-      f t next g ∙ some-kept words at next t g (sym (ap is_some (told ∙ tree_tag words at next t g)) ∙ q)
+    pub kept-restriction :
+        (r : ℕ) → ((tree : Tree) (next : ℕ) → Grown words behind.at tree next → r ≡ next) →
+        PastKept words tag walk (record { at = r; left = behind.left - 1 })
+    kept-restriction r f =
+        record {
+          at = λ t next g. let (c, h) = restriction-behind t next g in f c _ h;
+          left = omega (arith, left-is);
+        }

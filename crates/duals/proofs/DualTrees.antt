@@ -11,7 +11,8 @@ use Rattle.model.specs.Dual.{dual, dual_all}
 use Rattle.laws.specs.Words.Standing.{Stands, stands-left, stands-right, two-stand, code}
 use Rattle.laws.specs.Reading.Parts.{root}
 use Rattle.trees.specs.Grown.{Tupled, TupledAll, Grown}
-use Rattle.trees.proofs.Rows.{Row, glue, glue_tupled, row-split}
+use Rattle.trees.specs.Walk.{Row}
+use Rattle.trees.proofs.Rows.{glue, glue_tupled, row-split}
 use Rattle.duals.specs.Dual.{kept, formulas, paired}
 
 pub glue_dual : (ts us : Trees) → dual_all (glue ts us) ≡ glue (dual_all ts) (dual_all us)

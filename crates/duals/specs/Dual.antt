@@ -1,9 +1,11 @@
 -- What the writing of a dual asks and says of the words of trees.
-use Rattle.std.specs.Prelude.{ℕ, ◌+◌, not, [], ◌∷◌, ◌++◌, length, pos}
+use Rattle.std.specs.Prelude.{ℕ, suc, ◌+◌, ◌-◌, ◌≡◌, not, [], ◌∷◌, ◌++◌, length, pos}
 use Rattle.model.specs.Words.{Words, value}
 use Rattle.model.specs.Lists.{gather}
 use Rattle.model.specs.Tag.{Tag}
 use Rattle.model.specs.Tree.{Tree, plain, atom, compare, join, quantifier, some, count, encode_term, encode}
+use Rattle.trees.specs.declared.walk.Walk.{Walk}
+use Rattle.trees.specs.Grown.{Grown}
 
 -- the words of a tree behind its tag that its dual keeps as they are
 unfoldable pub kept : Tree → Words
@@ -33,3 +35,9 @@ paired (Tag.join b) = Tag.join (not b)
 paired (Tag.quantifier b) = Tag.quantifier (not b)
 paired Tag.some = Tag.some
 paired Tag.unused = Tag.unused
+
+-- the next node of a walk has a tag, and the words that its dual keeps have been passed: the formulas below it are still to be passed,
+-- and the trees behind them
+pub record PastKept (words : Words) (tag : Tag) (before after : Walk) : Type 0 where
+  pub at : (tree : Tree) (next : ℕ) → Grown words before.at tree next → after.at ≡ before.at + suc (length (kept tree))
+  pub left : after.left ≡ before.left - 1 + formulas words tag before.at

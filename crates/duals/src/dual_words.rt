@@ -9,56 +9,42 @@ ghost use Rattle.model.specs.Dual as M;
 ghost use Rattle.laws.specs.Words.Standing.{code};
 ghost use Rattle.policies.specs.Node.{as_tag};
 ghost use Rattle.trees.specs.Grown as G;
+ghost use Rattle.trees.specs.Walk.{Ahead};
 ghost use Rattle.duals.specs.Dual as D;
 
 use policies::node;
 use policies::node::Tag;
-use trees::walk::tree_end;
+use trees::walk::{Walk, tree_end};
 use words::clearing::clear;
 use words::copying::copy_words;
-
-// How many formulas follow the words that the dual of a node keeps.
-fn formulas(words: &[i32], tag: Tag, at: usize) -> usize
-    requires { at < length words.now }
-    ensures { result ≡ D.formulas words.now (as_tag tag) at }
-{
-    match tag {
-        Tag::Join(_) => words::value(words, at + 1),
-        Tag::Quantifier(_) => 1,
-        _ => 0,
-    }
-}
 
 // The word of the tag of the dual: the other one of a pair.
 fn pair(tag: Tag) -> i32
     ensures { result ≡ pos (code (D.paired (as_tag tag))) }
 {
     match tag {
-        Tag::Plain(b) => { if b { 0 } else { 1 } }
-        Tag::Atom(b) => { if b { 3 } else { 2 } }
-        Tag::Compare(b) => { if b { 5 } else { 4 } }
-        Tag::Join(b) => { if b { 7 } else { 6 } }
-        Tag::Quantifier(b) => { if b { 9 } else { 8 } }
+        Tag::Plain(b) => i32::from(!b),
+        Tag::Atom(b) => 2 + i32::from(b),
+        Tag::Compare(b) => 4 + i32::from(b),
+        Tag::Join(b) => 6 + i32::from(b),
+        Tag::Quantifier(b) => 8 + i32::from(b),
         Tag::Some => 10,
         Tag::Unused => 11,
     }
 }
 
-// The index behind the words of a node that its dual keeps: of a quantifier, its restriction is kept too.
-fn formula_after(words: &[i32], tag: Tag, at: usize) -> usize
-    requires { G.Tree-at words.now at × (as_tag tag ≡ T.tag_of (W.word words.now at)) }
-    ensures { (tree : Tree) (next : ℕ) → G.Grown words.now at tree next → result ≡ at + suc (length (D.kept tree)) }
+// The walk past the words of the next node that its dual keeps: a restriction below the node is kept too.
+fn past_kept(walk: Walk, words: &[i32], tag: Tag) -> Walk
+    requires { (as_tag tag ≡ T.tag_of (W.word words.now walk.at)) × ((end : ℕ) × Ahead words.now walk.at walk.left end) }
+    ensures { D.PastKept words.now (as_tag tag) walk result }
 {
+    let behind = walk.past(words, tag);
     match tag {
-        Tag::Quantifier(_) => {
-            let own = node::size(words, tag, at);
-            tree_end(words, at + own)
-        }
-        Tag::Some => tree_end(words, at),
-        _ => {
-            let own = node::size(words, tag, at);
-            at + own
-        }
+        Tag::Quantifier(_) | Tag::Some => Walk {
+            at: tree_end(words, behind.at),
+            left: behind.left - 1,
+        },
+        _ => behind,
     }
 }
 
@@ -71,15 +57,12 @@ fn swap(words: &[i32], buffer: &mut [i32])
         encode tree ≡ words.now →
         buffer.new ≡ encode (M.dual tree) ++ drop (length words.now) buffer.old }
 {
-    let mut left = 1;
-    let mut at = 0;
-    while 0 < left {
-        let tag = node::tag_at(words, at);
-        let more = formulas(words, tag, at);
-        let next = formula_after(words, tag, at);
-        buffer[at] = pair(tag);
-        left = left - 1 + more;
-        at = next;
+    let mut walk = Walk::new(0);
+    // By hand: the step is the size of the node that stands there.
+    while 0 < walk.left {
+        let tag = node::tag_at(words, walk.at);
+        buffer[walk.at] = pair(tag);
+        walk = past_kept(walk, words, tag);
     }
 }
 

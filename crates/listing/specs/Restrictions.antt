@@ -1,27 +1,18 @@
 -- What the listing of a restriction asks and says: the chained log, the room in scratch, and the list that is made.
 use Rattle.std.specs.Prelude.{ℕ, ◌+◌, ◌*◌, ◌-◌, ◌≤◌, ◌<◌, ◌≡◌, Bool, true, false, List, length, take, Option, Some, None}
-use Rattle.model.specs.Words.{Words, value, predicate_limit}
+use Rattle.model.specs.Words.{Words, value}
 use Rattle.model.specs.Lists.{gather}
-use Rattle.model.specs.Answer.{passed}
-use Rattle.model.specs.Table.{predicates}
-use Rattle.model.specs.Log.{rows, ask_log}
+use Rattle.model.specs.Log.{rows}
 use Rattle.model.specs.Tree.{Tree, Trees, join, some, count}
 use Rattle.model.specs.Level.{restriction}
 use Rattle.model.specs.Listing.{Environment, matches, list, entries}
 use Rattle.laws.specs.Reading.Nodes.{Node, Nodes}
 use Rattle.policies.specs.Standing.{terms_at}
-use Rattle.logs.specs.Links.{Linked}
 use Rattle.listing.specs.declared.restriction.Room.{Room}
 use Rattle.listing.specs.declared.restriction.Made.{Made}
 use Rattle.environments.specs.Listed.{Listed}
 use Rattle.environments.specs.Lists.{Moved}
 use Rattle.listing.specs.Keeping.{Leaf}
-
--- an accepted log, and all its links
-pub record Chains (table log : Words) (links : List ℕ) : Type 0 where
-  pub few : predicates table ≤ predicate_limit
-  pub accepted : ask_log table log ≡ passed tt
-  pub linked : Linked log links
 
 -- a list stands before the first free place; no more places are taken than counted; and the places counted are within scratch
 pub record Roomy (room : Room) (scratch : Words) : Type 0 where

@@ -2,7 +2,6 @@
 ghost use Rattle.std.specs.Prelude.{◌≡◌, true, false, List, ◌+◌, ◌*◌, ◌≤◌, ◌<◌};
 ghost use Rattle.model.specs.Words as W;
 ghost use Rattle.model.specs.Listing as M;
-ghost use Rattle.logs.specs.Links.{Linked};
 ghost use Rattle.model.specs.Tag as T;
 ghost use Rattle.model.specs.Level as L;
 ghost use Rattle.policies.specs.Standing.{Here, HereAll, HereAtom};
@@ -13,6 +12,7 @@ ghost use Rattle.listing.specs.Restrictions as R;
 use crate::keeping;
 use environments::environment::Environment;
 use environments::lists;
+use logs::accepted::AcceptedLog;
 use matching::rows;
 use policies::node;
 use policies::node::Tag;
@@ -89,21 +89,19 @@ pub struct Made {
 
 // An atom of tag 2 makes of each environment in turn those that the true rows of its predicate make.
 fn list_atom(
+    log: &AcceptedLog<'_>,
     words: &[i32],
-    log: &[i32],
-    links: &[u16],
     scratch: &mut [i32],
     room: Room,
     at: usize,
 ) -> Option<Made>
-    requires { Linked log.now links.now
-        × HereAtom words.now at
+    requires { HereAtom words.now at
         × R.Roomy room scratch.old
         × ((es : List M.Environment) × R.Holding room scratch.old es)
         × R.TermsThere words.now at }
     ensures { (es : List M.Environment) →
         R.Holding room scratch.old es →
-        R.MakesAtom words.now log.now at es room scratch.old scratch.new result }
+        R.MakesAtom words.now log.now.rows.now at es room scratch.old scratch.new result }
 {
     let predicate = words::value(words, at + 1);
     let n = words::value(words, at + 2);
@@ -117,8 +115,8 @@ fn list_atom(
             words,
             at + 3,
             n,
-            log,
-            links,
+            log.rows,
+            log.links,
             predicate,
             scratch,
             base + made,
@@ -133,29 +131,26 @@ fn list_atom(
 
 // A leaf that is no atom of tag 2 keeps the environments in which it is true.
 fn list_kept(
-    table: &[i32],
+    log: &AcceptedLog<'_>,
     words: &[i32],
-    log: &[i32],
-    links: &[u16],
     scratch: &mut [i32],
     room: Room,
     tag: Tag,
     at: usize,
 ) -> Option<Made>
-    requires { R.Chains table.now log.now links.now
-        × HereRestriction table.now words.now at
+    requires { HereRestriction log.now.table.now words.now at
         × (as_tag tag ≡ T.tag_of (W.word words.now at))
         × R.Roomy room scratch.old
         × ((es : List M.Environment) × R.Holding room scratch.old es) }
     ensures { (es : List M.Environment) →
         R.Holding room scratch.old es →
-        R.MakesKept table.now words.now log.now at es room scratch.old scratch.new result }
+        R.MakesKept log.now.table.now words.now log.now.rows.now at es room scratch.old scratch.new result }
 {
     let left = room.limit - room.used;
     let mut made = 0;
     for i in 0..room.count {
         let environment = Environment::read(scratch, room.from + i);
-        if !keeping::keeps(table, words, log, links, environment, tag, at) {
+        if !keeping::keeps(log.table, words, log.rows, log.links, environment, tag, at) {
             continue;
         }
         if left <= made {
@@ -212,10 +207,8 @@ fn close(every: bool, room: Room, handed: Room, next: usize) -> Option<Made>
 // handed the same.
 #[cycle(list_list_join_list_some)]
 fn list_join(
-    table: &[i32],
+    log: &AcceptedLog<'_>,
     words: &[i32],
-    log: &[i32],
-    links: &[u16],
     scratch: &mut [i32],
     room: Room,
     above: usize,
@@ -224,23 +217,20 @@ fn list_join(
     n: usize,
     at: usize,
 ) -> Option<Made>
-    requires { R.Chains table.now log.now links.now
-        × (above ≤ 64)
+    requires { (above ≤ 64)
         × (scope ≤ 16)
         × (1 ≤ n)
-        × HereAll table.now words.now L.Role.restriction above scope n at
+        × HereAll log.now.table.now words.now L.Role.restriction above scope n at
         × R.Roomy room scratch.old
         × ((es : List M.Environment) × R.Holding room scratch.old es) }
     ensures { (es : List M.Environment) →
         R.Holding room scratch.old es →
-        R.MakesJoin every table.now words.now log.now above scope n at es room scratch.old scratch.new result }
+        R.MakesJoin every log.now.table.now words.now log.now.rows.now above scope n at es room scratch.old scratch.new result }
 {
     let mut handed = room;
     let mut next = at;
     for _ in 0..n {
-        let child = list(
-            table, words, log, links, scratch, handed, above, scope, next,
-        )?;
+        let child = list(log, words, scratch, handed, above, scope, next)?;
         handed = pass_on(every, scratch, handed, child.room);
         next = child.next;
     }
@@ -250,37 +240,24 @@ fn list_join(
 // "Some": its variable is dropped in each environment of its child's list.
 #[cycle(list_list_join_list_some)]
 fn list_some(
-    table: &[i32],
+    log: &AcceptedLog<'_>,
     words: &[i32],
-    log: &[i32],
-    links: &[u16],
     scratch: &mut [i32],
     room: Room,
     above: usize,
     scope: usize,
     at: usize,
 ) -> Option<Made>
-    requires { R.Chains table.now log.now links.now
-        × (above < 64)
+    requires { (above < 64)
         × (scope < 16)
-        × Here table.now words.now L.Role.restriction (above + 1) (scope + 1) (at + 1)
+        × Here log.now.table.now words.now L.Role.restriction (above + 1) (scope + 1) (at + 1)
         × R.Roomy room scratch.old
         × ((es : List M.Environment) × R.Holding room scratch.old es) }
     ensures { (es : List M.Environment) →
         R.Holding room scratch.old es →
-        R.MakesSome table.now words.now log.now above scope at es room scratch.old scratch.new result }
+        R.MakesSome log.now.table.now words.now log.now.rows.now above scope at es room scratch.old scratch.new result }
 {
-    let Made { room: to, next } = list(
-        table,
-        words,
-        log,
-        links,
-        scratch,
-        room,
-        above + 1,
-        scope + 1,
-        at + 1,
-    )?;
+    let Made { room: to, next } = list(log, words, scratch, room, above + 1, scope + 1, at + 1)?;
     lists::release_all(scratch, to.from, to.count, scope);
     if to.limit - to.used < to.count {
         return None;
@@ -294,35 +271,30 @@ fn list_some(
 // The list that a restriction node makes of the list handed to it.
 #[cycle(list_list_join_list_some)]
 pub fn list(
-    table: &[i32],
+    log: &AcceptedLog<'_>,
     words: &[i32],
-    log: &[i32],
-    links: &[u16],
     scratch: &mut [i32],
     room: Room,
     above: usize,
     scope: usize,
     at: usize,
 ) -> Option<Made>
-    requires { R.Chains table.now log.now links.now
-        × (above ≤ 64)
+    requires { (above ≤ 64)
         × (scope ≤ 16)
-        × Here table.now words.now L.Role.restriction above scope at
+        × Here log.now.table.now words.now L.Role.restriction above scope at
         × R.Roomy room scratch.old
         × ((es : List M.Environment) × R.Holding room scratch.old es) }
     ensures { (es : List M.Environment) →
         R.Holding room scratch.old es →
-        R.MakesNode table.now words.now log.now above scope at es room scratch.old scratch.new result }
+        R.MakesNode log.now.table.now words.now log.now.rows.now above scope at es room scratch.old scratch.new result }
 {
     let tag = node::tag_at(words, at);
     match tag {
         Tag::Join(every) => {
             let n = words::value(words, at + 1);
             list_join(
-                table,
-                words,
                 log,
-                links,
+                words,
                 scratch,
                 room,
                 above + 1,
@@ -332,14 +304,14 @@ pub fn list(
                 at + 2,
             )
         }
-        Tag::Some => list_some(table, words, log, links, scratch, room, above, scope, at),
+        Tag::Some => list_some(log, words, scratch, room, above, scope, at),
         Tag::Atom(holds) => {
             if holds {
-                list_atom(words, log, links, scratch, room, at)
+                list_atom(log, words, scratch, room, at)
             } else {
-                list_kept(table, words, log, links, scratch, room, tag, at)
+                list_kept(log, words, scratch, room, tag, at)
             }
         }
-        _ => list_kept(table, words, log, links, scratch, room, tag, at),
+        _ => list_kept(log, words, scratch, room, tag, at),
     }
 }

@@ -8,7 +8,7 @@ use mathlib.Core.List.{◌++◌}
 use lib.ListN.{length, take}
 use lib.Dec.{leb, eqb}
 use borrow.Author.Tests.{leb-true, le-leb, lt-leb}
-use Rattle.std.specs.Prelude.{Ok, Err}
+use Rattle.std.specs.Prelude.{Result, Ok, Err}
 use Rattle.model.specs.declared.Refusal.{Refusal}
 use Rattle.model.specs.declared.Refusal.TheVariants.{LogLength, Room}
 use Rattle.model.specs.Words.{Words}
@@ -21,21 +21,20 @@ use Rattle.model.specs.LogText.{ask_records}
 use Rattle.model.specs.Calls.{zeros, filled, in_room, ask_reading, read_log_call}
 use Rattle.laws.specs.Answer.{answers, refused-passed, passed-same}
 use Rattle.laws.specs.Words.Tests.{and-false}
-use Rattle.csv_reading.specs.declared.rows.Rows.{Rows}
-use Rattle.csv_reading.specs.declared.rows.Rows.TheVariants as rows
+use Rattle.model.specs.declared.Refused.{Refused}
 use Rattle.csv_reading.specs.Rows.{ask_text, Stand, RowsRead}
 use Rattle.log_texts.specs.LogText.{settled_log, ReadsLog}
 
 -- rows read once more, to a place with room for them
 pub again_stands :
-    (table : Words) (text : Text) (words log : Words) (n : ℕ) (r : Rows) →
+    (table : Words) (text : Text) (words log : Words) (n : ℕ) (r : Result ℕ Refused) →
     RowsRead table text words r →
     ask_text table text ≡ passed log →
     length log ≡ 8 * n →
     8 * n ≤ length words →
     take (8 * n) words ≡ log
-again_stands table text words log n (rows.Refused q p) e f l h = refused-passed (sym e ∙ f)
-again_stands table text words log n (rows.Read m) s f l h =
+again_stands table text words log n (Err q) e f l h = refused-passed (sym e ∙ f)
+again_stands table text words log n (Ok m) s f l h =
     let same : s.log ≡ log = passed-same (sym s.asked ∙ f) in
     let many : m ≡ n = omega (arith, s.long, l, ap length same) in
     rw (← many) (s.stands (omega (arith, h, many))) ∙ same

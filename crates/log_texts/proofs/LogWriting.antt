@@ -12,7 +12,7 @@ use Rattle.model.specs.Log.{row_count, ask_log}
 use Rattle.model.specs.LogText.{log_text}
 use Rattle.model.specs.Calls.{in_room, ask_writing, check_log}
 use Rattle.laws.specs.Answer.{then_passed}
-use Rattle.text.specs.declared.writing.Put.{Put}
+use Rattle.std.specs.Prelude.{Option}
 use Rattle.text.specs.Put.{Writes}
 use Rattle.text.specs.Written.{written}
 use Rattle.log_texts.specs.LogText.{WritesLog}
@@ -37,11 +37,11 @@ module _ (table log : Words) where
 -- what the check of a log answered
 module _ (table log : Words) {a : Answer} (same : a ≡ check_log table log) where
   -- the log is refused
-  pub log-refused : {room : ℕ} {after : Text} {q : Refusal} {p : ℕ} → a ≡ Err (refused_at q p) → WritesLog table log room after a
+  pub log-refused : {room : ℕ} {after : Text} {q : Refusal} {p : ℕ} → a ≡ Err (refused_at q p) → WritesLog table log room after (Err (refused_at q p))
   unfolding check_log ◌>>=◌
   log-refused {room} {after} e =
       let was = was_refused (λ _. row_count log) (ask_table table >>= λ _. ask_log table log) (sym e ∙ same) in
-      text-refused _ room after (checked-first table log room ∙ rw was) e
+      text-refused _ room after (checked-first table log room ∙ rw was) refl
 
   module _ {k : ℕ} (e : a ≡ Ok k) where
     -- the log is accepted
@@ -54,7 +54,7 @@ module _ (table log : Words) {a : Answer} (same : a ≡ check_log table log) whe
 
     -- and its text was written, if it has room
     pub log-written :
-        {out after : Text} {put : Put} {r : Answer} →
+        {out after : Text} {put : Option ℕ} {r : Answer} →
         Writes (log_text table log) out after put →
         r ≡ written put →
         WritesLog table log (length out) after r

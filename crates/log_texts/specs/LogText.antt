@@ -1,11 +1,11 @@
 -- What the parts of the calls that read and write logs as text say on the way to them.
-use Rattle.std.specs.Prelude.{ℕ, ◌*◌, ◌-◌, ◌≤◌, ◌<◌, ◌≡◌, ◌++◌, length, take}
+use Rattle.std.specs.Prelude.{ℕ, ◌*◌, ◌-◌, ◌≤◌, ◌<◌, ◌≡◌, ◌++◌, length, take, Result}
 use Rattle.model.specs.Words.{Words}
 use Rattle.model.specs.Bytes.{Text}
 use Rattle.model.specs.Answer.{Answer, Outcome, passed, answer, count, ◌>>=◌}
 use Rattle.model.specs.Log.{row_count, ask_log}
 use Rattle.model.specs.Calls.{zeros, filled, in_room, ask_reading, ask_writing}
-use Rattle.tables.specs.declared.Checked.{Checked}
+use Rattle.model.specs.declared.Refused.{Refused}
 use Rattle.tables.specs.Checked.{outcome}
 use Rattle.csv_reading.specs.Rows.{ask_text}
 use Rattle.text.specs.Written.{LeavesText}
@@ -15,7 +15,7 @@ abbrev pub Spelled : (table : Words) (text : Text) (rows : ℕ) → Type 0
 Spelled table text rows = (log : Words) × (ask_text table text ≡ passed log) × (length log ≡ 8 * rows)
 
 -- questions 8 to 10 of its rows; and question 12
-abbrev pub AskedOf : (table : Words) (text : Text) (r : Checked) → Type 0
+abbrev pub AskedOf : (table : Words) (text : Text) (r : Result (Unit {0}) Refused) → Type 0
 AskedOf table text r = (log : Words) → ask_text table text ≡ passed log → outcome r ≡ ask_log table log
 
 unfoldable pub settled_log : Words → ℕ → Words → Outcome Words

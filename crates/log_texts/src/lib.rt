@@ -8,20 +8,19 @@ ghost use Rattle.csv_reading.specs.Rows.{Stand};
 ghost use Rattle.log_texts.specs.LogText as L;
 
 use checks::{check_log, check_rows};
-use csv_reading::rows::{Rows, read_rows};
+use csv_reading::rows::read_rows;
 use csv_writing::write_rows;
-use model::{Answer, ROW_WORDS, Refusal};
-use tables::Checked;
+use model::{Answer, ROW_WORDS, Refusal, Refused};
 use text::writing::written;
 
 // Questions 8 to 10 of the rows of a text, so many, which are read to a place with room for them.
-fn ask_apart(table: &[i32], text: &[u8], words: &mut [i32], rows: usize) -> Checked
+fn ask_apart(table: &[i32], text: &[u8], words: &mut [i32], rows: usize) -> Result<(), Refused>
     requires { (ask_table table.now ≡ passed tt)
         × L.Spelled table.now text.now rows
         × (8 * rows ≤ length words.old) }
     ensures { L.AskedOf table.now text.now result }
 {
-    read_rows(table, text, words);
+    let _ = read_rows(table, text, words);
     let n = ROW_WORDS * rows;
     check_rows(table, &words[..n])
 }
@@ -32,11 +31,8 @@ fn no_room(table: &[i32], text: &[u8], rows: usize) -> Answer
     ensures { L.NoRoom table.now text.now result }
 {
     let mut words = [0; 32768];
-    let asked = ask_apart(table, text, &mut words, rows);
-    match asked {
-        Checked::Refused(refusal, row) => Answer::Refused(refusal, row),
-        Checked::Passed => Answer::Refused(Refusal::Room, 0),
-    }
+    ask_apart(table, text, &mut words, rows)?;
+    Err(Refused(Refusal::Room, 0))
 }
 
 // The answer about a text of so many rows, which stand at the front of the buffer if they fit it.
@@ -45,42 +41,29 @@ fn settle_rows(table: &[i32], text: &[u8], buffer: &[i32], rows: usize) -> Answe
     ensures { L.AnyRoom table.now text.now (length buffer.now) result }
 {
     if 4096 < rows {
-        return Answer::Refused(Refusal::LogLength, 0);
+        return Err(Refused(Refusal::LogLength, 0));
     }
     let n = ROW_WORDS * rows;
     if buffer.len() < n {
         return no_room(table, text, rows);
     }
-    let asked = check_rows(table, &buffer[..n]);
-    match asked {
-        Checked::Refused(refusal, place) => Answer::Refused(refusal, place),
-        Checked::Passed => Answer::Accepted(rows),
-    }
+    check_rows(table, &buffer[..n])?;
+    Ok(rows)
 }
 
 // Questions 1, 13, 14, 8, 10 and 12 of a text.
 pub fn read(table: &[i32], text: &[u8], buffer: &mut [i32]) -> Answer
     ensures { L.ReadsLog table.now text.now (length buffer.old) buffer.new result }
 {
-    let first = tables::table::check_table(table);
-    if let Checked::Refused(refusal, place) = first {
-        return Answer::Refused(refusal, place);
-    }
-    let found = read_rows(table, text, buffer);
-    match found {
-        Rows::Refused(refusal, place) => Answer::Refused(refusal, place),
-        Rows::Read(rows) => settle_rows(table, text, buffer, rows),
-    }
+    tables::table::check_table(table)?;
+    let rows = read_rows(table, text, buffer)?;
+    settle_rows(table, text, buffer, rows)
 }
 
 // Questions 1, 8 to 10 and 12 of a log.
 pub fn write(table: &[i32], log: &[i32], buffer: &mut [u8]) -> Answer
     ensures { L.WritesLog table.now log.now (length buffer.old) buffer.new result }
 {
-    let checked = check_log(table, log);
-    let Answer::Accepted(_) = checked else {
-        return checked;
-    };
-    let put = write_rows(table, log, buffer);
-    written(put)
+    check_log(table, log)?;
+    written(write_rows(table, log, buffer))
 }

@@ -12,7 +12,7 @@ use model::ROW_WORDS;
 use tables::table;
 
 // The value of the atom of a predicate at six arguments, the unused ones 0, in an accepted log: what its row says; with no
-// row, false if the predicate is complete, else nothing.
+// row, false if the predicate is complete, else None.
 pub fn value_of(
     table: &[i32],
     log: &[i32],

@@ -12,8 +12,8 @@ use environments::environment::Environment;
 use environments::terms;
 use model::{ARGUMENTS_FROM, ROW_WORDS};
 
-// The arguments of a row against the n terms from an index on. The row is left at its first unequal argument,
-// and makes nothing then.
+// The environment that the arguments of a row make, set against the n terms from an index on: None, where one of them is unequal. The
+// row is left at the first.
 pub fn fit_row(
     environment: Environment,
     words: &[i32],

@@ -62,7 +62,7 @@ fn lead(environment: Environment, words: &[i32], first: usize, n: usize, predica
 }
 
 // The environments that the rows of a chain make of one environment, in row order, from a place on: at most so many. The rows
-// of other predicates are passed over. How many there are; nothing, if the places ran out.
+// of other predicates are passed over. Tells how many there are, or None if the places ran out.
 fn walk_rows(
     environment: Environment,
     words: &[i32],
@@ -115,8 +115,8 @@ fn walk_rows(
     Some(made)
 }
 
-// The environments that the true rows of a predicate make of one environment, in row order, from a place on: at most so many. How
-// many there are; nothing, if the places ran out.
+// The environments that the true rows of a predicate make of one environment, in row order, from a place on: at most so many. Tells
+// how many there are, or None if the places ran out.
 pub fn match_rows(
     environment: Environment,
     words: &[i32],

@@ -1,19 +1,22 @@
 -- Ground atoms and comparisons under the environment that binds the outer variables alone: the numbers of their terms, what
 -- the code asks of their words in any role, and their answers. The environment with one outer variable more is a bound one.
-use Prim.Native.Nat.{ℕ, ◌+◌, ◌*◌, ◌^◌, ◌≤◌, ◌<◌}
+use Prim.Native.Nat.{ℕ, zero, suc, ◌+◌, ◌*◌, ◌^◌, ◌≤◌, ◌<◌}
 use native.Mathlib.Omega.{arith}
+use native.Mathlib.Nat.{add-zero}
 use native.Mathlib.Numerals.{add-one}
-use mathlib.Core.Path.{◌≡◌, refl, sym, ap, ◌∙◌, fun_ext, subst}
+use borrow.Rule.Slice.PartMut.{put_mid}
+use Rattle.std.proofs.lemmas.Slice.{put_mid-paste}
+use mathlib.Core.Path.{◌≡◌, refl, sym, ap, ap₂, ◌∙◌, fun_ext, subst}
 use mathlib.Core.Logic.{⊎_elim}
-use mathlib.Core.Bool.{Bool, true, false, not}
-use mathlib.Core.List.{List, [], ◌∷◌, ◌++◌, map, append_assoc}
-use lib.ListN.{length, get_or, take, drop, length-append, length-drop, get_or-append, get_or-eq_default}
-use lib.Seq.{ext_get_or, get_or-take, get_or-drop, get_or_at, take-suc, take_at, length-take-le}
+use mathlib.Core.Bool.{Bool, true}
+use mathlib.Core.List.{List, [], ◌∷◌, ◌++◌, map, append_assoc, append-nil}
+use lib.ListN.{set, replicate, length-replicate, get_or-replicate, length, get_or, take, drop, length-append, length-drop, get_or-append, get_or-eq_default}
+use lib.Seq.{paste, paste-zero, paste-suc, ext_get_or, get_or-take, get_or-drop, get_or_at, take-suc, take_at, length-take-le}
 use lib.IntN.{ℤ, pos, nat_abs}
 use Rattle.model.specs.Words.{Words, word, value, same, predicate_limit}
 use Rattle.model.specs.Lists.{all}
 use Rattle.model.specs.Table.{predicates}
-use Rattle.model.specs.Log.{Value, known, rows, value_in}
+use Rattle.model.specs.Log.{Value, rows, value_in}
 use Rattle.model.specs.Tree.{Term, constant, variable, Tree, plain, atom, compare, encode}
 use Rattle.model.specs.Level.{Role, restriction, greatest}
 use Rattle.model.specs.Reading.{places, term_at, in_scope}
@@ -30,13 +33,13 @@ use Rattle.laws.specs.Reading.Formed.{Formed}
 use Rattle.laws.specs.Reading.Nodes.{Node}
 use Rattle.laws.specs.Reading.Parts.{root, root_tag, compare-parts}
 use Rattle.laws.specs.Words.Standing.{stands_taken, three_stand}
-use Rattle.logs.specs.declared.value.Value.{Value as Found}
-use Rattle.logs.specs.declared.value.Value.TheVariants.{True, False, Open}
+use Rattle.std.specs.Prelude.{Option, Some, None}
 use Rattle.logs.specs.Value.{as_value}
 use Rattle.policies.specs.Standing.{HereAtom}
 use Rattle.policies.proofs.Standing.{here-atom, here-compare}
 use Rattle.trees.specs.Grown.{Grown, Room-at}
 use Rattle.words.specs.Laying.{laid}
+use Rattle.environments.proofs.Places.{held-bind}
 use Rattle.trees.proofs.Forming.{node_grown}
 use Rattle.environments.specs.declared.environment.Environment.{Environment as Held}
 use Rattle.environments.specs.Environment.{numbers_of, Holds}
@@ -49,15 +52,6 @@ use Rattle.joining.specs.Answer.{Answers}
 use Rattle.nodes.specs.Ground.{Outer, HereLiteral, GrownAtom, HereCompare, Stays, ReducesAtom, ReducesCompare}
 use Rattle.joining.proofs.Parts.{Solid}
 use Rattle.joining.proofs.Answering.{answers-plain, answers-long, answers-part}
-
--- an atom that is known to be true, or false
-same_true : (b : Bool) → same true b ≡ b
-same_true true = refl
-same_true false = refl
-
-same_false : (b : Bool) → same false b ≡ not b
-same_false true = refl
-same_false false = refl
 
 -- the number of an outer variable, 0 past the outer ones
 outer-number : (ρ : List ℤ) (x : ℕ) → number_in (outer ρ x) ≡ get_or ρ x (pos 0)
@@ -144,6 +138,50 @@ binding-more scratch from scope start held after i k inside is more so ρ o =
     (subst (λ (σ : List ℤ). Outer after (scope + i + 1) σ)
     (append_assoc ρ (take i part) (k ∷ []) ∙ ap (λ (l : List ℤ). ρ ++ l) (sym next))
     (outer-more (ρ ++ take i part) k (scope + i) refl more (so ρ o)))
+
+-- the numbers of an instance copied behind those of the outer variables, and their marks set
+module _
+    (scratch : Words) (from scope v : ℕ) (start : Held) (small : scope + v ≤ 16) (inside : from + v ≤ length scratch)
+    (numbers : length start.numbers ≡ 16) (marks : length start.marks ≡ 16) where
+  abbrev given : Words
+  given = take v (drop from scratch)
+
+  abbrev copied : ℕ → Held
+  copied i = record { numbers = paste start.numbers scope given i; marks = paste start.marks scope (replicate v true) i }
+
+  given-long : length given ≡ v
+  given-long = length-take-le v (drop from scratch) (rw length-drop (omega arith))
+
+  copied-binds : (i : ℕ) → i ≤ v → Binding scratch from scope start (copied i) i
+  copied-binds zero h = λ ρ o.
+      subst (λ (n : ℕ). Outer (copied 0) n (ρ ++ [])) (sym (add-zero scope))
+      (subst (λ (σ : List ℤ). Outer (copied 0) scope σ) (sym (append-nil ρ))
+      (subst (λ (held : Held). Outer held scope ρ)
+      (ap₂ (λ (ns : Words) (ms : List Bool). let held : Held = record { numbers = ns; marks = ms } in held)
+      (paste-zero start.numbers scope given) (paste-zero start.marks scope (replicate v true))) o))
+  copied-binds (suc i) h =
+      let k = get_or given i (pos 0) in
+      let k-is : k ≡ get_or scratch (from + i) (pos 0)
+      = get_or-take v (drop from scratch) i (pos 0) (omega arith) ∙ get_or-drop from scratch i (pos 0) in
+      let set-number = paste-suc start.numbers scope given i (pos 0) (omega arith) (omega (arith, given-long)) in
+      let mark : get_or (replicate v true) i true ≡ true = get_or-replicate v i true true (omega arith) in
+      let set-mark = paste-suc start.marks scope (replicate v true) i true (omega arith) (omega (arith, length-replicate v true)) in
+      subst (λ (n : ℕ). Binding scratch from scope start (copied (suc i)) n) (add-one i)
+      (subst (λ (held : Held). Binding scratch from scope start held (i + 1))
+      (ap₂ (λ (ns : Words) (ms : List Bool). let held : Held = record { numbers = ns; marks = ms } in held)
+      set-number (ap (set (paste start.marks scope (replicate v true) i) (scope + i)) (sym mark) ∙ set-mark))
+      (binding-more scratch from scope start (copied i) _ i k (omega arith) k-is (λ e b. held-bind b (scope + i) k) (copied-binds i (omega arith))))
+
+  -- as the code copies them
+  pub instance-binds :
+      (n : ℕ) (ns : Words) (ms : List Bool) → n ≡ v → ns ≡ given → ms ≡ replicate v true →
+      Binding scratch from scope start (record { numbers = put_mid scope n start.numbers ns; marks = put_mid scope n start.marks ms }) v
+  instance-binds n ns ms is p q =
+      subst (λ (held : Held). Binding scratch from scope start held v)
+      (ap₂ (λ (xs : Words) (ys : List Bool). let held : Held = record { numbers = xs; marks = ys } in held)
+      (sym (put_mid-paste scope n start.numbers ns given v p (sym is) (sym given-long)))
+      (sym (put_mid-paste scope n start.marks ms (replicate v true) v q (sym is) (sym (length-replicate v true)))))
+      (copied-binds v (omega arith))
 
 -- an atom or a comparison stands in any role as in a restriction
 atom-restricts :
@@ -268,7 +306,7 @@ module _ (words : Words) (at n : ℕ) (is : n ≡ value words (at + 2)) where
 
 -- the reduction of an atom, by its value
 module _
-    (table words log : Words) (held : Held) (scope : ℕ) (b : Bool) (at : ℕ) (found : Found)
+    (table words log : Words) (held : Held) (scope : ℕ) (b : Bool) (at : ℕ) (found : Option Bool)
     (values : Values table words log held at found) where
   outer-value :
       (ρ : List ℤ) →
@@ -279,23 +317,17 @@ module _
   outer-value ρ o role above p ts next node =
       values (outer ρ) o.0 role above scope b p ts next node ∙ ap (value_in table (rows log) p) (terms-numbers ρ ts)
 
-  reduces_known :
-      (v r : Bool) → as_value found ≡ known v → same v b ≡ r → (out : Words) → ReducesAtom table words log held scope b at out out (Plain r)
+  pub reduces_known :
+      (v : Bool) → found ≡ Some v → (out : Words) → ReducesAtom table words log held scope b at out out (Plain (same v b))
   unfolding reduce settle
-  reduces_known v r is e out ρ o role above p ts next node places =
+  reduces_known v is out ρ o role above p ts next node places =
       let told = outer-value ρ o role above p ts next node in
-      let tree : reduce table (rows log) (atom b p ts) ρ ≡ plain r
-      = ap (λ (x : Value). settle x b (put (atom b p ts) ρ)) (sym told ∙ is) ∙ ap plain e in
-      subst (λ (t : Tree). Answers places 0 t out out (Plain r)) (sym tree) (answers-plain r out places)
-
-  pub reduces_true : found ≡ True → (out : Words) → ReducesAtom table words log held scope b at out out (Plain b)
-  reduces_true is = reduces_known true b (ap as_value is) (same_true b)
-
-  pub reduces_false : found ≡ False → (out : Words) → ReducesAtom table words log held scope b at out out (Plain (not b))
-  reduces_false is = reduces_known false (not b) (ap as_value is) (same_false b)
+      let tree : reduce table (rows log) (atom b p ts) ρ ≡ plain (same v b)
+      = ap (λ (x : Value). settle x b (put (atom b p ts) ρ)) (sym told ∙ ap as_value is) in
+      subst (λ (t : Tree). Answers places 0 t out out (Plain (same v b))) (sym tree) (answers-plain (same v b) out places)
 
   pub reduces_open :
-      found ≡ Open →
+      found ≡ None →
       (before after : Words) (r : Reduced) →
       Stays words held scope at before after r →
       ReducesAtom table words log held scope b at before after r

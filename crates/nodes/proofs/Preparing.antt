@@ -13,8 +13,12 @@ use Rattle.model.specs.Reduction.{fresh, tuple}
 use Rattle.laws.specs.Reading.Items.{tuples}
 use Rattle.listing.specs.declared.restriction.Room.{Room}
 use Rattle.listing.specs.declared.restriction.Made.{Made}
-use Rattle.listing.specs.declared.restriction.Made.TheVariants as M
-use Rattle.environments.specs.Environment.{stored}
+use Rattle.std.specs.Prelude.{Option, Some, None}
+use Rattle.model.specs.Level.{restriction}
+use Rattle.laws.specs.Reading.Nodes.{Node}
+use Rattle.environments.specs.declared.environment.Environment.{Environment as Held}
+use Rattle.nodes.specs.Ground.{Outer}
+use Rattle.environments.specs.Environment.{Holds, stored}
 use Rattle.environments.proofs.Places.{stored_here, stored-length}
 use Rattle.environments.specs.Listed.{Listed}
 use Rattle.environments.proofs.ListedLaws.{listed-none, listed_more}
@@ -32,7 +36,7 @@ module _ (places : ℕ) (before scratch : Words) (e : Environment) (some-place :
   room-there : 17 * 0 + 17 ≤ length before
   room-there = omega arith
 
-  pub alone-long : length scratch ≡ length before
+  alone-long : length scratch ≡ length before
   alone-long = ap length is ∙ stored-length before 0 e room-there
 
   pub alone_roomy : R.Roomy (alone places) scratch
@@ -46,48 +50,81 @@ module _ (places : ℕ) (before scratch : Words) (e : Environment) (some-place :
     long = refl;
   }
 
-module _ (table words log : Words) (scope v at : ℕ) (c : Tree) (ρ : List ℤ) (body places : ℕ) (before after : Words) where
-  abbrev es : List Environment
-  es = list table (rows log) c (scope + v) (outer ρ ∷ [])
+-- the environment is stored, and alone in the room
+module _
+    (held : Held) (scope places : ℕ) (before scratch : Words) (room : Room)
+    (some-place : 1 ≤ places) (there : 17 * places ≤ length before) (alone-so : room ≡ alone places)
+    (store : (e : Environment) → Holds held e → scratch ≡ stored before 0 e) where
+  pub room-asked : (ρ : List ℤ) × Outer held scope ρ → R.Roomy room scratch
+  room-asked (ρ, o) =
+      subst (λ (r : Room). R.Roomy r scratch) (sym alone-so)
+      (alone_roomy places before scratch (outer ρ) some-place there (store (outer ρ) o.0))
 
-  abbrev Makes-list : Made → Type 0
-  Makes-list r = R.MakesTree table log c (scope + v) body (outer ρ ∷ []) (alone places) before after r
+  pub room-holds : (ρ : List ℤ) → Outer held scope ρ → R.Holding room scratch (outer ρ ∷ [])
+  room-holds ρ o =
+      subst (λ (r : Room). R.Holding r scratch (outer ρ ∷ [])) (sym alone-so)
+      (alone-holds places before scratch (outer ρ) some-place there (store (outer ρ) o.0))
 
-  -- the places ran out
-  pub prepare_short : Makes-list M.Short → places < listed table log scope v c ρ
-  prepare_short m = m.tells
+  module _
+      (table words log : Words) (level v at m : ℕ) (is : m ≡ value words (at + 2)) (after : Words) (r : Option Made)
+      (makes :
+      (es : List Environment) → R.Holding room scratch es →
+      R.MakesNode table words log level (scope + v) (at + 3 + v * m) es room scratch after r) where
+    abbrev Restricts : (c : Tree) (body : ℕ) → Type 0
+    Restricts c body = Node table words restriction level (scope + v) (at + 3 + v * value words (at + 2)) c body
 
-  module _ (to : Room) (x : ℕ) (m : Makes-list (M.List to x)) where
-    made : R.ListStands es (entries table (rows log) c (scope + v) (outer ρ ∷ [])) body (alone places) after to x
-    made = m.tells
+    -- so is the list that the restriction makes
+    listed-so : (ρ : List ℤ) (c : Tree) (body : ℕ) → Outer held scope ρ → Restricts c body → R.MakesTree table log c (scope + v) body (outer ρ ∷ []) (alone places) scratch after r
+    listed-so ρ c body o node =
+        subst (λ (q : Room). R.MakesTree table log c (scope + v) body (outer ρ ∷ []) q scratch after r) alone-so
+        (makes (outer ρ ∷ []) (room-holds ρ o) c body
+        (subst (λ (n : ℕ). Node table words restriction level (scope + v) (at + 3 + v * n) c body) (sym is) node))
 
-    -- the list is within scratch
-    pub prepare_inside : (to.from + to.count ≤ to.used) × (to.used ≤ places)
-    prepare_inside =
-        let c1 = made.counted in
-        let c2 = made.free in
-        let c3 = made.high in
-        let c4 = made.fits in
-        (omega arith, omega arith)
+    -- the places ran out
+    pub prepare_short :
+        r ≡ None → (ρ : List ℤ) (c : Tree) (body : ℕ) → Outer held scope ρ → Restricts c body → places < listed table log scope v c ρ
+    prepare_short e ρ c body o node =
+        (subst (R.MakesTree table log c (scope + v) body (outer ρ ∷ []) (alone places) scratch after) e (listed-so ρ c body o node)).tells
 
-    -- the instances stand
-    pub prepare_stood :
-        scope + v ≤ 16 → (last : Words) (n k : ℕ) → n ≡ value words (at + 2) →
-        Chosen words (at + 3) n v scope after last to.from to.count k →
-        InstancesStand table words log scope v at c ρ body places last (record { from = to.from; count = k; used = to.used; body = x })
-    prepare_stood small last n k is chosen =
-        let few = chosen.few in
-        let left = chosen.found es made.holds.listed made.holds.long in
-        let (inside, fits) = prepare_inside in
-        record {
-          counted = made.counted;
-          fits = fits;
-          below = omega arith;
-          behind = made.behind;
-          found =
-              subst (λ (j : ℕ). Found last scope to.from v k (instances_of j)) is
-              (instances-found (tuples words v (at + 3) n) v scope es last to.from k small left);
-        }
-      where
-        instances_of : ℕ → List (List ℤ)
-        instances_of j = fresh (tuples words v (at + 3) j) (map (tuple scope v) es)
+    module _ (made : Made) (some : r ≡ Some made) where
+      stands :
+          (ρ : List ℤ) (c : Tree) (body : ℕ) → Outer held scope ρ → Restricts c body →
+          R.ListStands (list table (rows log) c (scope + v) (outer ρ ∷ [])) (entries table (rows log) c (scope + v) (outer ρ ∷ [])) body (alone places) after made.room made.next
+      stands ρ c body o node =
+          (subst (R.MakesTree table log c (scope + v) body (outer ρ ∷ []) (alone places) scratch after) some (listed-so ρ c body o node)).tells
+
+      -- the list is within scratch
+      inside : (ρ : List ℤ) (c : Tree) (body : ℕ) → Outer held scope ρ → Restricts c body → (made.room.from + made.room.count ≤ made.room.used) × (made.room.used ≤ places)
+      inside ρ c body o node =
+          let s = stands ρ c body o node in
+          let c1 = s.counted in
+          let c2 = s.free in
+          let c3 = s.high in
+          let c4 = s.fits in
+          (omega arith, omega arith)
+
+      pub prepare_inside :
+          (ρ : List ℤ) × Outer held scope ρ → (c : Tree) × (body : ℕ) × Restricts c body →
+          17 * (made.room.from + made.room.count) ≤ 17 * places
+      prepare_inside (ρ, o) (c, body, node) = omega (arith, inside ρ c body o node)
+
+      -- the instances stand
+      pub prepare_stood :
+          scope + v ≤ 16 → (last : Words) (k : ℕ) → Chosen words (at + 3) m v scope after last made.room.from made.room.count k →
+          (ρ : List ℤ) (c : Tree) (body : ℕ) → Outer held scope ρ → Restricts c body →
+          InstancesStand table words log scope v at c ρ body places last (record { from = made.room.from; count = k; used = made.room.used; body = made.next })
+      prepare_stood small last k chosen ρ c body o node =
+          let s = stands ρ c body o node in
+          let es = list table (rows log) c (scope + v) (outer ρ ∷ []) in
+          let few = chosen.few in
+          let left = chosen.found es s.holds.listed s.holds.long in
+          let within = inside ρ c body o node in
+          record {
+            counted = s.counted;
+            fits = within.1;
+            below = omega arith;
+            behind = s.behind;
+            found =
+                subst (λ (j : ℕ). Found last scope made.room.from v k (fresh (tuples words v (at + 3) j) (map (tuple scope v) es))) is
+                (instances-found (tuples words v (at + 3) m) v scope es last made.room.from k small left);
+          }

@@ -1,12 +1,11 @@
 // The reduction of ground atoms and comparisons, all of whose variables are outer ones, and the environment of an instance.
 ghost use Rattle.std.specs.Prelude.{List, ◌++◌, ◌+◌, ◌*◌, ◌≤◌, length, take, drop, ℤ};
-ghost use Rattle.listing.specs.Restrictions.{Chains};
 ghost use Rattle.nodes.specs.Ground.{Outer, HereLiteral, GrownAtom, HereCompare, Stays, ReducesAtom, ReducesCompare};
 
 use environments::environment::Environment;
 use environments::terms;
 use joining::answer::Reduced;
-use logs::value::Value;
+use logs::accepted::AcceptedLog;
 use matching::lookup;
 use trees::putting;
 use words::copying;
@@ -37,26 +36,22 @@ fn stay(
 
 // The atom at an index, which holds or fails: plain if its value is known, else it stays.
 pub fn atom(
-    table: &[i32],
+    log: &AcceptedLog<'_>,
     words: &[i32],
-    log: &[i32],
-    links: &[u16],
     environment: Environment,
     scope: usize,
     holds: bool,
     at: usize,
     out: &mut [i32],
 ) -> Reduced
-    requires { Chains table.now log.now links.now
-        × (scope ≤ 16)
-        × HereLiteral table.now words.now scope holds at }
-    ensures { ReducesAtom table.now words.now log.now environment scope holds at out.old out.new result }
+    requires { (scope ≤ 16)
+        × HereLiteral log.now.table.now words.now scope holds at }
+    ensures { ReducesAtom log.now.table.now words.now log.now.rows.now environment scope holds at out.old out.new result }
 {
-    let found = lookup::value_at(table, words, log, links, environment, at);
+    let found = lookup::value_at(log.table, words, log.rows, log.links, environment, at);
     match found {
-        Value::True => Reduced::Plain(holds),
-        Value::False => Reduced::Plain(!holds),
-        Value::Open => stay(words, environment, scope, at, out),
+        Some(value) => Reduced::Plain(value == holds),
+        None => stay(words, environment, scope, at, out),
     }
 }
 
@@ -83,10 +78,7 @@ pub fn instance(
 {
     let from = Environment::WORDS * place + scope;
     let mut bound = environment;
-    for i in 0..v {
-        let x = scope + i;
-        bound.numbers[x] = scratch[from + i];
-        bound.marks[x] = true;
-    }
+    bound.numbers[scope..scope + v].copy_from_slice(&scratch[from..from + v]);
+    bound.marks[scope..scope + v].fill(true);
     bound
 }

@@ -5,7 +5,6 @@ ghost use Rattle.model.specs.Tree.{Tree};
 ghost use Rattle.model.specs.Level as L;
 ghost use Rattle.laws.specs.Reading.Nodes.{Node};
 ghost use Rattle.policies.specs.Standing.{Here};
-ghost use Rattle.listing.specs.Restrictions.{Chains};
 ghost use Rattle.nodes.specs.Ground.{Outer};
 ghost use Rattle.nodes.specs.Prepare as P;
 
@@ -13,6 +12,7 @@ use environments::environment::Environment;
 use instances::choosing;
 use listing::restriction;
 use listing::restriction::{Made, Room};
+use logs::accepted::AcceptedLog;
 
 // The instances of a quantifier: the first place where their tuples stand, how many they are, the places counted so far, and the
 // index of the body.
@@ -39,10 +39,8 @@ fn room(places: usize) -> Room
 
 // The instances of the quantifier of v variables at an index, which stands at a level; None if the places ran out.
 pub fn prepare(
-    table: &[i32],
+    log: &AcceptedLog<'_>,
     words: &[i32],
-    log: &[i32],
-    links: &[u16],
     scratch: &mut [i32],
     environment: Environment,
     level: usize,
@@ -50,19 +48,18 @@ pub fn prepare(
     v: usize,
     at: usize,
 ) -> Option<Placed>
-    requires { Chains table.now log.now links.now
-        × (level ≤ 64)
+    requires { (level ≤ 64)
         × (scope + v ≤ 16)
         × (at + 3 + v * W.value words.now (at + 2) ≤ length words.now)
-        × Here table.now words.now L.Role.restriction level (scope + v) (at + 3 + v * W.value words.now (at + 2))
+        × Here log.now.table.now words.now L.Role.restriction level (scope + v) (at + 3 + v * W.value words.now (at + 2))
         × ((ρ : List ℤ) × Outer environment scope ρ) }
     ensures { (ρ : List ℤ) (c : Tree) (body : ℕ) →
         Outer environment scope ρ →
-        Node table.now words.now L.Role.restriction level (scope + v) (at + 3 + v * W.value words.now (at + 2)) c body →
+        Node log.now.table.now words.now L.Role.restriction level (scope + v) (at + 3 + v * W.value words.now (at + 2)) c body →
         P.InstancesTell
-        table.now
+        log.now.table.now
         words.now
-        log.now
+        log.now.rows.now
         scope
         v
         at
@@ -79,20 +76,18 @@ pub fn prepare(
     }
     environment.store(scratch, 0);
     let m = words::value(words, at + 2);
-    let made = restriction::list(
-        table,
-        words,
+    let Made {
+        room: to,
+        next: body,
+    } = restriction::list(
         log,
-        links,
+        words,
         scratch,
         room(places),
         level,
         scope + v,
         at + 3 + v * m,
-    );
-    let Made::List(to, body) = made else {
-        return None;
-    };
+    )?;
     let count = choosing::instances(words, at + 3, m, v, scope, scratch, to.from, to.count);
     Some(Placed {
         from: to.from,

@@ -59,6 +59,12 @@ module _ (table words log : Words) (b : Bool) (level scope at u : ℕ) (is : u �
   abbrev pub first : ℕ
   first = at + 3 + u * value words (at + 2)
 
+  -- what the preparing of instances says
+  abbrev pub Prepares : (held : Environment) (places : ℕ) (scratch : Words) (r : Option Placed) → Type 0
+  Prepares held places scratch r =
+      (ρ : List ℤ) (c : Tree) (body : ℕ) → Outer held scope ρ → Node table words restriction level (scope + u) first c body →
+      InstancesTell table words log scope u at c ρ body places scratch r
+
   module _ (v : ℕ) (excluded : List (List ℤ)) (c f : Tree) (next : ℕ) (q : Quantified table words b level scope at v excluded c f next) where
     parts : QuantifierParts table words scope at next v excluded c f (q.above + quantifier_cost q.role b) (at + 3 + v * length excluded)
     parts = quantifier-parts table words q.role q.above scope at next b v excluded c f q.node
@@ -142,18 +148,28 @@ module _ (table words log : Words) (b : Bool) (level scope at u : ℕ) (is : u �
 
       -- what was prepared
       pub prepared_short :
-          (places : ℕ) (scratch : Words) (r : Option Placed) → r ≡ None →
-          InstancesTell table words log scope u at c ρ body_at places scratch r →
+          (places : ℕ) (scratch : Words) (r : Option Placed) → r ≡ None → Prepares held places scratch r →
           places < listed table log scope u c ρ + needs table log f ρ found
       prepared_short places scratch r e t =
-          let few : places < listed table log scope u c ρ = subst (InstancesTell table words log scope u at c ρ body_at places scratch) e t in
+          let few : places < listed table log scope u c ρ
+          = subst (InstancesTell table words log scope u at c ρ body_at places scratch) e (t ρ c body_at o restriction-here) in
           omega arith
 
       pub prepared_stood :
-          (places : ℕ) (scratch : Words) (r : Option Placed) (p : Placed) → r ≡ Some p →
-          InstancesTell table words log scope u at c ρ body_at places scratch r →
+          (places : ℕ) (scratch : Words) (r : Option Placed) (p : Placed) → r ≡ Some p → Prepares held places scratch r →
           InstancesStand table words log scope u at c ρ body_at places scratch p
-      prepared_stood places scratch r p e t = subst (InstancesTell table words log scope u at c ρ body_at places scratch) e t
+      prepared_stood places scratch r p e t =
+          subst (InstancesTell table words log scope u at c ρ body_at places scratch) e (t ρ c body_at o restriction-here)
+
+      -- what was worked out at the instances
+      pub worked_out :
+          (places left : ℕ) (scratch after : Words) (p : Placed) (w : Worked) →
+          InstancesStand table words log scope u at c ρ body_at places scratch p →
+          ((ρ : List ℤ) (found : List (List ℤ)) (f : Tree) (next : ℕ) → Outer held scope ρ → Found scratch scope p.from u p.count found →
+          Node table words formula level (scope + u) p.body f next → Works b table log f ρ found left next after w) →
+          Works b table log f ρ found left next after w
+      worked_out places left scratch after p w s works =
+          works ρ found f next o s.found (subst (λ (n : ℕ). Node table words formula level (scope + u) n f next) (sym s.behind) body-here)
 
       -- the bodies and the last part are joined
       pub quantifier-whole :

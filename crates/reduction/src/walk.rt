@@ -6,7 +6,6 @@ ghost use Rattle.model.specs.Reading.{is_formula};
 ghost use Rattle.laws.specs.Reading.Nodes.{Node};
 ghost use Rattle.policies.specs.Standing.{Here, HereAll};
 ghost use Rattle.policies.specs.Node.{as_role};
-ghost use Rattle.listing.specs.Restrictions.{Chains};
 ghost use Rattle.nodes.specs.Ground.{Outer};
 ghost use Rattle.nodes.specs.Last.{Found};
 ghost use Rattle.reduction.specs.Walk as R;
@@ -14,6 +13,7 @@ ghost use Rattle.reduction.specs.Walk as R;
 use environments::environment::Environment;
 use joining::answer::Reduced;
 use joining::join::{Join, State};
+use logs::accepted::AcceptedLog;
 use nodes::prepare::Placed;
 use nodes::{conclude, ground, prepare};
 use policies::node;
@@ -37,10 +37,8 @@ pub struct Worked {
 // The children of an all-of (true) or any-of: each is lent the words behind those of the parts before it.
 #[cycle(children_formula_instances_quantifier)]
 fn children(
-    table: &[i32],
+    log: &AcceptedLog<'_>,
     words: &[i32],
-    log: &[i32],
-    links: &[u16],
     scratch: &mut [i32],
     out: &mut [i32],
     environment: Environment,
@@ -50,23 +48,20 @@ fn children(
     n: usize,
     at: usize,
 ) -> Walked
-    requires { Chains table.now log.now links.now
-        × (above ≤ 64)
+    requires { (above ≤ 64)
         × (scope ≤ 16)
         × (length out.old ≤ 1048576)
-        × HereAll table.now words.now (L.Role.operand kind) above scope n at
+        × HereAll log.now.table.now words.now (L.Role.operand kind) above scope n at
         × ((ρ : List ℤ) × Outer environment scope ρ) }
-    ensures { R.ReducesJoin kind table.now words.now log.now above scope n at environment (length scratch.old / 17) out.old out.new result }
+    ensures { R.ReducesJoin kind log.now.table.now words.now log.now.rows.now above scope n at environment (length scratch.old / 17) out.old out.new result }
 {
     let mut join = Join::new(kind);
     let mut next = at;
     for _ in 0..n {
         let from = join.words;
         let child = formula(
-            table,
-            words,
             log,
-            links,
+            words,
             scratch,
             &mut out[from..],
             environment,
@@ -89,10 +84,8 @@ fn children(
 // The body of a quantifier at each of its instances, whose tuples stand in places of scratch.
 #[cycle(children_formula_instances_quantifier)]
 fn instances(
-    table: &[i32],
+    log: &AcceptedLog<'_>,
     words: &[i32],
-    log: &[i32],
-    links: &[u16],
     scratch: &mut [i32],
     out: &mut [i32],
     environment: Environment,
@@ -102,11 +95,10 @@ fn instances(
     v: usize,
     placed: Placed,
 ) -> Worked
-    requires { Chains table.now log.now links.now
-        × (level ≤ 64)
+    requires { (level ≤ 64)
         × (scope + v ≤ 16)
         × (length out.old ≤ 1048576)
-        × Here table.now words.now L.Role.formula level (scope + v) placed.body
+        × Here log.now.table.now words.now L.Role.formula level (scope + v) placed.body
         × (placed.from + placed.count ≤ placed.used)
         × (17 * placed.used ≤ length scratch.old)
         × ((ρ : List ℤ) × Outer environment scope ρ)
@@ -114,8 +106,8 @@ fn instances(
     ensures works { (ρ : List ℤ) (found : List (List ℤ)) (f : Tree) (next : ℕ) →
         Outer environment scope ρ →
         Found scratch.old scope placed.from v placed.count found →
-        Node table.now words.now L.Role.formula level (scope + v) placed.body f next →
-        R.Works kind table.now log.now f ρ found (length scratch.old / 17 - placed.used) next out.new result }
+        Node log.now.table.now words.now L.Role.formula level (scope + v) placed.body f next →
+        R.Works kind log.now.table.now log.now.rows.now f ρ found (length scratch.old / 17 - placed.used) next out.new result }
     ensures scratch_unchanged { take (17 * placed.used) scratch.new ≡ take (17 * placed.used) scratch.old }
 {
     let from = placed.from;
@@ -129,10 +121,8 @@ fn instances(
         let room = Environment::WORDS * used;
         let start = join.words;
         let child = formula(
-            table,
-            words,
             log,
-            links,
+            words,
             &mut scratch[room..],
             &mut out[start..],
             bound,
@@ -160,10 +150,8 @@ fn instances(
 // A quantifier at an index and a level: its instances, their bodies, and what is left of it.
 #[cycle(children_formula_instances_quantifier)]
 fn quantifier(
-    table: &[i32],
+    log: &AcceptedLog<'_>,
     words: &[i32],
-    log: &[i32],
-    links: &[u16],
     scratch: &mut [i32],
     out: &mut [i32],
     environment: Environment,
@@ -172,27 +160,15 @@ fn quantifier(
     scope: usize,
     at: usize,
 ) -> Walked
-    requires { Chains table.now log.now links.now
-        × (level ≤ 64)
+    requires { (level ≤ 64)
         × (scope ≤ 16)
         × (length out.old ≤ 1048576)
-        × R.HereQuantified table.now words.now kind level scope at
+        × R.HereQuantified log.now.table.now words.now kind level scope at
         × ((ρ : List ℤ) × Outer environment scope ρ) }
-    ensures { R.ReducesQuantifier kind table.now words.now log.now level scope at environment (length scratch.old / 17) out.old out.new result }
+    ensures { R.ReducesQuantifier kind log.now.table.now words.now log.now.rows.now level scope at environment (length scratch.old / 17) out.old out.new result }
 {
     let v = words::value(words, at + 1);
-    let prepared = prepare::prepare(
-        table,
-        words,
-        log,
-        links,
-        scratch,
-        environment,
-        level,
-        scope,
-        v,
-        at,
-    );
+    let prepared = prepare::prepare(log, words, scratch, environment, level, scope, v, at);
     let Some(placed) = prepared else {
         return Walked {
             answer: Reduced::Short,
@@ -200,10 +176,8 @@ fn quantifier(
         };
     };
     let worked = instances(
-        table,
-        words,
         log,
-        links,
+        words,
         scratch,
         out,
         environment,
@@ -222,7 +196,7 @@ fn quantifier(
     }
     let next = worked.next;
     let answer = conclude::conclude(
-        table,
+        log.table,
         words,
         scratch,
         out,
@@ -239,10 +213,8 @@ fn quantifier(
 // The formula at an index, in a role under a node at the level above.
 #[cycle(children_formula_instances_quantifier)]
 pub fn formula(
-    table: &[i32],
+    log: &AcceptedLog<'_>,
     words: &[i32],
-    log: &[i32],
-    links: &[u16],
     scratch: &mut [i32],
     out: &mut [i32],
     environment: Environment,
@@ -251,14 +223,13 @@ pub fn formula(
     scope: usize,
     at: usize,
 ) -> Walked
-    requires { Chains table.now log.now links.now
-        × (above ≤ 64)
+    requires { (above ≤ 64)
         × (scope ≤ 16)
         × (length out.old ≤ 1048576)
         × (is_formula (as_role role) ≡ true)
-        × Here table.now words.now (as_role role) above scope at
+        × Here log.now.table.now words.now (as_role role) above scope at
         × ((ρ : List ℤ) × Outer environment scope ρ) }
-    ensures { R.ReducesNode table.now words.now log.now (as_role role) above scope at environment (length scratch.old / 17) out.old out.new result }
+    ensures { R.ReducesNode log.now.table.now words.now log.now.rows.now (as_role role) above scope at environment (length scratch.old / 17) out.old out.new result }
 {
     let tag = node::tag_at(words, at);
     let level = above + node::cost(role, tag);
@@ -269,7 +240,7 @@ pub fn formula(
             next,
         },
         Tag::Atom(b) => Walked {
-            answer: ground::atom(table, words, log, links, environment, scope, b, at, out),
+            answer: ground::atom(log, words, environment, scope, b, at, out),
             next,
         },
         Tag::Compare(b) => Walked {
@@ -279,10 +250,8 @@ pub fn formula(
         Tag::Join(b) => {
             let n = words::value(words, at + 1);
             children(
-                table,
-                words,
                 log,
-                links,
+                words,
                 scratch,
                 out,
                 environment,
@@ -294,10 +263,8 @@ pub fn formula(
             )
         }
         Tag::Quantifier(b) => quantifier(
-            table,
-            words,
             log,
-            links,
+            words,
             scratch,
             out,
             environment,

@@ -1,15 +1,15 @@
 -- The call reduce, question by question.
-use Prim.Native.Nat.{ℕ, ◌/◌}
-use mathlib.Core.Path.{◌≡◌, refl, sym, ◌∙◌, subst}
+use Prim.Native.Nat.{ℕ, ◌/◌, ◌≤◌}
+use mathlib.Core.Path.{◌≡◌, refl, sym, ◌∙◌}
 use mathlib.Core.List.{List, []}
 use lib.ListN.{length}
 use Rattle.std.specs.Prelude.{Ok, Err}
 use Rattle.model.specs.declared.Refusal.{Refusal}
-use Rattle.model.specs.Words.{Words, place_words}
+use Rattle.model.specs.Words.{Words, place_words, predicate_limit}
 use Rattle.model.specs.Answer.{Answer, passed, refused, ◌>>=◌, refused_at}
 use Rattle.model.specs.Level.{formula}
 use Rattle.model.specs.Log.{rows, ask_log}
-use Rattle.model.specs.Table.{ask_table}
+use Rattle.model.specs.Table.{ask_table, predicates}
 use Rattle.model.specs.Reading.{read_policy}
 use Rattle.model.specs.Mode.{ask_modes}
 use Rattle.model.specs.Reduction.{reduce, need}
@@ -18,8 +18,6 @@ use Rattle.laws.specs.Table as T
 use Rattle.laws.specs.Calls.Policy.{accepted-asked}
 use Rattle.laws.specs.Reading.Encoded.{read-node}
 use Rattle.laws.specs.Reading.Nodes.{Node}
-use Rattle.logs.specs.Links.{Linked}
-use Rattle.listing.specs.Restrictions.{Chains}
 use Rattle.checks.specs.Accepts.{Accepts}
 use Rattle.residuals.specs.Residual.{settled, Leaves, LeavesResidual}
 use Rattle.checks.proofs.Calls.{policy_was_refused, policy_was_passed}
@@ -47,15 +45,16 @@ module _ (table policy log : Words) (scratch buffer : ℕ) where
     pub root : Node table policy formula 0 0 0 accepts.0 (length policy)
     root = read-node table policy accepts.0 tree-asked.1
 
+    -- the predicates are few
+    pub few : predicates table ≤ predicate_limit
+    few = (T.accepted table tree-asked.0).few
+
     -- questions 8 to 10
     pub log-refused : (after : Words) {r : Refusal} {p : ℕ} → ask_log table log ≡ refused r p → LeavesResidual table policy log scratch buffer after (Err (refused_at r p))
     unfolding ask_reduction ◌>>=◌
     log-refused after e = leaves-refused buffer after (rw (accepts.1, e) refl)
 
     module _ (logged : ask_log table log ≡ passed tt) where
-      pub chains : {links : List ℕ} → Linked log links → Chains table log links
-      chains l = record { few = (T.accepted table tree-asked.0).few; accepted = logged; linked = l }
-
       -- questions 11 and 12
       pub all_asked :
           {after : Words} {a : Answer} {n : ℕ} →

@@ -9,12 +9,12 @@ ghost use Rattle.model.specs.Calls.{write, ask_reduction};
 ghost use Rattle.laws.specs.Reading.Nodes.{Node};
 ghost use Rattle.policies.specs.Standing.{Here};
 ghost use Rattle.checks.specs.Accepts.{Accepts};
-ghost use Rattle.listing.specs.Restrictions.{Chains};
 ghost use Rattle.residuals.specs.Residual as R;
 
 use checks::check_policy;
 use environments::environment::Environment;
 use joining::answer::Reduced;
+use logs::accepted::AcceptedLog;
 use logs::links;
 use model::{Answer, POLICY_LIMIT, Refusal, Refused};
 use policies::node::Role;
@@ -27,26 +27,22 @@ fn lendable(words: usize) -> usize
     words.min(POLICY_LIMIT)
 }
 
-// The walk of an accepted policy over a chained log.
+// The walk of an accepted policy over an accepted log.
 fn walk_policy(
-    table: &[i32],
+    log: &AcceptedLog<'_>,
     policy: &[i32],
-    log: &[i32],
-    links: &[u16],
     scratch: &mut [i32],
     buffer: &mut [i32],
 ) -> Reduced
-    requires { Chains table.now log.now links.now × Here table.now policy.now L.Role.formula 0 0 0 }
+    requires { Here log.now.table.now policy.now L.Role.formula 0 0 0 }
     ensures { (tree : Tree) (next : ℕ) →
-        Node table.now policy.now L.Role.formula 0 0 0 tree next →
-        R.Walked (length scratch.old / place_words) (need table.now (rows log.now) tree []) (reduce table.now (rows log.now) tree []) buffer.new result }
+        Node log.now.table.now policy.now L.Role.formula 0 0 0 tree next →
+        R.Walked (length scratch.old / place_words) (need log.now.table.now (rows log.now.rows.now) tree []) (reduce log.now.table.now (rows log.now.rows.now) tree []) buffer.new result }
 {
     let room = lendable(buffer.len());
     let walked = walk::formula(
-        table,
-        policy,
         log,
-        links,
+        policy,
         scratch,
         &mut buffer[..room],
         Environment::empty(),
@@ -96,7 +92,12 @@ fn over_log(
     ensures { R.Leaves (ask_reduction table.now policy.now log.now (length scratch.old) (length buffer.old)) (length buffer.old) buffer.new result }
 {
     links::check_and_link(table, log, links)?;
-    let reduced = walk_policy(table, policy, log, links, scratch, buffer);
+    let accepted = AcceptedLog {
+        table,
+        rows: log,
+        links,
+    };
+    let reduced = walk_policy(&accepted, policy, scratch, buffer);
     settle(reduced, buffer)
 }
 

@@ -1,43 +1,20 @@
 -- Laws for the writing of texts one behind another: what was written before may have found no room.
-use Prim.Native.Nat.{ℕ, ◌≤◌}
+use Prim.Native.Nat.{ℕ}
 use native.Mathlib.Omega.{arith}
 use mathlib.Core.Path.{◌≡◌, refl, sym, ap, ◌∙◌, subst}
-use mathlib.Core.Bool.{Bool, cond}
 use mathlib.Core.List.{[], ◌++◌, append_assoc, append-nil}
 use lib.ListN.{length, length-append}
 use Rattle.model.specs.Bytes.{Text}
 use Rattle.std.specs.Prelude.{Option, Some, None}
+use Rattle.std.proofs.lemmas.Option.{none-some}
 use Rattle.text.specs.Put.{Puts}
 use Rattle.text.proofs.PutLaws.{part_none, part-more, part-last, part_end}
 use Rattle.tptp_putting.specs.Adding.{Fits, Adds}
-
--- what was written before had room, up to an index
-pub fits-at : {before : Option ℕ} {at : ℕ} (out : Text) → before ≡ Some at → Fits before out → at ≤ length out
-fits-at out e h = subst (λ (p : Option ℕ). Fits p out) e h
-
-pub adds-at :
-    {before : Option ℕ} {at : ℕ} (text old out : Text) (r : Option ℕ) → before ≡ Some at → Puts text at old out r → Adds text before old out r
-adds-at text old out r e h = subst (λ (p : Option ℕ). Adds text p old out r) (sym e) h
-
--- it had none
-pub adds-full : {before : Option ℕ} (text old out : Text) → before ≡ None → Adds text before old out None
-adds-full text old out e = subst (λ (p : Option ℕ). Adds text p old out None) (sym e) refl
 
 -- the same text
 pub adds-is :
     (a : Text) {b : Text} (before : Option ℕ) (old out : Text) (r : Option ℕ) → Adds a before old out r → b ≡ a → Adds b before old out r
 adds-is a before old out r h e = subst (λ (t : Text). Adds t before old out r) (sym e) h
-
--- the first or the second of two texts
-pub adds-either :
-    {first b : Bool} (one other : Text) (before : Option ℕ) (old out : Text) (r : Option ℕ) → first ≡ b →
-    Adds (cond b one other) before old out r →
-    Adds (cond first one other) before old out r
-adds-either one other before old out r e h = subst (λ (c : Bool). Adds (cond c one other) before old out r) (sym e) h
-
--- no index is no room
-at-full : {n : ℕ} → Some n ≡ None → ⊥
-at-full e = let z : ◌≡◌ {A = ℕ} 0 1 = cc in omega arith
 
 -- a text stands behind what was written before, and the buffer is as long as it was
 pub record Behind (text : Text) (before : Option ℕ) (old out : Text) (r : Option ℕ) : Type 0 where
@@ -47,7 +24,7 @@ pub record Behind (text : Text) (before : Option ℕ) (old out : Text) (r : Opti
 -- it ends within the buffer
 pub behind-fits : {text : Text} {before : Option ℕ} {old out : Text} {r : Option ℕ} → Behind text before old out r → Fits r out
 behind-fits {r = None} b = tt
-behind-fits {before = None} {r = Some n} b = absurd (at-full b.adds)
+behind-fits {before = None} {r = Some n} b = absurd (none-some n (sym b.adds))
 behind-fits {before = Some at} {r = Some n} b = omega (arith, b.adds.fits, b.long)
 
 -- one text behind another

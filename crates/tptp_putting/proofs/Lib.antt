@@ -1,5 +1,4 @@
 -- Laws that several proofs of this crate, or of others, cite.
 pub mod AddLaws
-pub mod TokenLaws
 pub mod TextLaws
 pub mod TupleLaws

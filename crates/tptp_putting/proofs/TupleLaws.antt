@@ -8,7 +8,7 @@ use lib.IntN.{ℤ}
 use Rattle.model.specs.Words.{Words}
 use Rattle.model.specs.Lists.{gather}
 use Rattle.model.specs.Bytes.{Text, bytes}
-use Rattle.std.specs.Prelude.{Option, Some, None}
+use Rattle.std.specs.Prelude.{Option}
 use Rattle.laws.specs.Words.Standing.{Stands, stands-left, stands-right, stands_taken}
 use Rattle.laws.specs.Reading.Formed.{AllOfLength}
 use Rattle.tptp_putting.specs.Adding.{Adds, Fits}

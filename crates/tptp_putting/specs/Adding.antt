@@ -1,5 +1,5 @@
 -- What the writing of a text leaves that is put behind what was written before.
-use Rattle.std.specs.Prelude.{◌≤◌, ◌≡◌, length}
+use Rattle.std.specs.Prelude.{ℕ, ◌≤◌, ◌≡◌, length}
 use Rattle.model.specs.Bytes.{Text}
 use Rattle.std.specs.Prelude.{Option, Some, None}
 use Rattle.text.specs.Put.{Puts}

@@ -9,41 +9,38 @@ ghost use Rattle.tptp_putting.specs.Adding.{Fits, Adds};
 ghost use Rattle.tptp_putting.specs.Texts as T;
 
 use text::writing;
-use text::writing::Put;
 
 // Bytes as they are.
-pub fn put_bytes(out: &mut [u8], before: Put, bytes: &[u8]) -> Put
+pub fn put_bytes(out: &mut [u8], before: Option<usize>, bytes: &[u8]) -> Option<usize>
     requires { Fits before out.old }
     ensures { Adds bytes.now before out.old out.new result }
 {
-    let Put::At(at) = before else {
-        return Put::Full;
-    };
-    let n = bytes.len();
-    if out.len() - at < n {
-        return Put::Full;
+    let at = before?;
+    let next = at + bytes.len();
+    if out.len() < next {
+        return None;
     }
-    let mut i = 0;
-    while i < n {
-        out[at + i] = bytes[i];
-        i += 1;
-    }
-    Put::At(at + n)
+    out[at..next].copy_from_slice(bytes);
+    Some(next)
 }
 
 // One of two texts.
-pub fn put_either(out: &mut [u8], before: Put, first: bool, yes: &[u8], no: &[u8]) -> Put
+pub fn put_either(
+    out: &mut [u8],
+    before: Option<usize>,
+    first: bool,
+    yes: &[u8],
+    no: &[u8],
+) -> Option<usize>
     requires { Fits before out.old }
     ensures { Adds (cond first yes.now no.now) before out.old out.new result }
 {
-    if first {
-        return put_bytes(out, before, yes);
-    }
-    put_bytes(out, before, no)
+    put_bytes(out, before, if first { yes } else { no })
 }
 
 // What stands between the operands of an all-of (true) or any-of.
-pub fn put_connective(out: &mut [u8], before: Put, every: bool) -> Put
+#[tactic(auto, unfolding(model::specs::Tptp::connective, model::specs::Bytes::bytes))]
+pub fn put_connective(out: &mut [u8], before: Option<usize>, every: bool) -> Option<usize>
     requires { Fits before out.old }
     ensures { Adds (connective every) before out.old out.new result }
 {
@@ -51,29 +48,25 @@ pub fn put_connective(out: &mut [u8], before: Put, every: bool) -> Put
 }
 
 // A number that is not negative.
-pub fn put_natural(out: &mut [u8], before: Put, n: usize) -> Put
+pub fn put_natural(out: &mut [u8], before: Option<usize>, n: usize) -> Option<usize>
     requires { Fits before out.old }
     ensures { Adds (digits 10 n) before out.old out.new result }
 {
-    let Put::At(at) = before else {
-        return Put::Full;
-    };
+    let at = before?;
     writing::put_natural(out, at, n)
 }
 
 // The word at an index.
-pub fn put_word(out: &mut [u8], before: Put, words: &[i32], i: usize) -> Put
+pub fn put_word(out: &mut [u8], before: Option<usize>, words: &[i32], i: usize) -> Option<usize>
     requires { Fits before out.old }
     ensures { Adds (decimal (word words.now i)) before out.old out.new result }
 {
-    let Put::At(at) = before else {
-        return Put::Full;
-    };
+    let at = before?;
     writing::put_number(out, at, words, i)
 }
 
 // The term at an index.
-pub fn put_term(out: &mut [u8], before: Put, words: &[i32], i: usize) -> Put
+pub fn put_term(out: &mut [u8], before: Option<usize>, words: &[i32], i: usize) -> Option<usize>
     requires { Fits before out.old × (i + 2 ≤ length words.now) }
     ensures { Adds (T.term_text words.now i) before out.old out.new result }
 {
@@ -85,7 +78,7 @@ pub fn put_term(out: &mut [u8], before: Put, words: &[i32], i: usize) -> Put
 }
 
 // The term at an index, behind a comma.
-fn put_next_term(out: &mut [u8], before: Put, words: &[i32], i: usize) -> Put
+fn put_next_term(out: &mut [u8], before: Option<usize>, words: &[i32], i: usize) -> Option<usize>
     requires { Fits before out.old × (i + 2 ≤ length words.now) }
     ensures { Adds (bytes "," ++ T.term_text words.now i) before out.old out.new result }
 {
@@ -94,15 +87,19 @@ fn put_next_term(out: &mut [u8], before: Put, words: &[i32], i: usize) -> Put
 }
 
 // The n terms from an index on, at least one, with commas between them.
-pub fn put_terms(out: &mut [u8], before: Put, words: &[i32], first: usize, n: usize) -> Put
+pub fn put_terms(
+    out: &mut [u8],
+    before: Option<usize>,
+    words: &[i32],
+    first: usize,
+    n: usize,
+) -> Option<usize>
     requires { Fits before out.old × (1 ≤ n) × (first + 2 * n ≤ length words.now) }
     ensures { Adds (T.terms_text words.now first n) before out.old out.new result }
 {
     let mut put = put_term(out, before, words, first);
-    let mut i = 1;
-    while i < n {
+    for i in 1..n {
         put = put_next_term(out, put, words, first + 2 * i);
-        i += 1;
     }
     put
 }

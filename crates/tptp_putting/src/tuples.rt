@@ -7,10 +7,9 @@ ghost use Rattle.tptp_putting.specs.Adding.{Fits, Adds};
 ghost use Rattle.tptp_putting.specs.Texts as T;
 
 use crate::tokens;
-use text::writing::Put;
 
 // The number of a variable, behind that of another.
-fn put_next_variable(out: &mut [u8], before: Put, x: usize) -> Put
+fn put_next_variable(out: &mut [u8], before: Option<usize>, x: usize) -> Option<usize>
     requires { Fits before out.old }
     ensures { Adds (bytes ":$int,X" ++ digits 10 x) before out.old out.new result }
 {
@@ -19,16 +18,14 @@ fn put_next_variable(out: &mut [u8], before: Put, x: usize) -> Put
 }
 
 // The numbers of v variables, at least one.
-fn put_variables(out: &mut [u8], before: Put, scope: usize, v: usize) -> Put
+fn put_variables(out: &mut [u8], before: Option<usize>, scope: usize, v: usize) -> Option<usize>
     requires { Fits before out.old × (1 ≤ v) × (scope + v ≤ scope_limit) }
     ensures { Adds (T.variables_text scope v) before out.old out.new result }
 {
     let end = scope + v;
     let mut put = tokens::put_natural(out, before, scope);
-    let mut x = scope + 1;
-    while x < end {
+    for x in scope + 1..end {
         put = put_next_variable(out, put, x);
-        x += 1;
     }
     put
 }
@@ -37,12 +34,12 @@ fn put_variables(out: &mut [u8], before: Put, scope: usize, v: usize) -> Put
 // tuples are excluded.
 pub fn put_head(
     out: &mut [u8],
-    before: Put,
+    before: Option<usize>,
     every: bool,
     scope: usize,
     v: usize,
     alone: bool,
-) -> Put
+) -> Option<usize>
     requires { Fits before out.old × (1 ≤ v) × (scope + v ≤ scope_limit) }
     ensures { Adds (T.head_text every scope v alone) before out.old out.new result }
 {
@@ -52,7 +49,13 @@ pub fn put_head(
 }
 
 // That a variable is not the number at an index.
-fn put_unequal(out: &mut [u8], before: Put, x: usize, words: &[i32], i: usize) -> Put
+fn put_unequal(
+    out: &mut [u8],
+    before: Option<usize>,
+    x: usize,
+    words: &[i32],
+    i: usize,
+) -> Option<usize>
     requires { Fits before out.old }
     ensures { Adds (T.unequal_text x (word words.now i)) before out.old out.new result }
 {
@@ -63,7 +66,13 @@ fn put_unequal(out: &mut [u8], before: Put, x: usize, words: &[i32], i: usize) -
 }
 
 // The same, behind a bar.
-fn put_next_unequal(out: &mut [u8], before: Put, x: usize, words: &[i32], i: usize) -> Put
+fn put_next_unequal(
+    out: &mut [u8],
+    before: Option<usize>,
+    x: usize,
+    words: &[i32],
+    i: usize,
+) -> Option<usize>
     requires { Fits before out.old }
     ensures { Adds (bytes "|" ++ T.unequal_text x (word words.now i)) before out.old out.new result }
 {
@@ -74,21 +83,19 @@ fn put_next_unequal(out: &mut [u8], before: Put, x: usize, words: &[i32], i: usi
 // That one of v variables, at least one, is not its number of the tuple at an index.
 fn put_unequals(
     out: &mut [u8],
-    before: Put,
+    before: Option<usize>,
     words: &[i32],
     first: usize,
     v: usize,
     scope: usize,
-) -> Put
+) -> Option<usize>
     requires { Fits before out.old × (1 ≤ v) × (scope + v ≤ scope_limit) × (first + v ≤ length words.now) }
     ensures { Adds (T.unequals_text scope (take v (drop first words.now))) before out.old out.new result }
 {
     let end = first + v;
     let mut put = put_unequal(out, before, scope, words, first);
-    let mut i = first + 1;
-    while i < end {
+    for i in first + 1..end {
         put = put_next_unequal(out, put, scope + i - first, words, i);
-        i += 1;
     }
     put
 }
@@ -96,12 +103,12 @@ fn put_unequals(
 // The excluded tuple at an index, behind a restriction.
 fn put_tuple(
     out: &mut [u8],
-    before: Put,
+    before: Option<usize>,
     words: &[i32],
     first: usize,
     v: usize,
     scope: usize,
-) -> Put
+) -> Option<usize>
     requires { Fits before out.old × (1 ≤ v) × (scope + v ≤ scope_limit) × (first + v ≤ length words.now) }
     ensures { Adds (T.tuple_text scope (take v (drop first words.now))) before out.old out.new result }
 {
@@ -113,22 +120,20 @@ fn put_tuple(
 // The excluded tuples from an index up to another.
 fn put_each(
     out: &mut [u8],
-    before: Put,
+    before: Option<usize>,
     words: &[i32],
     first: usize,
     end: usize,
     v: usize,
     scope: usize,
-) -> Put
+) -> Option<usize>
     requires { Fits before out.old × (1 ≤ v) × (scope + v ≤ scope_limit) × T.Tuples words.now v first end }
     ensures { (t : T.Tuples words.now v first end) →
         Adds (T.tuples_text scope t.list) before out.old out.new result }
 {
     let mut put = before;
-    let mut from = first;
-    while from < end {
+    for from in (first..end).step_by(v) {
         put = put_tuple(out, put, words, from, v, scope);
-        from += v;
     }
     put
 }
@@ -136,13 +141,13 @@ fn put_each(
 // The same, and the parenthesis that closes their restriction; nothing, if there are none.
 pub fn put_tuples(
     out: &mut [u8],
-    before: Put,
+    before: Option<usize>,
     words: &[i32],
     first: usize,
     end: usize,
     v: usize,
     scope: usize,
-) -> Put
+) -> Option<usize>
     requires { Fits before out.old × (1 ≤ v) × (scope + v ≤ scope_limit) × T.Tuples words.now v first end }
     ensures { (t : T.Tuples words.now v first end) →
         Adds (T.closed_text scope t.list) before out.old out.new result }

@@ -12,12 +12,10 @@ use Rattle.model.specs.Level.{formula}
 use Rattle.model.specs.Reading.{read_policy}
 use Rattle.model.specs.Tptp.{policy_text}
 use Rattle.laws.specs.Reading.Encoded.{read-node}
-use Rattle.text.specs.declared.writing.Put.{Put}
-use Rattle.text.specs.declared.writing.Put.TheVariants as P
+use Rattle.std.specs.Prelude.{Option, Some, None}
 use Rattle.text.specs.Put.{Writes}
 use Rattle.text.proofs.PutLaws.{writes-whole}
 use Rattle.tptp_writing.specs.declared.tree.Printed.{Printed}
-use Rattle.tptp_writing.specs.declared.tree.Printed.TheVariants.{Full, At}
 use Rattle.tptp_writing.specs.Printing.{Printable, node_text, wrote, Prints}
 use Rattle.tptp_putting.proofs.AddLaws.{Behind, behind-fits, behind_more, behind_then, behind-is, behind-short}
 use Rattle.tptp_writing.proofs.NodeTextLaws.{policy-text}
@@ -29,27 +27,27 @@ module _ (table policy : Words) (tree : Tree) (read : read_policy table policy �
       record { table = table; role = formula; tree = tree; next = length policy; node = read-node table policy tree read }
 
   module _
-      {old out₁ out₂ : Text} {p : Put} {root : Printed} (lead : Behind (bytes "tff(a,axiom,") (P.At 0) old out₁ p)
+      {old out₁ out₂ : Text} {p : Option ℕ} {root : Option Printed} (lead : Behind (bytes "tff(a,axiom,") (Some 0) old out₁ p)
       (one : (k : Printable policy 0 0 0) → Prints (node_text true k.tree 0) k.next p out₁ out₂ root)
       (long : length out₂ ≡ length out₁)
     where
-      root-behind : Behind (bytes "tff(a,axiom," ++ node_text true tree 0) (P.At 0) old out₂ (wrote root)
+      root-behind : Behind (bytes "tff(a,axiom," ++ node_text true tree 0) (Some 0) old out₂ (wrote root)
       root-behind = behind_more lead _ (one policy-here).adds long
 
       whole : policy_text tree ≡ (bytes "tff(a,axiom," ++ node_text true tree 0) ++ bytes ")."
       whole = policy-text tree ∙ sym (append_assoc (bytes "tff(a,axiom,") (node_text true tree 0) (bytes ")."))
 
-      pub policy-full : root ≡ Full → Writes (policy_text tree) old out₂ P.Full
-      policy-full e = writes-whole (policy_text tree) old out₂ P.Full (behind-short _ _ root-behind (ap wrote e) whole)
+      pub policy-full : root ≡ None → Writes (policy_text tree) old out₂ None
+      policy-full e = writes-whole (policy_text tree) old out₂ None (behind-short _ _ root-behind (ap wrote e) whole)
 
-      module _ {next end : ℕ} (found : root ≡ At next end) where
-        ended : Behind (bytes "tff(a,axiom," ++ node_text true tree 0) (P.At 0) old out₂ (P.At end)
-        ended = subst (Behind (bytes "tff(a,axiom," ++ node_text true tree 0) (P.At 0) old out₂) (ap wrote found) root-behind
+      module _ {q : Printed} (found : root ≡ Some q) where
+        ended : Behind (bytes "tff(a,axiom," ++ node_text true tree 0) (Some 0) old out₂ (Some q.end)
+        ended = subst (Behind (bytes "tff(a,axiom," ++ node_text true tree 0) (Some 0) old out₂) (ap wrote found) root-behind
 
-        pub root-fits : end ≤ length out₂
+        pub root-fits : q.end ≤ length out₂
         root-fits = behind-fits ended
 
         pub policy-writes :
-            {out₃ : Text} {r : Put} → Behind (bytes ").") (P.At end) out₂ out₃ r → Writes (policy_text tree) old out₃ r
+            {out₃ : Text} {r : Option ℕ} → Behind (bytes ").") (Some q.end) out₂ out₃ r → Writes (policy_text tree) old out₃ r
         policy-writes {out₃} {r} last =
             writes-whole (policy_text tree) old out₃ r (behind-is (behind_then ended last) whole)

@@ -8,7 +8,7 @@ use lib.ListN.{length}
 use lib.IntN.{nat_abs}
 use Rattle.model.specs.Words.{Words, word, value, level_limit, scope_limit}
 use Rattle.model.specs.Tag.{Tag, tag_of}
-use Rattle.model.specs.Tree.{Tree, Trees, plain, atom, compare, join, quantifier, some, nil, cons, count, encode}
+use Rattle.model.specs.Tree.{Tree, Trees, plain, atom, join, quantifier, some, nil, cons, count, encode}
 use Rattle.model.specs.Level.{Role, restriction, formula, under, quantifier_cost, cost}
 use Rattle.model.specs.Reading.{places, term_at}
 use Rattle.laws.specs.Level.{greatest_mono, greatest-least}

@@ -11,10 +11,8 @@ use Rattle.model.specs.Bytes.{Text, bytes}
 use Rattle.model.specs.Tag.{Tag, tag_of}
 use Rattle.model.specs.Tree.{Tree, Trees, plain}
 use Rattle.model.specs.Tptp.{connective}
-use Rattle.text.specs.declared.writing.Put.{Put}
-use Rattle.text.specs.declared.writing.Put.TheVariants as P
+use Rattle.std.specs.Prelude.{Option, Some, None}
 use Rattle.tptp_writing.specs.declared.tree.Printed.{Printed}
-use Rattle.tptp_writing.specs.declared.tree.Printed.TheVariants.{Full, At}
 use Rattle.tptp_putting.specs.Adding.{Fits}
 use Rattle.tptp_putting.specs.Texts.{head_text, closed_text, Tuples}
 use Rattle.tptp_writing.specs.Printing.{Printable, PrintableAll, atom_at, compare_at, node_text, operands_text, wrote, Ends, Prints}
@@ -28,7 +26,7 @@ use Rattle.tptp_writing.proofs.PrintableLaws.{plain_here, atom-here, compare-her
 
 module _
     (words : Words) (above scope at : ℕ) (h : Printable words above scope at) (bare : Bool)
-    {before : Put} {old out : Text} {r : Printed}
+    {before : Option ℕ} {old out : Text} {r : Option Printed}
   where
     -- a node with no node below it
     pub plain_prints :
@@ -79,7 +77,7 @@ module _
         refl
 
 -- what closes nodes that were written
-abbrev Closes : Bool → Printed → Text → Text → Printed → Type 0
+abbrev Closes : Bool → Option Printed → Text → Text → Option Printed → Type 0
 Closes bare nodes out out' r =
     (next : ℕ) → Ends nodes next → Prints (cond bare (bytes "") (bytes ")")) next (wrote nodes) out out' r
 
@@ -88,8 +86,8 @@ module _
     {words : Words} {above scope at : ℕ} {every : Bool} {n : ℕ} {h : Printable words above scope at}
     (j : Joined words above scope at every n h)
     (bare : Bool)
-    {before : Put} {old out₁ : Text} {p : Put} (lead : Behind (cond bare (bytes "") (bytes "(")) before old out₁ p)
-    {out₂ : Text} {nodes : Printed}
+    {before : Option ℕ} {old out₁ : Text} {p : Option ℕ} (lead : Behind (cond bare (bytes "") (bytes "(")) before old out₁ p)
+    {out₂ : Text} {nodes : Option Printed}
     (all :
     (k : PrintableAll words (above + 1) scope n (at + 2)) →
     Prints (operands_text every k.trees scope) k.next p out₁ out₂ nodes)
@@ -103,7 +101,7 @@ module _
     join-fits = behind-fits join-behind
 
     pub join_prints :
-        {out₃ : Text} {r : Printed} → Closes bare nodes out₂ out₃ r → length out₃ ≡ length out₂ →
+        {out₃ : Text} {r : Option Printed} → Closes bare nodes out₂ out₃ r → length out₃ ≡ length out₂ →
         Prints (node_text bare h.tree scope) h.next before old out₃ r
     join_prints close long' =
         prints_closed nodes join-behind (cond bare (bytes "") (bytes ")")) j.operands.next (all j.operands).ends close
@@ -115,8 +113,8 @@ module _
 -- a some: what stands before its restriction, this, and a parenthesis
 module _
     {words : Words} {above scope at : ℕ} {h : Printable words above scope at} (s : Something words above scope at h)
-    {before : Put} {old out₁ : Text} {p : Put} (lead : Behind (head_text false scope 1 true) before old out₁ p)
-    {out₂ : Text} {nodes : Printed}
+    {before : Option ℕ} {old out₁ : Text} {p : Option ℕ} (lead : Behind (head_text false scope 1 true) before old out₁ p)
+    {out₂ : Text} {nodes : Option Printed}
     (one :
     (k : Printable words (above + 1) (scope + 1) (at + 1)) →
     Prints (node_text true k.tree (scope + 1)) k.next p out₁ out₂ nodes)
@@ -130,7 +128,7 @@ module _
     some_fits = behind-fits some-behind
 
     pub some-stands :
-        {out₃ : Text} {r : Printed} → Closes false nodes out₂ out₃ r → length out₃ ≡ length out₂ →
+        {out₃ : Text} {r : Option Printed} → Closes false nodes out₂ out₃ r → length out₃ ≡ length out₂ →
         Prints (node_text true h.tree scope) h.next before old out₃ r
     some-stands close long' =
         prints_closed nodes some-behind (bytes ")") s.restricts.next (one s.restricts).ends close long'
@@ -142,8 +140,8 @@ module _
 module _
     {words : Words} {above scope at : ℕ} {every : Bool} {v m first : ℕ} {h : Printable words above scope at}
     (q : Quantified words above scope at every v m first h)
-    {before : Put} {old out₁ : Text} {p₁ : Put} (lead : Behind (head_text every scope v (eqb m 0)) before old out₁ p₁)
-    {out₂ : Text} {nodes₁ : Printed}
+    {before : Option ℕ} {old out₁ : Text} {p₁ : Option ℕ} (lead : Behind (head_text every scope v (eqb m 0)) before old out₁ p₁)
+    {out₂ : Text} {nodes₁ : Option Printed}
     (one :
     (k : Printable words (above + 1) (scope + v) first) →
     Prints (node_text false k.tree (scope + v)) k.next p₁ out₁ out₂ nodes₁)
@@ -164,26 +162,26 @@ module _
         ∙ quantifier-text every v scope m q.excluded.list q.restricts.tree q.body.tree q.number
         ∙ sym (append_assoc (head_text every scope v (eqb m 0)) (node_text false q.restricts.tree (scope + v)) _)
 
-    pub quantifier-full : nodes₁ ≡ Full → Prints (node_text true h.tree scope) h.next before old out₂ Full
+    pub quantifier-full : nodes₁ ≡ None → Prints (node_text true h.tree scope) h.next before old out₂ None
     quantifier-full e = record { adds = behind-short _ _ restriction-behind (ap wrote e) whole; ends = tt }
 
-    module _ {second end : ℕ} (found : nodes₁ ≡ At second end) where
+    module _ {printed : Printed} (found : nodes₁ ≡ Some printed) where
       -- the body stands behind the restriction
-      pub body_starts : q.restricts.next ≡ second
+      pub body_starts : q.restricts.next ≡ printed.next
       body_starts = sym (word_at q.restricts.next found (one q.restricts).ends)
 
-      pub body-here : Printable words (above + 1) (scope + v) second
+      pub body-here : Printable words (above + 1) (scope + v) printed.next
       body-here = subst (λ (k : ℕ). Printable words (above + 1) (scope + v) k) body_starts q.body
 
-      ended : Behind headed_by before old out₂ (P.At end)
+      ended : Behind headed_by before old out₂ (Some printed.end)
       ended = subst (Behind headed_by before old out₂) (ap wrote found) restriction-behind
 
-      pub restriction-fits : end ≤ length out₂
+      pub restriction-fits : printed.end ≤ length out₂
       restriction-fits = behind-fits ended
 
       module _
-          {out₃ : Text} {p₂ : Put}
-          (tuples : (t : Tuples words v (at + 3) first) → Behind (closed_text scope t.list) (P.At end) out₂ out₃ p₂)
+          {out₃ : Text} {p₂ : Option ℕ}
+          (tuples : (t : Tuples words v (at + 3) first) → Behind (closed_text scope t.list) (Some printed.end) out₂ out₃ p₂)
         where
           tuples-behind : Behind (headed_by ++ closed_text scope q.excluded.list) before old out₃ p₂
           tuples-behind = behind_then ended (tuples q.excluded)
@@ -191,16 +189,16 @@ module _
           pub tuples-fits : Fits p₂ out₃
           tuples-fits = behind-fits (tuples q.excluded)
 
-          module _ {out₄ : Text} {p₃ : Put} (sign : Behind (cond every (bytes "=>") (bytes "&")) p₂ out₃ out₄ p₃) where
+          module _ {out₄ : Text} {p₃ : Option ℕ} (sign : Behind (cond every (bytes "=>") (bytes "&")) p₂ out₃ out₄ p₃) where
             sign_behind :
                 Behind ((headed_by ++ closed_text scope q.excluded.list) ++ cond every (bytes "=>") (bytes "&")) before old
                 out₄ p₃
             sign_behind = behind_then tuples-behind sign
 
             module _
-                {out₅ : Text} {nodes₂ : Printed}
+                {out₅ : Text} {nodes₂ : Option Printed}
                 (two :
-                (k : Printable words (above + 1) (scope + v) second) →
+                (k : Printable words (above + 1) (scope + v) printed.next) →
                 Prints (node_text false k.tree (scope + v)) k.next p₃ out₄ out₅ nodes₂)
                 (long₂ : length out₅ ≡ length out₄)
               where
@@ -225,7 +223,7 @@ module _
                 body-fits = behind-fits body-behind
 
                 pub quantifier-stands :
-                    {out₆ : Text} {r : Printed} → Closes false nodes₂ out₅ out₆ r → length out₆ ≡ length out₅ →
+                    {out₆ : Text} {r : Option Printed} → Closes false nodes₂ out₅ out₆ r → length out₆ ≡ length out₅ →
                     Prints (node_text true h.tree scope) h.next before old out₆ r
                 quantifier-stands close long₃ =
                     prints_closed nodes₂ body-behind (bytes ")") q.body.next body_prints.ends close long₃
@@ -234,7 +232,7 @@ module _
 
 -- an operand is not bare
 pub operand_prints :
-    (tree : Tree) (scope : ℕ) (bare : Bool) {next : ℕ} {before : Put} {old out : Text} {r : Printed} →
+    (tree : Tree) (scope : ℕ) (bare : Bool) {next : ℕ} {before : Option ℕ} {old out : Text} {r : Option Printed} →
     Prints (node_text bare tree scope) next before old out r →
     bare ≡ false →
     Prints (node_text false tree scope) next before old out r
@@ -244,7 +242,7 @@ operand_prints tree scope bare p e = prints_is p (ap (λ (b : Bool). node_text b
 pub record More
     (words : Words) (above scope n at : ℕ) (every : Bool) (h : PrintableAll words above scope n at)
     (f : Headed words above scope n at h)
-    (i : ℕ) (before : Put) (old out : Text) (nodes : Printed) : Type 0
+    (i : ℕ) (before : Option ℕ) (old out : Text) (nodes : Option Printed) : Type 0
   where
     pub count : ℕ
     pub number : count + i ≡ n
@@ -260,7 +258,7 @@ module _
   where
     -- the first one stands
     pub more-none :
-        (some : 1 ≤ n) {before : Put} {old out : Text} (nodes : Printed) →
+        (some : 1 ≤ n) {before : Option ℕ} {old out : Text} (nodes : Option Printed) →
         Behind (node_text false f.first.tree scope) before old out (wrote nodes) →
         Ends nodes f.first.next →
         More words above scope n at every h f 1 (wrote nodes) out out nodes
@@ -275,28 +273,28 @@ module _
     }
 
     module _
-        {i : ℕ} {before : Put} {old out : Text} {nodes : Printed}
+        {i : ℕ} {before : Option ℕ} {old out : Text} {nodes : Option Printed}
         (m : More words above scope n at every h f i before old out nodes)
       where
-        module _ {next end : ℕ} (found : nodes ≡ At next end) where
-          pub more-fits : end ≤ length out
+        module _ {q : Printed} (found : nodes ≡ Some q) where
+          pub more-fits : q.end ≤ length out
           more-fits = behind-fits (subst (Behind m.left.done before old out) (ap wrote found) m.left.behind)
 
           module _ (inside : i < n) where
             others : Headed words above scope m.count m.from m.rest
             others = headed words above scope m.count m.from m.rest (omega (arith, m.number))
 
-            starts : m.from ≡ next
+            starts : m.from ≡ q.next
             starts = sym (word_at m.from found m.word)
 
             -- the next one
-            pub more-here : Printable words above scope next
+            pub more-here : Printable words above scope q.next
             more-here = subst (λ (k : ℕ). Printable words above scope k) starts others.first
 
             pub more_turn :
-                {out₁ : Text} {p : Put} → Behind (connective every) (P.At end) out out₁ p →
-                (bare : Bool) {out₂ : Text} {r : Printed} →
-                ((k : Printable words above scope next) → Prints (node_text bare k.tree scope) k.next p out₁ out₂ r) →
+                {out₁ : Text} {p : Option ℕ} → Behind (connective every) (Some q.end) out out₁ p →
+                (bare : Bool) {out₂ : Text} {r : Option Printed} →
+                ((k : Printable words above scope q.next) → Prints (node_text bare k.tree scope) k.next p out₁ out₂ r) →
                 bare ≡ false →
                 length out₂ ≡ length out₁ →
                 More words above scope n at every h f (i + 1) before old out₂ r
@@ -307,7 +305,7 @@ module _
                 (sym starts) one others.first in
                 let printed = operand_prints others.first.tree scope bare enclosed is in
                 let text = rest_text every f.others.trees scope in
-                let l₀ : Left text (rest_text every m.rest.trees scope) before old out (P.At end)
+                let l₀ : Left text (rest_text every m.rest.trees scope) before old out (Some q.end)
                 = subst (Left text (rest_text every m.rest.trees scope) before old out) (ap wrote found) m.left in
                 let l₁ = left-more l₀ (connective every) _
                 (ap (λ (ts : Trees). rest_text every ts scope) others.is
@@ -327,7 +325,7 @@ module _
 
         -- the text of all operands
         module _
-            {before' : Put} {old' : Text} (first : Behind (node_text false f.first.tree scope) before' old' old before)
+            {before' : Option ℕ} {old' : Text} (first : Behind (node_text false f.first.tree scope) before' old' old before)
           where
             whole-text :
                 operands_text every h.trees scope
@@ -336,7 +334,7 @@ module _
                 ap (λ (ts : Trees). operands_text every ts scope) f.is
                 ∙ operands-first every scope f.first.tree f.others.trees
 
-            pub more-full : nodes ≡ Full → Prints (operands_text every h.trees scope) h.next before' old' out Full
+            pub more-full : nodes ≡ None → Prints (operands_text every h.trees scope) h.next before' old' out None
             more-full e = record {
               adds =
                   behind-short _ (rest_text every m.rest.trees scope)

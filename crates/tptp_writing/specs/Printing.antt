@@ -1,5 +1,5 @@
 -- Nodes that stand in words, their texts, and what the writing of them leaves.
-use Rattle.std.specs.Prelude.{ℕ, ◌+◌, ◌≡◌, Bool, cond, map}
+use Rattle.std.specs.Prelude.{ℕ, ◌+◌, ◌≡◌, Bool, cond, map, Option, Some, None}
 use Rattle.model.specs.Words.{Words, word, value}
 use Rattle.model.specs.Bytes.{Text}
 use Rattle.model.specs.Tree.{Tree, Trees, atom, compare, count}
@@ -7,12 +7,9 @@ use Rattle.model.specs.Level.{Role}
 use Rattle.model.specs.Reading.{places, term_at}
 use Rattle.model.specs.Tptp.{separated, connective, enclosed, tokens, operands}
 use Rattle.laws.specs.Reading.Nodes.{Node, Nodes}
-use Rattle.text.specs.declared.writing.Put.{Put}
-use Rattle.text.specs.declared.writing.Put.TheVariants as P
 use Rattle.tptp_putting.specs.Adding.{Adds}
 use Rattle.tptp_putting.specs.Texts.{spelt}
 use Rattle.tptp_writing.specs.declared.tree.Printed.{Printed}
-use Rattle.tptp_writing.specs.declared.tree.Printed.TheVariants.{Full, At}
 
 -- a node stands at an index, under a node at the level `above`, for some table and in some role
 pub record Printable (words : Words) (above scope at : ℕ) : Type 0 where
@@ -46,21 +43,21 @@ unfoldable pub operands_text : Bool → Trees → ℕ → Text
 operands_text every ts scope = spelt (separated (connective every) (operands ts scope))
 
 -- the index of a word, and what was written last
-abbrev pub placed : (next : ℕ) (put : Put) → Printed
-placed next P.Full = Full
-placed next (P.At end) = At next end
+abbrev pub placed : (next : ℕ) (put : Option ℕ) → Option Printed
+placed next None = None
+placed next (Some end) = Some (record { next = next; end = end })
 
 -- what was written last
-abbrev pub wrote : (printed : Printed) → Put
-wrote Full = P.Full
-wrote (At next end) = P.At end
+abbrev pub wrote : (printed : Option Printed) → Option ℕ
+wrote None = None
+wrote (Some p) = Some p.end
 
 -- what was written ends before a word
-abbrev pub Ends : (printed : Printed) (next : ℕ) → Type 0
-Ends Full next = Unit {0}
-Ends (At behind end) next = behind ≡ next
+abbrev pub Ends : (printed : Option Printed) (next : ℕ) → Type 0
+Ends None next = Unit {0}
+Ends (Some p) next = p.next ≡ next
 
 -- the text of nodes that end before the word `next` is put behind what was written before
-pub record Prints (text : Text) (next : ℕ) (before : Put) (out out' : Text) (r : Printed) : Type 0 where
+pub record Prints (text : Text) (next : ℕ) (before : Option ℕ) (out out' : Text) (r : Option Printed) : Type 0 where
   pub adds : Adds text before out out' (wrote r)
   pub ends : Ends r next

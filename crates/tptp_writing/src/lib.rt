@@ -10,21 +10,16 @@ ghost use Rattle.model.specs.Reading.{read_policy};
 ghost use Rattle.model.specs.Tptp.{policy_text};
 ghost use Rattle.text.specs.Put.{Writes};
 
-use crate::tree::Printed;
-use text::writing::Put;
 use tptp_putting::tokens;
 
 // A policy that was read, written as text. What stands behind the text is left open.
-pub fn write_tree(table: &[i32], policy: &[i32], out: &mut [u8]) -> Put
+pub fn write_tree(table: &[i32], policy: &[i32], out: &mut [u8]) -> Option<usize>
     requires { (tree : Tree) × (read_policy table.now policy.now ≡ passed tree) }
     ensures { (tree : Tree) →
         read_policy table.now policy.now ≡ passed tree →
         Writes (policy_text tree) out.old out.new result }
 {
-    let name = tokens::put_bytes(out, Put::At(0), b"tff(a,axiom,");
-    let root = tree::node(policy, out, name, true, 0, 0, 0);
-    let Printed::At(_, end) = root else {
-        return Put::Full;
-    };
-    tokens::put_bytes(out, Put::At(end), b").")
+    let name = tokens::put_bytes(out, Some(0), b"tff(a,axiom,");
+    let root = tree::node(policy, out, name, true, 0, 0, 0)?;
+    tokens::put_bytes(out, Some(root.end), b").")
 }

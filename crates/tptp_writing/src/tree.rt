@@ -10,28 +10,26 @@ ghost use Rattle.tptp_writing.specs.Printing as P;
 
 use policies::node;
 use policies::node::Tag;
-use text::writing::Put;
 use tptp_putting::{tokens, tuples};
 
-// What the writing of nodes leaves: too little room, or the index of the word behind them and that of the byte behind their text.
+// Nodes that were written: the index of the word behind them, and that of the byte behind their text. Where there was too little room,
+// each function returns None.
 #[derive(Clone, Copy)]
-pub enum Printed {
-    Full,
-    At(usize, usize),
+pub struct Printed {
+    pub next: usize,
+    pub end: usize,
 }
 
 // The same, from the index of the word and what was written last.
-fn placed(next: usize, put: Put) -> Printed
+fn placed(next: usize, put: Option<usize>) -> Option<Printed>
     ensures { result ≡ P.placed next put }
 {
-    let Put::At(end) = put else {
-        return Printed::Full;
-    };
-    Printed::At(next, end)
+    let end = put?;
+    Some(Printed { next, end })
 }
 
 // True or false.
-fn plain(out: &mut [u8], before: Put, holds: bool, at: usize) -> Printed
+fn plain(out: &mut [u8], before: Option<usize>, holds: bool, at: usize) -> Option<Printed>
     requires { Fits before out.old × (at + 1 < 2 ^ 64) }
     ensures { Prints (P.node_text true (M.Tree.plain holds) 0) (at + 1) before out.old out.new result }
 {
@@ -40,7 +38,13 @@ fn plain(out: &mut [u8], before: Put, holds: bool, at: usize) -> Printed
 }
 
 // An atom that holds (true), or fails.
-fn atom(words: &[i32], out: &mut [u8], before: Put, holds: bool, at: usize) -> Printed
+fn atom(
+    words: &[i32],
+    out: &mut [u8],
+    before: Option<usize>,
+    holds: bool,
+    at: usize,
+) -> Option<Printed>
     requires { Fits before out.old
         × (1 ≤ W.value words.now (at + 2))
         × (at + 3 + 2 * W.value words.now (at + 2) ≤ length words.now) }
@@ -57,7 +61,13 @@ fn atom(words: &[i32], out: &mut [u8], before: Put, holds: bool, at: usize) -> P
 }
 
 // A comparison that holds (true), or fails.
-fn compare(words: &[i32], out: &mut [u8], before: Put, holds: bool, at: usize) -> Printed
+fn compare(
+    words: &[i32],
+    out: &mut [u8],
+    before: Option<usize>,
+    holds: bool,
+    at: usize,
+) -> Option<Printed>
     requires { Fits before out.old × (at + 6 ≤ length words.now) }
     ensures { Prints (P.node_text true (P.compare_at words.now holds at) 0) (at + 6) before out.old
         out.new result }
@@ -73,16 +83,14 @@ fn compare(words: &[i32], out: &mut [u8], before: Put, holds: bool, at: usize) -
 }
 
 // What closes nodes that were written: nothing where they stand bare, or a parenthesis.
-fn close(out: &mut [u8], nodes: Printed, bare: bool) -> Printed
+fn close(out: &mut [u8], nodes: Option<Printed>, bare: bool) -> Option<Printed>
     requires { Fits (P.wrote nodes) out.old }
     ensures { (next : ℕ) →
         P.Ends nodes next →
         Prints (cond bare (bytes "") (bytes ")")) next (P.wrote nodes) out.old out.new result }
 {
-    let Printed::At(next, end) = nodes else {
-        return Printed::Full;
-    };
-    let put = tokens::put_either(out, Put::At(end), bare, b"", b")");
+    let Printed { next, end } = nodes?;
+    let put = tokens::put_either(out, Some(end), bare, b"", b")");
     placed(next, put)
 }
 
@@ -91,26 +99,22 @@ fn close(out: &mut [u8], nodes: Printed, bare: bool) -> Printed
 fn operands(
     words: &[i32],
     out: &mut [u8],
-    before: Put,
+    before: Option<usize>,
     every: bool,
     above: usize,
     scope: usize,
     n: usize,
     at: usize,
-) -> Printed
+) -> Option<Printed>
     requires { Fits before out.old × (1 ≤ n) × PrintableAll words.now above scope n at }
     ensures { (h : PrintableAll words.now above scope n at) →
         Prints (P.operands_text every h.trees scope) h.next before out.old out.new result }
 {
     let mut nodes = node(words, out, before, false, above, scope, at);
-    let mut i = 1;
-    while i < n {
-        let Printed::At(next, end) = nodes else {
-            return Printed::Full;
-        };
-        let sign = tokens::put_connective(out, Put::At(end), every);
+    for _ in 1..n {
+        let Printed { next, end } = nodes?;
+        let sign = tokens::put_connective(out, Some(end), every);
         nodes = node(words, out, sign, false, above, scope, next);
-        i += 1;
     }
     nodes
 }
@@ -120,13 +124,13 @@ fn operands(
 fn join(
     words: &[i32],
     out: &mut [u8],
-    before: Put,
+    before: Option<usize>,
     bare: bool,
     every: bool,
     above: usize,
     scope: usize,
     at: usize,
-) -> Printed
+) -> Option<Printed>
     requires { Fits before out.old
         × (T.Tag.join every ≡ T.tag_of (W.word words.now at))
         × Printable words.now above scope at }
@@ -144,12 +148,12 @@ fn join(
 fn quantifier(
     words: &[i32],
     out: &mut [u8],
-    before: Put,
+    before: Option<usize>,
     every: bool,
     above: usize,
     scope: usize,
     at: usize,
-) -> Printed
+) -> Option<Printed>
     requires { Fits before out.old
         × (T.Tag.quantifier every ≡ T.tag_of (W.word words.now at))
         × Printable words.now above scope at }
@@ -160,13 +164,18 @@ fn quantifier(
     let m = words::value(words, at + 2);
     let first = at + 3 + v * m;
     let head = tuples::put_head(out, before, every, scope, v, m == 0);
-    let restriction = node(words, out, head, false, above + 1, scope + v, first);
-    let Printed::At(second, end) = restriction else {
-        return Printed::Full;
-    };
-    let excluded = tuples::put_tuples(out, Put::At(end), words, at + 3, first, v, scope);
+    let restriction = node(words, out, head, false, above + 1, scope + v, first)?;
+    let excluded = tuples::put_tuples(out, Some(restriction.end), words, at + 3, first, v, scope);
     let sign = tokens::put_either(out, excluded, every, b"=>", b"&");
-    let body = node(words, out, sign, false, above + 1, scope + v, second);
+    let body = node(
+        words,
+        out,
+        sign,
+        false,
+        above + 1,
+        scope + v,
+        restriction.next,
+    );
     close(out, body, false)
 }
 
@@ -175,11 +184,11 @@ fn quantifier(
 fn some(
     words: &[i32],
     out: &mut [u8],
-    before: Put,
+    before: Option<usize>,
     above: usize,
     scope: usize,
     at: usize,
-) -> Printed
+) -> Option<Printed>
     requires { Fits before out.old × (T.Tag.some ≡ T.tag_of (W.word words.now at)) × Printable words.now above scope at }
     ensures { (h : Printable words.now above scope at) →
         Prints (P.node_text true h.tree scope) h.next before out.old out.new result }
@@ -194,12 +203,12 @@ fn some(
 pub fn node(
     words: &[i32],
     out: &mut [u8],
-    before: Put,
+    before: Option<usize>,
     bare: bool,
     above: usize,
     scope: usize,
     at: usize,
-) -> Printed
+) -> Option<Printed>
     requires { Fits before out.old × Printable words.now above scope at }
     ensures { (h : Printable words.now above scope at) →
         Prints (P.node_text bare h.tree scope) h.next before out.old out.new result }
@@ -212,6 +221,6 @@ pub fn node(
         Tag::Join(every) => join(words, out, before, bare, every, above, scope, at),
         Tag::Quantifier(every) => quantifier(words, out, before, every, above, scope, at),
         Tag::Some => some(words, out, before, above, scope, at),
-        Tag::Unused => Printed::Full,
+        Tag::Unused => None,
     }
 }

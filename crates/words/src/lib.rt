@@ -15,11 +15,7 @@ ghost use Rattle.words.specs.Offset as O;
 fn magnitude(x: i32) -> usize
     ensures { result ≡ nat_abs x }
 {
-    if x < 0 {
-        (0 - (x as i64)) as usize
-    } else {
-        x as usize
-    }
+    x.unsigned_abs() as usize
 }
 
 // The magnitude of the word at an index, which is the word where it is not negative.

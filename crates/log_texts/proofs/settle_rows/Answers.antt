@@ -4,6 +4,7 @@ use mathlib.Core.Path.{◌≡◌, sym, ap, ◌∙◌}
 use Rattle.model.specs.Words.{Words}
 use Rattle.model.specs.Answer.{passed}
 use Rattle.model.specs.Log.{ask_log}
+use Rattle.laws.specs.Answer.{passed_on}
 use Rattle.tables.specs.Checked.{outcome}
 use Rattle.csv_reading.specs.Rows.{ask_text}
 use Rattle.log_texts.proofs.LogReading.{log-long, log-stands, settled-many, settled-refused, settled-passed}
@@ -15,20 +16,20 @@ returns-then-rows-gt4096 c =
     λ log e. settled-many a.table.now _ log a.rows
     (log-long a.table.now a.text.now a.buffer.now a.rows c.requires.1 log e) c.if-rows-gt4096.true
 
-pub returns-in-Refused : goal.returns-in-Refused
-returns-in-Refused c =
-    let asked_of : (log : Words) → let a = c.args in ask_text a.table.now a.text.now ≡ passed log → outcome c.check_rows-asked.result ≡ ask_log a.table.now log = λ log e. let a = c.args in
-    c.check_rows-asked.ensures
+pub returns-in_err-check_rows : goal.returns-in_err-check_rows
+returns-in_err-check_rows c =
+    let asked_of : (log : Words) → let a = c.args in ask_text a.table.now a.text.now ≡ passed log → outcome c.check_rows.result ≡ ask_log a.table.now log = λ log e. let a = c.args in
+    c.check_rows.ensures
     ∙ ap (ask_log a.table.now) (log-stands a.table.now a.text.now a.buffer.now a.rows c.requires.1 log e c.if-buffer-n.false) in
     let a = c.args in
-    λ log e. settled-refused a.table.now _ log (sym (asked_of log e) ∙ ap outcome c.in-Refused.is)
+    λ log e. passed_on _ c.from_residual.ensures.1 ∙ settled-refused a.table.now _ log (sym (asked_of log e) ∙ ap outcome c.in_err-check_rows.was)
 
-pub returns-in-Passed : goal.returns-in-Passed
-returns-in-Passed c =
-    let asked_of : (log : Words) → let a = c.args in ask_text a.table.now a.text.now ≡ passed log → outcome c.check_rows-asked.result ≡ ask_log a.table.now log = λ log e. let a = c.args in
-    c.check_rows-asked.ensures
+pub returns : goal.returns
+returns c =
+    let asked_of : (log : Words) → let a = c.args in ask_text a.table.now a.text.now ≡ passed log → outcome c.check_rows.result ≡ ask_log a.table.now log = λ log e. let a = c.args in
+    c.check_rows.ensures
     ∙ ap (ask_log a.table.now) (log-stands a.table.now a.text.now a.buffer.now a.rows c.requires.1 log e c.if-buffer-n.false) in
     let a = c.args in
     λ log e. let long = log-long a.table.now a.text.now a.buffer.now a.rows c.requires.1 log e in
-    settled-passed a.table.now _ log a.rows long (sym (asked_of log e) ∙ ap outcome c.in-Passed.is)
+    settled-passed a.table.now _ log a.rows long (sym (asked_of log e) ∙ ap outcome c.in_ok-check_rows.was)
     (omega (arith, c.if-buffer-n.false))

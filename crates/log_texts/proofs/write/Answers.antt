@@ -1,14 +1,14 @@
 -- `log_texts::write` meets its contract, from the log's check and the writing of its rows.
+use Rattle.laws.specs.Answer.{passed_on}
 use Rattle.log_texts.proofs.LogWriting.{log-refused, log-passed, log-written}
 use Rattle.log_texts.proofs.write.Goals as goal
 
-pub returns-in_default : goal.returns-in_default
-returns-in_default c = log-refused _ _ c.check_log-checked.ensures.same c.in_default.is
+pub returns-in_err-check_log : goal.returns-in_err-check_log
+returns-in_err-check_log c =
+    rw (passed_on _ c.from_residual.ensures.1) (log-refused _ _ c.check_log.ensures.same c.in_err-check_log.was)
 
-pub write_rows-put-requires : goal.write_rows-put-requires
-write_rows-put-requires c =
-    log-passed _ _ c.check_log-checked.ensures.same c.in-Accepted.is
+pub write_rows-requires : goal.write_rows-requires
+write_rows-requires c = log-passed _ _ c.check_log.ensures.same c.in_ok-check_log.was
 
 pub returns : goal.returns
-returns c =
-    log-written _ _ c.check_log-checked.ensures.same c.in-Accepted.is c.write_rows-put.ensures c.written.ensures
+returns c = log-written _ _ c.check_log.ensures.same c.in_ok-check_log.was c.write_rows.ensures c.written.ensures

@@ -1,9 +1,6 @@
 -- `csv_reading::field::bare` meets its contract. The loop's invariant: all bytes passed can stand in a bare field.
-use Prim.Native.Nat.{◌-◌}
 use native.Mathlib.Omega.{arith}
 use mathlib.Core.Path.{sym, ◌∙◌}
-use mathlib.Core.Bool.{true}
-use Rattle.model.specs.Csv.{text_data}
 use Rattle.csv_reading.proofs.FieldLaws.{bare-none, bare-more}
 use Rattle.csv_reading.proofs.field.bare.Goals as goal
 

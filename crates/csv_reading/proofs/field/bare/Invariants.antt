@@ -1,5 +1,5 @@
 -- `csv_reading::field::bare` meets its contract. The loop's invariant: all bytes passed can stand in a bare field.
-use Prim.Native.Nat.{◌-◌, ◌≤◌}
+use Prim.Native.Nat.{◌≤◌}
 use mathlib.Core.Path.{◌≡◌}
 use mathlib.Core.Bool.{true}
 use lib.ListN.{length}
@@ -10,6 +10,3 @@ use Rattle.csv_reading.proofs.field.bare.Given as goal
 
 abbrev pub invariant-loop-i : goal.invariant-loop-i
 invariant-loop-i l = (l.from ≤ l.i) × (l.i ≤ length l.text) × (all text_data (slice l.from l.i l.text) ≡ true)
-
-abbrev pub decreases-loop-i : goal.decreases-loop-i
-decreases-loop-i l = length l.text - l.i

@@ -1,26 +1,46 @@
 -- `csv_reading::field::ending` meets its contract, byte by byte.
-use Rattle.csv_reading.proofs.FieldLaws.{ends-text, ends-comma, ends_bad, ends-early, ends-other, ends-line}
+use Prim.Native.Nat.{◌+◌, ◌≤◌, ◌<◌}
+use native.Mathlib.Omega.{arith}
+use mathlib.Core.Path.{◌≡◌}
+use lib.ListN.{length, get_or}
+use borrow.Author.Rules.{rules}
+use Rattle.csv_reading.proofs.FieldLaws.{ends-text, ends-comma, ends_bad, ends-early, ends-line}
 use Rattle.csv_reading.proofs.field.ending.Goals as goal
 
-pub returns-then-text-at : goal.returns-then-text-at
-returns-then-text-at c = ends-text c.args.text.now c.args.at c.requires c.if-text-at.true
+pub returns-in-None : goal.returns-in-None
+returns-in-None c =
+    let a = c.args in
+    let end : length a.text.now ≤ a.at = search rules in
+    ends-text a.text.now a.at c.requires end
 
-pub returns-then-b-eq-COMMA : goal.returns-then-b-eq-COMMA
-returns-then-b-eq-COMMA c =
-    ends-comma c.args.text.now c.args.at c.if-text-at.false c.if-b-eq-COMMA.true
+pub returns-in-Some-eq44 : goal.returns-in-Some-eq44
+returns-in-Some-eq44 c =
+    let a = c.args in
+    let there : a.at < length a.text.now = search rules in
+    let comma : get_or a.text.now a.at 0 ≡ 44 = search rules in
+    ends-comma a.text.now a.at there comma
 
-pub returns-then-b-ne-CR : goal.returns-then-b-ne-CR
-returns-then-b-ne-CR c =
-    ends_bad c.args.text.now c.args.at c.if-text-at.false c.if-b-eq-COMMA.false c.if-b-ne-CR.true
+pub returns-then-ne : goal.returns-then-ne
+returns-then-ne c =
+    let a = c.args in
+    let there : a.at < length a.text.now = search rules in
+    let return : get_or a.text.now a.at 0 ≡ 13 = search rules in
+    let other : a.at + 1 < length a.text.now → get_or a.text.now (a.at + 1) 0 ≡ 10 → ⊥ = search rules in
+    ends-early a.text.now a.at there (λ e. omega (arith, return, e)) return other
 
-pub returns-then-text-next : goal.returns-then-text-next
-returns-then-text-next c =
-    ends-early c.args.text.now c.args.at c.if-text-at.false c.if-b-eq-COMMA.false c.if-b-ne-CR.false c.if-text-next.true
+pub returns-else-ne : goal.returns-else-ne
+returns-else-ne c =
+    let a = c.args in
+    let there : a.at < length a.text.now = search rules in
+    let return : get_or a.text.now a.at 0 ≡ 13 = search rules in
+    let next : a.at + 1 < length a.text.now = search rules in
+    let feed : get_or a.text.now (a.at + 1) 0 ≡ 10 = search rules in
+    ends-line a.text.now a.at there (λ e. omega (arith, return, e)) return next feed
 
-pub returns-then-text-next-ne-LF : goal.returns-then-text-next-ne-LF
-returns-then-text-next-ne-LF c =
-    ends-other c.args.text.now c.args.at c.if-text-at.false c.if-b-eq-COMMA.false c.if-b-ne-CR.false c.if-text-next.false c.if-text-next-ne-LF.true
-
-pub returns : goal.returns
-returns c =
-    ends-line c.args.text.now c.args.at c.if-text-at.false c.if-b-eq-COMMA.false c.if-b-ne-CR.false c.if-text-next.false c.if-text-next-ne-LF.false
+pub returns-in-Some : goal.returns-in-Some
+returns-in-Some c =
+    let a = c.args in
+    let there : a.at < length a.text.now = search rules in
+    let comma : get_or a.text.now a.at 0 ≡ 44 → ⊥ = search rules in
+    let return : get_or a.text.now a.at 0 ≡ 13 → ⊥ = search rules in
+    ends_bad a.text.now a.at there comma return

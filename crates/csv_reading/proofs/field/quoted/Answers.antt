@@ -1,5 +1,5 @@
 -- `csv_reading::field::quoted` meets its contract. The loop's invariant: the bytes passed stand in quotes, so that the reading goes on there.
-use Prim.Native.Nat.{◌+◌, ◌-◌, ◌<◌}
+use Prim.Native.Nat.{◌+◌, ◌<◌}
 use mathlib.Core.Path.{◌≡◌, sym, ◌∙◌}
 use mathlib.Core.Bool.{true}
 use lib.ListN.{length}

@@ -1,71 +1,45 @@
 -- `csv_reading::record::record` meets its contract. The loop's invariant: the fields read so far belong to the record, and their numbers
 -- stand at the front of the row. The measure is what is left of the text, and one for a field at its end.
-use Prim.Native.Nat.{◌+◌, ◌-◌}
-use mathlib.Core.Path.{◌≡◌, subst, ◌∙◌}
-use mathlib.Core.Bool.{◌&&◌}
-use lib.ListN.{length}
-use Rattle.csv_reading.specs.declared.field.End.{End}
-use Rattle.csv_reading.proofs.RecordLaws.{Ended, held_none, held_more, ended-comma, ended_bad, line_bad, line-good}
+use mathlib.Core.Path.{◌∙◌}
+use Rattle.std.proofs.lemmas.Result.{err_from_is_err_and}
+use Rattle.csv_reading.proofs.RecordLaws.{held_none, held_more, held_bad, ended-comma, line_bad, line-good}
 use borrow.Author.Rules.{rules}
 use Rattle.csv_reading.proofs.record.record.Goals as goal
 
-pub loop-place-init : goal.loop-place-init
-loop-place-init c =
+pub loop-value-init : goal.loop-value-init
+loop-value-init c =
     let a = c.args in (held_none a.text.now a.at a.row.now c.requires.1 c.requires.2, search rules)
 
-pub returns-in-Bad : goal.returns-in-Bad
-returns-in-Bad c =
-    let ended : let a = c.args in Ended a.text.now a.at c.loop-place.from (c.loop-place.fields + 1) (c.loop-place.good && c.put_field-good.result)
-    c.put_field-good.new.row c.field_at-field.result.end = let a = c.args in
-    held_more a.text.now a.at c.loop-place.from c.loop-place.fields c.loop-place.good c.loop-place.row
-    c.field_at-field.result c.put_field-good.new.row c.put_field-good.result c.loop-place.invariant.0 c.field_at-field.ensures
-    c.put_field-good.ensures c.put_field-good.auto.row in
-    let ended_by : (e : End) → let a = c.args in c.field_at-field.result.end ≡ e → Ended a.text.now a.at c.loop-place.from (c.loop-place.fields + 1)
-    (c.loop-place.good && c.put_field-good.result) c.put_field-good.new.row e = λ e p. let a = c.args in
-    subst (Ended a.text.now a.at c.loop-place.from (c.loop-place.fields + 1) (c.loop-place.good && c.put_field-good.result) c.put_field-good.new.row) p (ended) in
+pub returns-in_err-value : goal.returns-in_err-value
+returns-in_err-value c =
     let a = c.args in
-    ended_bad a.text.now a.at c.loop-place.from _ _ _ c.in-Bad.place (ended_by _ c.in-Bad.is)
+    let l = c.loop-value in
+    let p = err_from_is_err_and c.from_residual.result c.from_residual.ensures.1 in
+    rw (p.1, p.2) (held_bad a.text.now a.at l.from l.fields l.good l.row _ l.invariant.0 c.in_err-value.ensures)
 
-pub loop-place-preserved : goal.loop-place-preserved
-loop-place-preserved c =
-    let ended : let a = c.args in Ended a.text.now a.at c.loop-place.from (c.loop-place.fields + 1) (c.loop-place.good && c.put_field-good.result)
-    c.put_field-good.new.row c.field_at-field.result.end = let a = c.args in
-    held_more a.text.now a.at c.loop-place.from c.loop-place.fields c.loop-place.good c.loop-place.row
-    c.field_at-field.result c.put_field-good.new.row c.put_field-good.result c.loop-place.invariant.0 c.field_at-field.ensures
-    c.put_field-good.ensures c.put_field-good.auto.row in
-    let ended_by : (e : End) → let a = c.args in c.field_at-field.result.end ≡ e → Ended a.text.now a.at c.loop-place.from (c.loop-place.fields + 1)
-    (c.loop-place.good && c.put_field-good.result) c.put_field-good.new.row e = λ e p. let a = c.args in
-    subst (Ended a.text.now a.at c.loop-place.from (c.loop-place.fields + 1) (c.loop-place.good && c.put_field-good.result) c.put_field-good.new.row) p (ended) in
-    let long : length c.put_field-good.new.row ≡ length c.args.row.now = c.put_field-good.auto.row ∙ c.loop-place.invariant.1 in
-    let a = c.args in (
-      ended-comma a.text.now a.at c.loop-place.from _ _ _ c.in-Comma.next (ended_by _ c.in-Comma.is),
-      long,
-    )
-
-pub returns-then-not-good : goal.returns-then-not-good
-returns-then-not-good c =
-    let ended : let a = c.args in Ended a.text.now a.at c.loop-place.from (c.loop-place.fields + 1) (c.loop-place.good && c.put_field-good.result)
-    c.put_field-good.new.row c.field_at-field.result.end = let a = c.args in
-    held_more a.text.now a.at c.loop-place.from c.loop-place.fields c.loop-place.good c.loop-place.row
-    c.field_at-field.result c.put_field-good.new.row c.put_field-good.result c.loop-place.invariant.0 c.field_at-field.ensures
-    c.put_field-good.ensures c.put_field-good.auto.row in
-    let ended_by : (e : End) → let a = c.args in c.field_at-field.result.end ≡ e → Ended a.text.now a.at c.loop-place.from (c.loop-place.fields + 1)
-    (c.loop-place.good && c.put_field-good.result) c.put_field-good.new.row e = λ e p. let a = c.args in
-    subst (Ended a.text.now a.at c.loop-place.from (c.loop-place.fields + 1) (c.loop-place.good && c.put_field-good.result) c.put_field-good.new.row) p (ended) in
+pub loop-value-preserved : goal.loop-value-preserved
+loop-value-preserved c =
     let a = c.args in
-    line_bad a.table.now a.text.now a.at c.loop-place.from _ _ _ c.in-Line.next
-    (ended_by _ c.in-Line.is) c.requires.1 c.requires.0 (c.if-not-good.true) _
+    let l = c.loop-value in
+    let put = c.put_field-good in
+    let ended = held_more a.text.now a.at l.from l.fields l.good l.row c.in_ok-value.field-0 put.new.row put.result l.invariant.0
+    c.in_ok-value.ensures put.ensures put.auto.row _ c.in-Comma.is in
+    (ended-comma a.text.now a.at l.from _ _ _ c.in-Comma.next ended, put.auto.row ∙ l.invariant.1)
 
-pub returns-in-Line : goal.returns-in-Line
-returns-in-Line c =
-    let ended : let a = c.args in Ended a.text.now a.at c.loop-place.from (c.loop-place.fields + 1) (c.loop-place.good && c.put_field-good.result)
-    c.put_field-good.new.row c.field_at-field.result.end = let a = c.args in
-    held_more a.text.now a.at c.loop-place.from c.loop-place.fields c.loop-place.good c.loop-place.row
-    c.field_at-field.result c.put_field-good.new.row c.put_field-good.result c.loop-place.invariant.0 c.field_at-field.ensures
-    c.put_field-good.ensures c.put_field-good.auto.row in
-    let ended_by : (e : End) → let a = c.args in c.field_at-field.result.end ≡ e → Ended a.text.now a.at c.loop-place.from (c.loop-place.fields + 1)
-    (c.loop-place.good && c.put_field-good.result) c.put_field-good.new.row e = λ e p. let a = c.args in
-    subst (Ended a.text.now a.at c.loop-place.from (c.loop-place.fields + 1) (c.loop-place.good && c.put_field-good.result) c.put_field-good.new.row) p (ended) in
+pub returns-then-good : goal.returns-then-good
+returns-then-good c =
     let a = c.args in
-    line-good a.table.now a.text.now a.at c.loop-place.from _ _ _ c.in-Line.next
-    (ended_by _ c.in-Line.is) c.requires.1 (c.if-not-good.false) _ _ c.spells.ensures
+    let l = c.loop-value in
+    let put = c.put_field-good in
+    let ended = held_more a.text.now a.at l.from l.fields l.good l.row c.in_ok-value.field-0 put.new.row put.result l.invariant.0
+    c.in_ok-value.ensures put.ensures put.auto.row _ c.in-Line.is in
+    line-good a.table.now a.text.now a.at l.from _ _ _ c.in-Line.next ended c.requires.1 c.if-good.true _ _ c.spells-spelled.ensures
+
+pub returns-else-good : goal.returns-else-good
+returns-else-good c =
+    let a = c.args in
+    let l = c.loop-value in
+    let put = c.put_field-good in
+    let ended = held_more a.text.now a.at l.from l.fields l.good l.row c.in_ok-value.field-0 put.new.row put.result l.invariant.0
+    c.in_ok-value.ensures put.ensures put.auto.row _ c.in-Line.is in
+    rw c.if-good.false (line_bad a.table.now a.text.now a.at l.from _ _ _ c.in-Line.next ended c.requires.1 c.requires.0 c.if-good.false _)

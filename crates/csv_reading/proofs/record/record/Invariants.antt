@@ -6,8 +6,8 @@ use lib.ListN.{length}
 use Rattle.csv_reading.proofs.RecordLaws.{Held}
 use Rattle.csv_reading.proofs.record.record.Given as goal
 
-abbrev pub invariant-loop-place : goal.invariant-loop-place
-invariant-loop-place l = Held l.text l.at l.from l.fields l.good l.row × (length l.row ≡ length l.initial.row)
+abbrev pub invariant-loop-value : goal.invariant-loop-value
+invariant-loop-value l = Held l.text l.at l.from l.fields l.good l.row × (length l.row ≡ length l.initial.row)
 
-abbrev pub decreases-loop-place : goal.decreases-loop-place
-decreases-loop-place l = length l.text + 1 - l.from
+abbrev pub decreases-loop-value : goal.decreases-loop-value
+decreases-loop-value l = length l.text + 1 - l.from

@@ -1,47 +1,50 @@
 -- `duals::dual_words::pair` meets its contract, tag by tag.
+use Prim.Native.Nat.{ℕ, ◌+◌, ◌≤◌}
+use native.Mathlib.Nat.{add-zero}
+use native.Mathlib.Omega.{arith}
+use mathlib.Core.Path.{◌≡◌, ap, ◌∙◌}
+use mathlib.Core.Bool.{Bool, true, false, not, cond}
+use lib.IntN.{ℤ, pos}
+use mir.Syntax.{w32}
+use mir.Val.{SFits, to_z, of_z, bool_byte}
+use mir.Facts.{to_z-of_z}
+use Rattle.std.specs.Prelude.{◌+ℤ◌}
 use Rattle.laws.specs.Words.Standing.{code}
 use Rattle.duals.specs.Dual.{paired}
 use Rattle.duals.proofs.dual_words.pair.Goals as goal
 
-pub returns-then-b : goal.returns-then-b
-unfolding code paired
-returns-then-b c = rw (c.in-Plain.is, c.if-b.true)
+-- a small number is stored as it is
+stored : (n : ℕ) → n ≤ 11 → to_z w32 (of_z w32 (pos n)) ≡ pos n
+stored n h = let fits : SFits w32 (pos n) = record { sfits = omega arith } in to_z-of_z (fits)
 
-pub returns-else-b : goal.returns-else-b
-unfolding code paired
-returns-else-b c = rw (c.in-Plain.is, c.if-b.false)
+-- the second of a pair is one more than the first
+second : (b : Bool) (k : ℕ) (r : ℤ) → k ≤ 10 → r ≡ pos (bool_byte b) → to_z w32 (of_z w32 (pos k +ℤ to_z w32 (of_z w32 r))) ≡ pos (cond (not b) k (k + 1))
+second true k r h e = ap (λ (z : ℤ). to_z w32 (of_z w32 (pos k +ℤ to_z w32 (of_z w32 z)))) e ∙ stored (k + 1) (omega arith)
+second false k r h e = ap (λ (z : ℤ). to_z w32 (of_z w32 (pos k +ℤ to_z w32 (of_z w32 z)))) e ∙ ap (λ (n : ℕ). to_z w32 (of_z w32 (pos n))) (add-zero k) ∙ stored k (omega arith)
 
-pub returns-then-b-2 : goal.returns-then-b-2
-unfolding code paired
-returns-then-b-2 c = rw (c.in-Atom.is, c.if-b-2.true)
+first : (b : Bool) (r : ℤ) → r ≡ pos (bool_byte b) → to_z w32 (of_z w32 r) ≡ pos (cond b 1 0)
+first true r e = ap (λ (z : ℤ). to_z w32 (of_z w32 z)) e
+first false r e = ap (λ (z : ℤ). to_z w32 (of_z w32 z)) e
 
-pub returns-else-b-2 : goal.returns-else-b-2
+pub returns-in-Plain : goal.returns-in-Plain
 unfolding code paired
-returns-else-b-2 c = rw (c.in-Atom.is, c.if-b-2.false)
+returns-in-Plain c = rw c.in-Plain.is (first (not c.in-Plain.b) _ c.from.ensures)
 
-pub returns-then-b-3 : goal.returns-then-b-3
+pub returns-in-Atom : goal.returns-in-Atom
 unfolding code paired
-returns-then-b-3 c = rw (c.in-Compare.is, c.if-b-3.true)
+returns-in-Atom c = rw c.in-Atom.is (second c.in-Atom.b 2 _ (omega arith) c.from-in-Atom.ensures)
 
-pub returns-else-b-3 : goal.returns-else-b-3
+pub returns-in-Compare : goal.returns-in-Compare
 unfolding code paired
-returns-else-b-3 c = rw (c.in-Compare.is, c.if-b-3.false)
+returns-in-Compare c = rw c.in-Compare.is (second c.in-Compare.b 4 _ (omega arith) c.from-in-Compare.ensures)
 
-pub returns-then-b-4 : goal.returns-then-b-4
+pub returns-in-Join : goal.returns-in-Join
 unfolding code paired
-returns-then-b-4 c = rw (c.in-Join.is, c.if-b-4.true)
+returns-in-Join c = rw c.in-Join.is (second c.in-Join.b 6 _ (omega arith) c.from-in-Join.ensures)
 
-pub returns-else-b-4 : goal.returns-else-b-4
+pub returns-in-Quantifier : goal.returns-in-Quantifier
 unfolding code paired
-returns-else-b-4 c = rw (c.in-Join.is, c.if-b-4.false)
-
-pub returns-then-b-5 : goal.returns-then-b-5
-unfolding code paired
-returns-then-b-5 c = rw (c.in-Quantifier.is, c.if-b-5.true)
-
-pub returns-else-b-5 : goal.returns-else-b-5
-unfolding code paired
-returns-else-b-5 c = rw (c.in-Quantifier.is, c.if-b-5.false)
+returns-in-Quantifier c = rw c.in-Quantifier.is (second c.in-Quantifier.b 8 _ (omega arith) c.from-in-Quantifier.ensures)
 
 pub returns-in-Some : goal.returns-in-Some
 unfolding code paired

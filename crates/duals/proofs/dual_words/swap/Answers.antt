@@ -1,93 +1,39 @@
 -- `duals::dual_words::swap` meets its contract. The loop's invariant: words of the dual, then the old words, where the formulas that are
 -- left stand.
-use Prim.Native.Nat.{◌+◌, ◌-◌, ◌≤◌, ◌<◌}
 use native.Mathlib.Omega.{arith}
-use mathlib.Core.Path.{◌≡◌, refl, ◌∙◌}
-use lib.ListN.{length, length-set}
+use mathlib.Core.Path.{◌≡◌, ◌∙◌}
 use borrow.Author.Rules.{rules}
 use mir.Syntax.{w32}
 use mir.Val.{to_z, of_z}
-use Rattle.duals.proofs.DualSwap.{front_long, swap_start, swap_word, swap_tree, swap_fits, swap_more, swap_end}
+use Rattle.duals.proofs.DualSwap.{front_long, swap_start, swap_word, swap_ahead, swap_fits, swap_more, swap_end}
 use Rattle.duals.proofs.dual_words.swap.Goals as goal
 
-pub loop-left-init : goal.loop-left-init
-loop-left-init c = (refl, swap_start c.args.words.now _ c.args.buffer.now c.requires.0)
+pub loop-walk-init : goal.loop-walk-init
+loop-walk-init c = swap_start c.args.words.now _ c.args.buffer.now c.requires.0 _ c.new-walk.ensures
 
-pub formulas-more-requires : goal.formulas-more-requires
-formulas-more-requires c =
-    swap_word _ _ c.loop-left.left c.loop-left.at c.loop-left.buffer c.loop-left-test.true c.loop-left.invariant.1 c.requires.1
+pub bounds-buffer-walk : goal.bounds-buffer-walk
+bounds-buffer-walk c =
+    let there = swap_word _ _ c.loop-walk.walk c.loop-walk.buffer c.loop-walk-test.true c.loop-walk.invariant c.requires.1 in
+    omega (arith, front_long c.args.words.now _ c.args.buffer.now c.requires.0, c.loop-walk.auto.buffer)
 
-pub formula_after-next-requires : goal.formula_after-next-requires
-formula_after-next-requires c = (
-  swap_tree _ _ c.loop-left.left c.loop-left.at c.loop-left.buffer c.loop-left-test.true c.loop-left.invariant.1 c.requires.1,
+pub past_kept-walk-requires : goal.past_kept-walk-requires
+past_kept-walk-requires c = (
   c.tag_at-tag.ensures,
+  (_, swap_ahead _ _ c.loop-walk.walk c.loop-walk.buffer c.loop-walk-test.true c.loop-walk.invariant c.requires.1),
 )
 
-pub bounds-buffer-at : goal.bounds-buffer-at
-bounds-buffer-at c =
-    let fits : let next = c.formula_after-next.result in let words =
-    c.args.words.now in ((next + (c.loop-left.left - 1 + c.formulas-more.result) ≤ length words) × (c.loop-left.at < next)) × (length words ≤
-    length c.loop-left.buffer) = (
-      swap_fits c.args.words.now _ c.loop-left.left c.loop-left.at c.loop-left.buffer c.loop-left-test.true _
-          c.tag_at-tag.ensures
-          c.formulas-more.result
-          c.formulas-more.ensures
-          c.formula_after-next.result
-          c.formula_after-next.ensures
-          c.loop-left.invariant.1
-          c.requires.1,
-      omega (arith, front_long c.args.words.now _ c.args.buffer.now c.requires.0, c.loop-left.invariant.0),
-    ) in
-    omega (arith, (fits).0, (fits).1)
+pub loop-walk-smaller : goal.loop-walk-smaller
+loop-walk-smaller c =
+    let fits =
+    swap_fits _ _ c.loop-walk.walk c.loop-walk.buffer c.loop-walk-test.true _ c.tag_at-tag.ensures _ c.past_kept-walk.ensures
+    c.loop-walk.invariant c.requires.1 in
+    omega arith
 
-pub overflow_add-left : goal.overflow_add-left
-overflow_add-left c =
-    let fits : let next = c.formula_after-next.result in let words =
-    c.args.words.now in ((next + (c.loop-left.left - 1 + c.formulas-more.result) ≤ length words) × (c.loop-left.at < next)) × (length words ≤
-    length c.loop-left.buffer) = (
-      swap_fits c.args.words.now _ c.loop-left.left c.loop-left.at c.loop-left.buffer c.loop-left-test.true _
-          c.tag_at-tag.ensures
-          c.formulas-more.result
-          c.formulas-more.ensures
-          c.formula_after-next.result
-          c.formula_after-next.ensures
-          c.loop-left.invariant.1
-          c.requires.1,
-      omega (arith, front_long c.args.words.now _ c.args.buffer.now c.requires.0, c.loop-left.invariant.0),
-    ) in
-    omega (arith, (fits).0)
-
-pub loop-left-smaller : goal.loop-left-smaller
-loop-left-smaller c =
-    let fits : let next = c.formula_after-next.result in let words =
-    c.args.words.now in ((next + (c.loop-left.left - 1 + c.formulas-more.result) ≤ length words) × (c.loop-left.at < next)) × (length words ≤
-    length c.loop-left.buffer) = (
-      swap_fits c.args.words.now _ c.loop-left.left c.loop-left.at c.loop-left.buffer c.loop-left-test.true _
-          c.tag_at-tag.ensures
-          c.formulas-more.result
-          c.formulas-more.ensures
-          c.formula_after-next.result
-          c.formula_after-next.ensures
-          c.loop-left.invariant.1
-          c.requires.1,
-      omega (arith, front_long c.args.words.now _ c.args.buffer.now c.requires.0, c.loop-left.invariant.0),
-    ) in
-    omega (arith, (fits).0)
-
-pub loop-left-preserved : goal.loop-left-preserved
-loop-left-preserved c =
-    let back : to_z w32 (of_z w32 c.pair.result) ≡ c.pair.result = search rules in (
-      length-set c.loop-left.buffer c.loop-left.at _ ∙ c.loop-left.invariant.0,
-      swap_more _ _ c.loop-left.left c.loop-left.at c.loop-left.buffer c.loop-left-test.true _
-          c.tag_at-tag.ensures
-          c.formulas-more.result
-          c.formulas-more.ensures
-          c.formula_after-next.result
-          c.formula_after-next.ensures
-          _
-          (back ∙ c.pair.ensures)
-          c.loop-left.invariant.1,
-    )
+pub loop-walk-preserved : goal.loop-walk-preserved
+loop-walk-preserved c =
+    let back : to_z w32 (of_z w32 c.pair.result) ≡ c.pair.result = search rules in
+    swap_more _ _ c.loop-walk.walk c.loop-walk.buffer c.loop-walk-test.true _ c.tag_at-tag.ensures _ c.past_kept-walk.ensures _
+    (back ∙ c.pair.ensures) c.loop-walk.invariant
 
 pub returns : goal.returns
-returns c = swap_end _ _ c.loop-left.left c.loop-left.at c.loop-left.buffer c.loop-left-test.false c.loop-left.invariant.1
+returns c = swap_end _ _ c.loop-walk.walk c.loop-walk.buffer c.loop-walk-test.false c.loop-walk.invariant

@@ -16,4 +16,4 @@ decreases-list_some l = 129 - 2 * l.above
 
 abbrev pub invariant-list_join-loop : goal.invariant-list_join-loop
 invariant-list_join-loop l =
-    SoFar l.every l.table l.words l.log l.above l.scope l.n l.at l.room l.initial.scratch l.counter l.next l.handed l.scratch
+    SoFar l.every l.log.table.now l.words l.log.rows.now l.above l.scope l.n l.at l.room l.initial.scratch l.counter l.next l.handed l.scratch

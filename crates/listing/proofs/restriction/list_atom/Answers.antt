@@ -19,7 +19,7 @@ loop-i-init c =
     let a = c.args in (
       omega arith,
       λ es h. map-start
-          (λ e. matches (rows a.log.now) c.value-predicate.result
+          (λ e. matches (rows a.log.now.rows.now) c.value-predicate.result
           (terms_at a.words.now (a.at + 3) c.value-n.result) e) es a.room.base a.scratch.now,
     )
 
@@ -27,40 +27,40 @@ pub match_rows-requires : goal.match_rows-requires
 match_rows-requires c =
     let a = c.args in
     let (made, far) = c.loop-i.invariant in
-    let roomy = c.requires.2 in
-    let (es, h) = c.requires.3 in
+    let roomy = c.requires.1 in
+    let (es, h) = c.requires.2 in
     let p = c.value-predicate.ensures in
     let n = c.value-n.ensures in
     let held = c.read-environment.ensures _ (map_read (far es h) a.room.from (omega arith) h.listed (omega arith)) in (
-      omega (arith, c.requires.1.1),
-      omega (arith, c.requires.1.2),
-      subst (λ (k : ℕ). all (in_scope a.words.now 16) (places (a.at + 3) k) ≡ true) (sym n) c.requires.1.3,
-      c.requires.0,
-      omega (arith, c.requires.1.0),
+      omega (arith, c.requires.0.1),
+      omega (arith, c.requires.0.2),
+      subst (λ (k : ℕ). all (in_scope a.words.now 16) (places (a.at + 3) k) ≡ true) (sym n) c.requires.0.3,
+      c.args.log.now.linked,
+      omega (arith, c.requires.0.0),
       omega arith,
       (environment_of es c.loop-i.i, held),
-      omega (arith, c.requires.4.0),
-      omega (arith, c.requires.4.1),
+      omega (arith, c.requires.3.0),
+      omega (arith, c.requires.3.1),
     )
 
 pub returns-in_err-made : goal.returns-in_err-made
 returns-in_err-made c = λ es h.
     let a = c.args in
     let (made, far) = c.loop-i.invariant in
-    let roomy = c.requires.2 in
+    let roomy = c.requires.1 in
     let before = roomy.before in
     let n = h.long in
     let held = c.read-environment.ensures _ (map_read (far es h) a.room.from (omega arith) h.listed (omega arith)) in
     at-list
-    (ap₂ (λ (p n : ℕ). gather (matches (rows a.log.now) p (terms_at a.words.now (a.at + 3) n)) es) c.value-predicate.ensures c.value-n.ensures)
+    (ap₂ (λ (p n : ℕ). gather (matches (rows a.log.now.rows.now) p (terms_at a.words.now (a.at + 3) n)) es) c.value-predicate.ensures c.value-n.ensures)
     (map_ran_out (far es h) made h (omega arith) (c.match_rows.auto.scratch ∙ c.loop-i.auto.scratch) (c.in_err-made.ensures _ held) c.from_residual.ensures _)
 
 pub overflow_add-made : goal.overflow_add-made
 overflow_add-made c =
     let a = c.args in
     let (made, far) = c.loop-i.invariant in
-    let roomy = c.requires.2 in
-    let (es, h) = c.requires.3 in
+    let roomy = c.requires.1 in
+    let (es, h) = c.requires.2 in
     let held = c.read-environment.ensures _ (map_read (far es h) a.room.from (omega arith) h.listed (omega arith)) in
     omega (arith, (c.in_ok-made.ensures _ held).came.few)
 
@@ -68,9 +68,9 @@ pub loop-i-preserved : goal.loop-i-preserved
 loop-i-preserved c =
     let a = c.args in
     let (made, far) = c.loop-i.invariant in
-    let roomy = c.requires.2 in
+    let roomy = c.requires.1 in
     let before = roomy.before in
-    let (es₀, h₀) = c.requires.3 in
+    let (es₀, h₀) = c.requires.2 in
     let held = c.read-environment.ensures _ (map_read (far es₀ h₀) a.room.from (omega arith) h₀.listed (omega arith)) in (
       omega (arith, (c.in_ok-made.ensures _ held).came.few),
       λ es h.

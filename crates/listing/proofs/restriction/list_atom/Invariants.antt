@@ -14,4 +14,4 @@ invariant-loop-i l =
     (l.made ≤ l.room.limit - l.room.used)
     × ((es : List Environment) →
     R.Holding l.room l.initial.scratch es →
-    Mapping (λ e. matches (rows l.log) l.predicate (terms_at l.words (l.at + 3) l.n) e) es l.i l.room.base l.made l.initial.scratch l.scratch)
+    Mapping (λ e. matches (rows l.log.rows.now) l.predicate (terms_at l.words (l.at + 3) l.n) e) es l.i l.room.base l.made l.initial.scratch l.scratch)

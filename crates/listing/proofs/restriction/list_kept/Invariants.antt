@@ -19,5 +19,5 @@ invariant-loop-i l =
     × ((es : List Environment) →
     R.Holding l.room l.initial.scratch es →
     (above scope : ℕ) (t : Tree) (next : ℕ) →
-    Node l.table l.words restriction above scope l.at t next →
-    Mapping (kept (keeps_of l.table (rows l.log) t)) es l.i l.room.base l.made l.initial.scratch l.scratch)
+    Node l.log.table.now l.words restriction above scope l.at t next →
+    Mapping (kept (keeps_of l.log.table.now (rows l.log.rows.now) t)) es l.i l.room.base l.made l.initial.scratch l.scratch)

@@ -1,37 +1,31 @@
 -- `nodes::ground::atom` meets its contract, by the value found.
 use native.Mathlib.Omega.{arith}
-use Rattle.nodes.proofs.GroundLaws.{atom_asks, atom_grown, reduces_true, reduces_false, reduces_open}
+use Rattle.nodes.proofs.GroundLaws.{atom_asks, atom_grown, reduces_known, reduces_open}
 use Rattle.nodes.proofs.ground.atom.Goals as goal
 
 pub value_at-found-requires : goal.value_at-found-requires
 value_at-found-requires c =
     let a = c.args in (
-      c.requires.0.accepted,
-      c.requires.0.linked.by_atom,
-      atom_asks a.table.now a.words.now a.scope a.holds a.at c.requires.0.few c.requires.1
-          (omega arith) c.requires.2,
+      c.args.log.now.accepted,
+      c.args.log.now.linked.by_atom,
+      atom_asks a.log.now.table.now a.words.now a.scope a.holds a.at c.args.log.now.few c.requires.0
+          (omega arith) c.requires.1,
     )
 
 pub stay-requires : goal.stay-requires
 stay-requires c =
     let a = c.args in
-    (c.requires.1, atom_grown a.table.now a.words.now a.scope a.holds a.at c.requires.2)
+    (c.requires.0, atom_grown a.log.now.table.now a.words.now a.scope a.holds a.at c.requires.1)
 
-pub returns-in-True : goal.returns-in-True
-returns-in-True c =
+pub returns-in-Some : goal.returns-in-Some
+returns-in-Some c =
     let a = c.args in
-    reduces_true a.table.now a.words.now a.log.now a.environment a.scope a.holds a.at
-    c.value_at-found.result c.value_at-found.ensures c.in-True.is a.out.now
+    reduces_known a.log.now.table.now a.words.now a.log.now.rows.now a.environment a.scope a.holds a.at
+    c.value_at-found.result c.value_at-found.ensures c.in-Some.value c.in-Some.is a.out.now
 
-pub returns-in-False : goal.returns-in-False
-returns-in-False c =
+pub returns-in-None : goal.returns-in-None
+returns-in-None c =
     let a = c.args in
-    reduces_false a.table.now a.words.now a.log.now a.environment a.scope a.holds a.at
-    c.value_at-found.result c.value_at-found.ensures c.in-False.is a.out.now
-
-pub returns-in-Open : goal.returns-in-Open
-returns-in-Open c =
-    let a = c.args in
-    reduces_open a.table.now a.words.now a.log.now a.environment a.scope a.holds a.at
-    c.value_at-found.result c.value_at-found.ensures c.in-Open.is a.out.now _ c.stay.result
+    reduces_open a.log.now.table.now a.words.now a.log.now.rows.now a.environment a.scope a.holds a.at
+    c.value_at-found.result c.value_at-found.ensures c.in-None.is a.out.now _ c.stay.result
     c.stay.ensures

@@ -6,9 +6,7 @@ use Prim.Native.Nat.{ℕ, ◌+◌, ◌-◌, ◌/◌}
 use native.Mathlib.Omega.{arith}
 use mathlib.Core.Path.{◌≡◌, refl, sym, ap, ◌∙◌, subst}
 use mathlib.Core.Bool.{Bool, true}
-use mathlib.Core.List.{List}
 use lib.ListN.{length}
-use lib.IntN.{ℤ}
 use Rattle.model.specs.Level as L
 use Rattle.model.specs.Reading.{is_formula}
 use Rattle.policies.specs.Node.{as_tag, as_role}
@@ -31,13 +29,8 @@ use Rattle.reduction.proofs.WalkInstances.{kept_lent, instance_some, instances_a
 use Rattle.reduction.proofs.WalkInstances.{instances-short, instances-within, instances_end, instances-none, instances-tree}
 use Rattle.reduction.proofs.WalkQuantifier.{quantifier-short, quantifier-whole, concluding, body-here, restriction-here}
 use Rattle.reduction.proofs.WalkQuantifier.{variables-few, first-within}
-use Rattle.model.specs.Tree.{Tree}
 use Rattle.laws.specs.Reading.Nodes.{Node}
-use Rattle.nodes.specs.Ground.{Outer}
-use Rattle.nodes.specs.Prepare as PS
-use Rattle.nodes.specs.Conclude.{Quantified}
-use Rattle.reduction.specs.Walk.{Works}
-use Rattle.reduction.proofs.WalkQuantifier.{found, body_at, prepared_short, prepared_stood}
+use Rattle.reduction.proofs.WalkQuantifier.{found, prepared_short, prepared_stood, worked_out}
 use Rattle.reduction.proofs.walk.+children_formula_instances_quantifier.Goals as goal
 
 -- an operand is a formula
@@ -59,24 +52,23 @@ other_tag Unused k = inr refl
 pub children-loop-init : goal.children-loop-init
 children-loop-init t c =
     let a = c.args in
-    children-start a.table.now a.words.now a.log.now a.kind a.above a.scope a.environment (length a.scratch.now / 17) a.n a.at
+    children-start a.log.now.table.now a.words.now a.log.now.rows.now a.kind a.above a.scope a.environment (length a.scratch.now / 17) a.n a.at
     c.new-join.ensures
 
 pub children-formula-child-requires : goal.children-formula-child-requires
 children-formula-child-requires t c =
     let a = c.args in (
-      omega (arith, c.decreases, c.requires.1),
+      omega (arith, c.decreases, c.requires.0),
       (
         c.requires.0,
         c.requires.1,
-        c.requires.2,
         omega
-            (arith, rest-long c.loop.out c.loop.join.words, c.loop.auto.out, c.requires.3),
+            (arith, rest-long c.loop.out c.loop.join.words, c.loop.auto.out, c.requires.2),
         operand-kind a.kind,
-        children-here a.table.now a.words.now a.log.now a.kind a.above a.scope a.environment
+        children-here a.log.now.table.now a.words.now a.log.now.rows.now a.kind a.above a.scope a.environment
             (length a.scratch.now / 17) a.n a.at c.loop.counter c.loop.next c.loop.join c.loop.out c.loop.invariant
-            c.loop-test.true c.requires.4 c.requires.5,
-        c.requires.5,
+            c.loop-test.true c.requires.3 c.requires.4,
+        c.requires.4,
       ),
     )
 
@@ -85,38 +77,38 @@ children-returns-in-Short t c =
     let a = c.args in
     let child =
     subst
-    (λ (n : ℕ). ReducesNode a.table.now a.words.now a.log.now (L.Role.operand a.kind) a.above
+    (λ (n : ℕ). ReducesNode a.log.now.table.now a.words.now a.log.now.rows.now (L.Role.operand a.kind) a.above
     a.scope c.loop.next a.environment (n / 17) (rest c.loop.out c.loop.join.words)
     c.formula-child.new.out c.formula-child.result) c.loop.auto.scratch c.formula-child.ensures in
-    children-short a.table.now a.words.now a.log.now a.kind a.above a.scope a.environment
+    children-short a.log.now.table.now a.words.now a.log.now.rows.now a.kind a.above a.scope a.environment
     (length a.scratch.now / 17) a.n a.at c.loop.counter c.loop.next c.loop.join c.loop.out c.loop.invariant
     c.loop-test.true c.formula-child.new.out c.formula-child.result child c.in-Short.is
     (lent_long c.loop.out c.loop.join.words c.formula-child.new.out
-    (children-within a.table.now a.words.now a.log.now a.kind a.above a.scope a.environment
+    (children-within a.log.now.table.now a.words.now a.log.now.rows.now a.kind a.above a.scope a.environment
     (length a.scratch.now / 17) a.n a.at c.loop.counter c.loop.next c.loop.join c.loop.out c.loop.invariant
-    c.requires.4 c.requires.5) c.formula-child.auto.out ∙ c.loop.auto.out) _ c.in-Short.is
+    c.requires.3 c.requires.4) c.formula-child.auto.out ∙ c.loop.auto.out) _ c.in-Short.is
 
 pub children-add-join-requires : goal.children-add-join-requires
 children-add-join-requires t c =
     let a = c.args in
     let child =
     subst
-    (λ (n : ℕ). ReducesNode a.table.now a.words.now a.log.now (L.Role.operand a.kind) a.above
+    (λ (n : ℕ). ReducesNode a.log.now.table.now a.words.now a.log.now.rows.now (L.Role.operand a.kind) a.above
     a.scope c.loop.next a.environment (n / 17) (rest c.loop.out c.loop.join.words)
     c.formula-child.new.out c.formula-child.result) c.loop.auto.scratch c.formula-child.ensures in (
       omega (
         arith,
         lent_long c.loop.out c.loop.join.words c.formula-child.new.out
-            (children-within a.table.now a.words.now a.log.now a.kind a.above a.scope a.environment
+            (children-within a.log.now.table.now a.words.now a.log.now.rows.now a.kind a.above a.scope a.environment
             (length a.scratch.now / 17) a.n a.at c.loop.counter c.loop.next c.loop.join c.loop.out c.loop.invariant
-            c.requires.4 c.requires.5) c.formula-child.auto.out,
+            c.requires.3 c.requires.4) c.formula-child.auto.out,
         c.loop.auto.out,
-        c.requires.3,
+        c.requires.2,
       ),
-      children_adding a.table.now a.words.now a.log.now a.kind a.above a.scope a.environment
+      children_adding a.log.now.table.now a.words.now a.log.now.rows.now a.kind a.above a.scope a.environment
           (length a.scratch.now / 17) a.n a.at c.loop.counter c.loop.next c.loop.join c.loop.out c.loop.invariant
           c.loop-test.true c.formula-child.new.out c.formula-child.result child
-          c.requires.4 c.requires.5,
+          c.requires.3 c.requires.4,
     )
 
 pub children-loop-preserved : goal.children-loop-preserved
@@ -124,11 +116,11 @@ children-loop-preserved t c =
     let a = c.args in
     let child =
     subst
-    (λ (n : ℕ). ReducesNode a.table.now a.words.now a.log.now (L.Role.operand a.kind) a.above
+    (λ (n : ℕ). ReducesNode a.log.now.table.now a.words.now a.log.now.rows.now (L.Role.operand a.kind) a.above
     a.scope c.loop.next a.environment (n / 17) (rest c.loop.out c.loop.join.words)
     c.formula-child.new.out c.formula-child.result) c.loop.auto.scratch c.formula-child.ensures in
     children-next
-    a.table.now a.words.now a.log.now a.kind a.above a.scope a.environment
+    a.log.now.table.now a.words.now a.log.now.rows.now a.kind a.above a.scope a.environment
     (length a.scratch.now / 17) a.n a.at c.loop.counter c.loop.next c.loop.join c.loop.out c.loop.invariant
     c.loop-test.true c.formula-child.new.out c.formula-child.result child
     c.in_default.not-Short _ _ c.add-join.ensures
@@ -136,152 +128,149 @@ children-loop-preserved t c =
 pub children-returns : goal.children-returns
 children-returns t c =
     let a = c.args in
-    children_end a.table.now a.words.now a.log.now a.kind a.above a.scope a.environment
+    children_end a.log.now.table.now a.words.now a.log.now.rows.now a.kind a.above a.scope a.environment
     (length a.scratch.now / 17) a.n a.at c.loop.counter c.loop.next c.loop.join c.loop.out c.loop.invariant
     c.loop-test.false c.loop.auto.out _ _ c.finish-answer.ensures
 
 pub formula-overflow_add-level : goal.formula-overflow_add-level
 formula-overflow_add-level t c =
     omega
-    (arith, level-fits _ _ _ _ _ _ c.requires.5 (as_tag c.tag_at-tag.result) c.tag_at-tag.ensures, c.cost.ensures)
+    (arith, level-fits _ _ _ _ _ _ c.requires.4 (as_tag c.tag_at-tag.result) c.tag_at-tag.ensures, c.cost.ensures)
 
 pub formula-size-requires : goal.formula-size-requires
 formula-size-requires t c =
     let a = c.args in
-    own-fits a.table.now a.words.now (as_role a.role) a.above a.scope a.at c.requires.5
+    own-fits a.log.now.table.now a.words.now (as_role a.role) a.above a.scope a.at c.requires.4
     (as_tag c.tag_at-tag.result) c.tag_at-tag.ensures
 
 pub formula-overflow_add-next : goal.formula-overflow_add-next
 formula-overflow_add-next t c =
     let node =
-    stood c.args.table.now c.args.words.now (as_role c.args.role) c.args.above c.args.scope c.args.at c.requires.4 c.requires.5
+    stood c.args.log.now.table.now c.args.words.now (as_role c.args.role) c.args.above c.args.scope c.args.at c.requires.3 c.requires.4
     c.tag_at-tag.ensures c.cost.ensures c.size.ensures in
     omega (arith, next_in node)
 
 pub formula-atom-requires : goal.formula-atom-requires
 formula-atom-requires t c =
     let node =
-    stood c.args.table.now c.args.words.now (as_role c.args.role) c.args.above c.args.scope c.args.at c.requires.4 c.requires.5
+    stood c.args.log.now.table.now c.args.words.now (as_role c.args.role) c.args.above c.args.scope c.args.at c.requires.3 c.requires.4
     c.tag_at-tag.ensures c.cost.ensures c.size.ensures in
     let a = c.args in (
-      c.requires.0,
-      c.requires.2,
-      atom-here a.table.now a.words.now a.log.now
+      c.requires.1,
+      atom-here a.log.now.table.now a.words.now a.log.now.rows.now
           node a.environment (length a.scratch.now / 17) (ap as_tag c.in-Atom.is),
     )
 
 pub formula-compare-requires : goal.formula-compare-requires
 formula-compare-requires t c =
     let node =
-    stood c.args.table.now c.args.words.now (as_role c.args.role) c.args.above c.args.scope c.args.at c.requires.4 c.requires.5
+    stood c.args.log.now.table.now c.args.words.now (as_role c.args.role) c.args.above c.args.scope c.args.at c.requires.3 c.requires.4
     c.tag_at-tag.ensures c.cost.ensures c.size.ensures in
     let a = c.args in
-    compare-here a.table.now a.words.now a.log.now node a.environment
-    (length a.scratch.now / 17) c.requires.2 (ap as_tag c.in-Compare.is)
+    compare-here a.log.now.table.now a.words.now a.log.now.rows.now node a.environment
+    (length a.scratch.now / 17) c.requires.1 (ap as_tag c.in-Compare.is)
 
 pub formula-children-requires : goal.formula-children-requires
 formula-children-requires t c =
     let node =
-    stood c.args.table.now c.args.words.now (as_role c.args.role) c.args.above c.args.scope c.args.at c.requires.4 c.requires.5
+    stood c.args.log.now.table.now c.args.words.now (as_role c.args.role) c.args.above c.args.scope c.args.at c.requires.3 c.requires.4
     c.tag_at-tag.ensures c.cost.ensures c.size.ensures in
     let a = c.args in (
       omega (arith, level_down node, level_in node, c.decreases),
       (
-        c.requires.0,
         level_in node,
+        c.requires.1,
         c.requires.2,
-        c.requires.3,
-        join-here a.table.now
-            a.words.now a.log.now node a.environment (length a.scratch.now / 17)
+        join-here a.log.now.table.now
+            a.words.now a.log.now.rows.now node a.environment (length a.scratch.now / 17)
             (ap as_tag c.in-Join.is) c.value-n.ensures,
-        c.requires.6,
+        c.requires.5,
       ),
     )
 
 pub formula-quantifier-requires : goal.formula-quantifier-requires
 formula-quantifier-requires t c =
     let node =
-    stood c.args.table.now c.args.words.now (as_role c.args.role) c.args.above c.args.scope c.args.at c.requires.4 c.requires.5
+    stood c.args.log.now.table.now c.args.words.now (as_role c.args.role) c.args.above c.args.scope c.args.at c.requires.3 c.requires.4
     c.tag_at-tag.ensures c.cost.ensures c.size.ensures in
     let a = c.args in (
       omega (arith, level_down node, level_in node, c.decreases),
       (
-        c.requires.0,
         level_in node,
+        c.requires.1,
         c.requires.2,
-        c.requires.3,
         quantifier-here
-            a.table.now a.words.now a.log.now node a.environment
+            a.log.now.table.now a.words.now a.log.now.rows.now node a.environment
             (length a.scratch.now / 17) (ap as_tag c.in-Quantifier.is),
-        c.requires.6,
+        c.requires.5,
       ),
     )
 
 pub formula-returns-in-Plain : goal.formula-returns-in-Plain
 formula-returns-in-Plain t c =
     let node =
-    stood c.args.table.now c.args.words.now (as_role c.args.role) c.args.above c.args.scope c.args.at c.requires.4 c.requires.5
+    stood c.args.log.now.table.now c.args.words.now (as_role c.args.role) c.args.above c.args.scope c.args.at c.requires.3 c.requires.4
     c.tag_at-tag.ensures c.cost.ensures c.size.ensures in
     let a = c.args in
-    node-plain a.table.now a.words.now a.log.now node a.environment
+    node-plain a.log.now.table.now a.words.now a.log.now.rows.now node a.environment
     (length a.scratch.now / 17) (ap as_tag c.in-Plain.is) a.out.now
 
 pub formula-returns-in-Atom : goal.formula-returns-in-Atom
 formula-returns-in-Atom t c =
     let node =
-    stood c.args.table.now c.args.words.now (as_role c.args.role) c.args.above c.args.scope c.args.at c.requires.4 c.requires.5
+    stood c.args.log.now.table.now c.args.words.now (as_role c.args.role) c.args.above c.args.scope c.args.at c.requires.3 c.requires.4
     c.tag_at-tag.ensures c.cost.ensures c.size.ensures in
     let a = c.args in
-    node-atom a.table.now a.words.now a.log.now node a.environment
+    node-atom a.log.now.table.now a.words.now a.log.now.rows.now node a.environment
     (length a.scratch.now / 17) (ap as_tag c.in-Atom.is) a.out.now _ _ c.atom.ensures
 
 pub formula-returns-in-Compare : goal.formula-returns-in-Compare
 formula-returns-in-Compare t c =
     let node =
-    stood c.args.table.now c.args.words.now (as_role c.args.role) c.args.above c.args.scope c.args.at c.requires.4 c.requires.5
+    stood c.args.log.now.table.now c.args.words.now (as_role c.args.role) c.args.above c.args.scope c.args.at c.requires.3 c.requires.4
     c.tag_at-tag.ensures c.cost.ensures c.size.ensures in
     let a = c.args in
-    node-compare a.table.now a.words.now a.log.now node a.environment
+    node-compare a.log.now.table.now a.words.now a.log.now.rows.now node a.environment
     (length a.scratch.now / 17) (ap as_tag c.in-Compare.is) a.out.now _ c.compare.ensures
 
 pub formula-returns-in-Join : goal.formula-returns-in-Join
 formula-returns-in-Join t c =
     let node =
-    stood c.args.table.now c.args.words.now (as_role c.args.role) c.args.above c.args.scope c.args.at c.requires.4 c.requires.5
+    stood c.args.log.now.table.now c.args.words.now (as_role c.args.role) c.args.above c.args.scope c.args.at c.requires.3 c.requires.4
     c.tag_at-tag.ensures c.cost.ensures c.size.ensures in
     let a = c.args in
-    node-join a.table.now a.words.now a.log.now node a.environment
+    node-join a.log.now.table.now a.words.now a.log.now.rows.now node a.environment
     (length a.scratch.now / 17) (ap as_tag c.in-Join.is) c.value-n.ensures
     c.children.ensures
 
 pub formula-returns-in-Quantifier : goal.formula-returns-in-Quantifier
 formula-returns-in-Quantifier t c =
     let node =
-    stood c.args.table.now c.args.words.now (as_role c.args.role) c.args.above c.args.scope c.args.at c.requires.4 c.requires.5
+    stood c.args.log.now.table.now c.args.words.now (as_role c.args.role) c.args.above c.args.scope c.args.at c.requires.3 c.requires.4
     c.tag_at-tag.ensures c.cost.ensures c.size.ensures in
     let a = c.args in
-    node-quantifier a.table.now a.words.now a.log.now node a.environment
+    node-quantifier a.log.now.table.now a.words.now a.log.now.rows.now node a.environment
     (length a.scratch.now / 17) (ap as_tag c.in-Quantifier.is) c.quantifier.ensures
 
 pub formula-returns-in_default : goal.formula-returns-in_default
 formula-returns-in_default t c =
     let node =
-    stood c.args.table.now c.args.words.now (as_role c.args.role) c.args.above c.args.scope c.args.at c.requires.4 c.requires.5
+    stood c.args.log.now.table.now c.args.words.now (as_role c.args.role) c.args.above c.args.scope c.args.at c.requires.3 c.requires.4
     c.tag_at-tag.ensures c.cost.ensures c.size.ensures in
     let a = c.args in
     ⊎_elim
-    (λ e. node-some a.table.now a.words.now a.log.now node a.environment
+    (λ e. node-some a.log.now.table.now a.words.now a.log.now.rows.now node a.environment
     (length a.scratch.now / 17) e)
-    (λ e. node-unused a.table.now a.words.now a.log.now node a.environment
+    (λ e. node-unused a.log.now.table.now a.words.now a.log.now.rows.now node a.environment
     (length a.scratch.now / 17) e) (other_tag c.tag_at-tag.result (c.in_default.not-Plain, c.in_default.not-Atom, c.in_default.not-Compare, c.in_default.not-Join, c.in_default.not-Quantifier))
 
 pub instances-loop-i-init : goal.instances-loop-i-init
 instances-loop-i-init t c =
     let a = c.args in (
-      kept-start a.table.now a.words.now a.log.now a.kind a.level a.scope a.v
+      kept-start a.log.now.table.now a.words.now a.log.now.rows.now a.kind a.level a.scope a.v
           a.placed.body a.placed.from a.placed.count a.placed.used a.environment a.scratch.now,
-      instances-start a.table.now
-          a.words.now a.log.now a.kind a.level a.scope a.v a.placed.body a.placed.from a.placed.count a.placed.used
+      instances-start a.log.now.table.now
+          a.words.now a.log.now.rows.now a.kind a.level a.scope a.v a.placed.body a.placed.from a.placed.count a.placed.used
           a.environment a.scratch.now a.placed.body c.new-join.result a.out.now c.new-join.ensures,
     )
 
@@ -290,43 +279,42 @@ instances-offset_bounds-out-start t c =
     let a = c.args in
     omega (
       arith,
-      instances-within a.table.now a.words.now a.log.now a.kind a.level a.scope a.v
+      instances-within a.log.now.table.now a.words.now a.log.now.rows.now a.kind a.level a.scope a.v
           a.placed.body a.placed.from a.placed.count a.placed.used a.environment a.scratch.now c.loop-i.i c.loop-i.next c.loop-i.join
-          c.loop-i.out c.loop-i.invariant.1 c.requires.4 c.requires.7 c.requires.8,
+          c.loop-i.out c.loop-i.invariant.1 c.requires.3 c.requires.6 c.requires.7,
       c.loop-i.auto.out,
-      c.requires.3,
+      c.requires.2,
     )
 
 pub instances-slice_bounds-formula-count-in-loop-i : goal.instances-slice_bounds-formula-count-in-loop-i
 instances-slice_bounds-formula-count-in-loop-i t c =
     let a = c.args in
-    instances-within a.table.now a.words.now a.log.now a.kind a.level a.scope a.v a.placed.body
+    instances-within a.log.now.table.now a.words.now a.log.now.rows.now a.kind a.level a.scope a.v a.placed.body
     a.placed.from a.placed.count a.placed.used a.environment a.scratch.now c.loop-i.i c.loop-i.next c.loop-i.join c.loop-i.out
-    c.loop-i.invariant.1 c.requires.4 c.requires.7 c.requires.8
+    c.loop-i.invariant.1 c.requires.3 c.requires.6 c.requires.7
 
 pub instances-slice_bounds-formula-start-in-loop-i : goal.instances-slice_bounds-formula-start-in-loop-i
 instances-slice_bounds-formula-start-in-loop-i t c =
     let a = c.args in
-    instances-within a.table.now a.words.now a.log.now a.kind a.level a.scope a.v a.placed.body
+    instances-within a.log.now.table.now a.words.now a.log.now.rows.now a.kind a.level a.scope a.v a.placed.body
     a.placed.from a.placed.count a.placed.used a.environment a.scratch.now c.loop-i.i c.loop-i.next c.loop-i.join c.loop-i.out
-    c.loop-i.invariant.1 c.requires.4 c.requires.7 c.requires.8
+    c.loop-i.invariant.1 c.requires.3 c.requires.6 c.requires.7
 
 pub instances-formula-child-requires : goal.instances-formula-child-requires
 instances-formula-child-requires t c =
     let a = c.args in (
-      omega (arith, c.decreases, c.requires.1),
+      omega (arith, c.decreases, c.requires.0),
       (
         c.requires.0,
         c.requires.1,
-        c.requires.2,
         omega
-            (arith, rest-long c.loop-i.out c.loop-i.join.words, c.loop-i.auto.out, c.requires.3),
+            (arith, rest-long c.loop-i.out c.loop-i.join.words, c.loop-i.auto.out, c.requires.2),
         formula-kind,
-        c.requires.4,
-        instance_some a.table.now a.words.now a.log.now a.kind a.level a.scope
+        c.requires.3,
+        instance_some a.log.now.table.now a.words.now a.log.now.rows.now a.kind a.level a.scope
             a.v a.placed.body a.placed.from a.placed.count a.placed.used a.environment a.scratch.now c.loop-i.scratch c.loop-i.invariant.0
-            c.requires.6 c.loop-i.i c.loop-i-test.true c.requires.5 c.requires.2
-            c.instance-bound.result c.instance-bound.ensures c.requires.7,
+            c.requires.5 c.loop-i.i c.loop-i-test.true c.requires.4 c.requires.1
+            c.instance-bound.result c.instance-bound.ensures c.requires.6,
       ),
     )
 
@@ -336,29 +324,29 @@ instances-add-join-requires t c =
       omega (
         arith,
         lent_long c.loop-i.out c.loop-i.join.words c.formula-child.new.out
-            (instances-within a.table.now a.words.now a.log.now a.kind a.level a.scope a.v a.placed.body
+            (instances-within a.log.now.table.now a.words.now a.log.now.rows.now a.kind a.level a.scope a.v a.placed.body
             a.placed.from a.placed.count a.placed.used a.environment a.scratch.now c.loop-i.i c.loop-i.next c.loop-i.join c.loop-i.out
-            c.loop-i.invariant.1 c.requires.4 c.requires.7 c.requires.8) c.formula-child.auto.out,
+            c.loop-i.invariant.1 c.requires.3 c.requires.6 c.requires.7) c.formula-child.auto.out,
         c.loop-i.auto.out,
-        c.requires.3,
+        c.requires.2,
       ),
-      instances_adding a.table.now a.words.now a.log.now a.kind
+      instances_adding a.log.now.table.now a.words.now a.log.now.rows.now a.kind
           a.level a.scope a.v a.placed.body a.placed.from a.placed.count a.placed.used a.environment a.scratch.now
-          c.loop-i.scratch c.loop-i.invariant.0 c.requires.6 c.loop-i.i c.loop-i-test.true c.requires.5
-          c.requires.2 c.instance-bound.result c.instance-bound.ensures c.loop-i.next c.loop-i.join c.loop-i.out c.loop-i.invariant.1
-          c.formula-child.new.out c.formula-child.result c.formula-child.ensures c.requires.4 c.requires.7
-          c.requires.8,
+          c.loop-i.scratch c.loop-i.invariant.0 c.requires.5 c.loop-i.i c.loop-i-test.true c.requires.4
+          c.requires.1 c.instance-bound.result c.instance-bound.ensures c.loop-i.next c.loop-i.join c.loop-i.out c.loop-i.invariant.1
+          c.formula-child.new.out c.formula-child.result c.formula-child.ensures c.requires.3 c.requires.6
+          c.requires.7,
     )
 
 pub instances-loop-i-preserved : goal.instances-loop-i-preserved
 instances-loop-i-preserved t c =
     let a = c.args in (
-      kept_lent a.table.now a.words.now a.log.now a.kind a.level
+      kept_lent a.log.now.table.now a.words.now a.log.now.rows.now a.kind a.level
           a.scope a.v a.placed.body a.placed.from a.placed.count a.placed.used a.environment a.scratch.now c.loop-i.scratch
-          c.loop-i.invariant.0 c.requires.6 c.formula-child.new.scratch c.formula-child.auto.scratch,
-      instances-next a.table.now a.words.now a.log.now a.kind a.level a.scope
+          c.loop-i.invariant.0 c.requires.5 c.formula-child.new.scratch c.formula-child.auto.scratch,
+      instances-next a.log.now.table.now a.words.now a.log.now.rows.now a.kind a.level a.scope
           a.v a.placed.body a.placed.from a.placed.count a.placed.used a.environment a.scratch.now c.loop-i.scratch c.loop-i.invariant.0
-          c.requires.6 c.loop-i.i c.loop-i-test.true c.requires.5 c.requires.2 c.instance-bound.result
+          c.requires.5 c.loop-i.i c.loop-i-test.true c.requires.4 c.requires.1 c.instance-bound.result
           c.instance-bound.ensures c.loop-i.next c.loop-i.join c.loop-i.out c.loop-i.invariant.1 c.formula-child.new.out
           c.formula-child.result c.formula-child.ensures _ _ c.add-join.ensures c.in_default.not-Short,
     )
@@ -366,87 +354,71 @@ instances-loop-i-preserved t c =
 pub instances-tree_end-requires : goal.instances-tree_end-requires
 instances-tree_end-requires t c =
     let a = c.args in
-    instances-tree a.table.now a.words.now a.log.now a.kind a.level a.scope a.v a.placed.body
-    a.placed.from a.placed.count a.placed.used a.environment a.scratch.now c.requires.4
+    instances-tree a.log.now.table.now a.words.now a.log.now.rows.now a.kind a.level a.scope a.v a.placed.body
+    a.placed.from a.placed.count a.placed.used a.environment a.scratch.now c.requires.3
 
 pub quantifier-prepare-prepared-requires : goal.quantifier-prepare-prepared-requires
 quantifier-prepare-prepared-requires t c =
     let a = c.args in (
       c.requires.0,
-      c.requires.1,
-      variables-few a.table.now a.words.now a.log.now a.kind
-          a.level a.scope a.at c.value-v.result c.value-v.ensures c.requires.4.0 c.requires.4.1
-          c.requires.4.2 c.requires.4.3 c.requires.4.4 c.requires.4.5,
+      variables-few a.log.now.table.now a.words.now a.log.now.rows.now a.kind
+          a.level a.scope a.at c.value-v.result c.value-v.ensures c.requires.3.0 c.requires.3.1
+          c.requires.3.2 c.requires.3.3 c.requires.3.4 c.requires.3.5,
       first-within
-          a.table.now a.words.now a.log.now a.kind a.level a.scope a.at c.value-v.result
-          c.value-v.ensures c.requires.4.0 c.requires.4.1 c.requires.4.2 c.requires.4.3
-          c.requires.4.4 c.requires.4.5,
+          a.log.now.table.now a.words.now a.log.now.rows.now a.kind a.level a.scope a.at c.value-v.result
+          c.value-v.ensures c.requires.3.0 c.requires.3.1 c.requires.3.2 c.requires.3.3
+          c.requires.3.4 c.requires.3.5,
       (
-        c.requires.4.2,
+        c.requires.3.2,
         _,
-        restriction-here a.table.now a.words.now a.log.now a.kind a.level
-            a.scope a.at c.value-v.result c.value-v.ensures c.requires.4.0 c.requires.4.1
-            c.requires.4.2 c.requires.4.3 c.requires.4.4 c.requires.4.5,
+        restriction-here a.log.now.table.now a.words.now a.log.now.rows.now a.kind a.level
+            a.scope a.at c.value-v.result c.value-v.ensures c.requires.3.0 c.requires.3.1
+            c.requires.3.2 c.requires.3.3 c.requires.3.4 c.requires.3.5,
       ),
-      c.requires.5,
+      c.requires.4,
     )
 
 pub quantifier-returns-in_default : goal.quantifier-returns-in_default
 quantifier-returns-in_default t c =
     let a = c.args in
-    λ ρ v excluded d f next o q. quantifier-short a.table.now a.words.now a.log.now a.kind a.level
+    λ ρ v excluded d f next o q. quantifier-short a.log.now.table.now a.words.now a.log.now.rows.now a.kind a.level
     a.scope a.at c.value-v.result c.value-v.ensures v excluded d f next q a.environment ρ o
     (length a.scratch.now / 17) _
-    (prepared_short a.table.now a.words.now a.log.now a.kind a.level a.scope a.at
+    (prepared_short a.log.now.table.now a.words.now a.log.now.rows.now a.kind a.level a.scope a.at
     c.value-v.result c.value-v.ensures v excluded d f next q a.environment ρ o (length a.scratch.now / 17)
     c.prepare-prepared.new.scratch c.prepare-prepared.result c.in_default.is
-    (c.prepare-prepared.ensures ρ d _ o
-    (restriction-here a.table.now a.words.now a.log.now a.kind a.level a.scope a.at
-    c.value-v.result c.value-v.ensures v excluded d f next q))) refl refl
+    c.prepare-prepared.ensures) refl refl
 
 pub quantifier-instances-worked-requires : goal.quantifier-instances-worked-requires
 quantifier-instances-worked-requires t c =
-    let stood : let a = c.args in (ρ : List ℤ) (v : ℕ) (excluded : List (List ℤ)) (d f : Tree) (next : ℕ) (o : Outer a.environment a.scope ρ) (q :
-    Quantified a.table.now a.words.now a.kind a.level a.scope a.at v excluded d f next) → PS.InstancesStand a.table.now a.words.now a.log.now
-    a.scope c.value-v.result a.at d ρ (body_at a.table.now a.words.now a.log.now a.kind a.level a.scope a.at c.value-v.result c.value-v.ensures v
-    excluded d f next q) (length a.scratch.now / 17) c.prepare-prepared.new.scratch c.in-Some.placed = let a = c.args in
-    λ ρ v excluded d f next o q.
-    (prepared_stood a.table.now a.words.now a.log.now a.kind a.level a.scope a.at
-    c.value-v.result c.value-v.ensures v excluded d f next q a.environment ρ o (length a.scratch.now / 17)
-    c.prepare-prepared.new.scratch c.prepare-prepared.result c.in-Some.placed c.in-Some.is
-    (c.prepare-prepared.ensures ρ d _ o
-    (restriction-here a.table.now a.words.now a.log.now a.kind a.level a.scope a.at
-    c.value-v.result c.value-v.ensures v excluded d f next q))) in
     let a = c.args in
     let s =
-    (stood c.requires.5.0 c.requires.4.0 c.requires.4.1 c.requires.4.2
-    c.requires.4.3 c.requires.4.4 c.requires.5.1 c.requires.4.5) in (
-      omega (arith, c.decreases, c.requires.1),
+    prepared_stood _ _ a.log.now.rows.now _ _ _ _ _ c.value-v.ensures _ _ _ _ _ c.requires.3.5 _ c.requires.4.0 c.requires.4.1 _ _ _ _ c.in-Some.is c.prepare-prepared.ensures in (
+      omega (arith, c.decreases, c.requires.0),
       (
         c.requires.0,
-        c.requires.1,
-        variables-few a.table.now a.words.now a.log.now a.kind
-            a.level a.scope a.at c.value-v.result c.value-v.ensures c.requires.4.0 c.requires.4.1
-            c.requires.4.2 c.requires.4.3 c.requires.4.4 c.requires.4.5,
-        c.requires.3,
+        variables-few a.log.now.table.now a.words.now a.log.now.rows.now a.kind
+            a.level a.scope a.at c.value-v.result c.value-v.ensures c.requires.3.0 c.requires.3.1
+            c.requires.3.2 c.requires.3.3 c.requires.3.4 c.requires.3.5,
+        c.requires.2,
         (
-          c.requires.4.3,
-          c.requires.4.4,
+          c.requires.3.3,
+          c.requires.3.4,
           subst
-              (λ (n : ℕ). Node a.table.now a.words.now L.Role.formula a.level (a.scope + c.value-v.result) n
-              c.requires.4.3 c.requires.4.4) (sym s.behind)
-              (body-here a.table.now a.words.now a.log.now a.kind a.level a.scope a.at c.value-v.result
-              c.value-v.ensures c.requires.4.0 c.requires.4.1 c.requires.4.2 c.requires.4.3
-              c.requires.4.4 c.requires.4.5),
+              (λ (n : ℕ). Node a.log.now.table.now a.words.now L.Role.formula a.level (a.scope + c.value-v.result) n
+              c.requires.3.3 c.requires.3.4) (sym s.behind)
+              (body-here a.log.now.table.now a.words.now a.log.now.rows.now a.kind a.level a.scope a.at c.value-v.result
+              c.value-v.ensures c.requires.3.0 c.requires.3.1 c.requires.3.2 c.requires.3.3
+              c.requires.3.4 c.requires.3.5),
         ),
         s.below,
         omega
             (arith, s.fits, c.prepare-prepared.auto.scratch),
-        c.requires.5,
+        c.requires.4,
         (
-          found a.table.now a.words.now a.log.now a.kind a.level a.scope a.at c.value-v.result
-              c.value-v.ensures c.requires.4.0 c.requires.4.1 c.requires.4.2 c.requires.4.3
-              c.requires.4.4 c.requires.4.5 a.environment c.requires.5.0 c.requires.5.1,
+          found a.log.now.table.now a.words.now a.log.now.rows.now a.kind a.level a.scope a.at c.value-v.result
+              c.value-v.ensures c.requires.3.0 c.requires.3.1 c.requires.3.2 c.requires.3.3
+              c.requires.3.4 c.requires.3.5 a.environment c.requires.4.0 c.requires.4.1,
           s.found,
         ),
       ),
@@ -454,39 +426,13 @@ quantifier-instances-worked-requires t c =
 
 pub quantifier-returns-then-eq : goal.quantifier-returns-then-eq
 quantifier-returns-then-eq t c =
-    let stood : let a = c.args in (ρ : List ℤ) (v : ℕ) (excluded : List (List ℤ)) (d f : Tree) (next : ℕ) (o : Outer a.environment a.scope ρ) (q :
-    Quantified a.table.now a.words.now a.kind a.level a.scope a.at v excluded d f next) → PS.InstancesStand a.table.now a.words.now a.log.now
-    a.scope c.value-v.result a.at d ρ (body_at a.table.now a.words.now a.log.now a.kind a.level a.scope a.at c.value-v.result c.value-v.ensures v
-    excluded d f next q) (length a.scratch.now / 17) c.prepare-prepared.new.scratch c.in-Some.placed = let a = c.args in
-    λ ρ v excluded d f next o q.
-    (prepared_stood a.table.now a.words.now a.log.now a.kind a.level a.scope a.at
-    c.value-v.result c.value-v.ensures v excluded d f next q a.environment ρ o (length a.scratch.now / 17)
-    c.prepare-prepared.new.scratch c.prepare-prepared.result c.in-Some.placed c.in-Some.is
-    (c.prepare-prepared.ensures ρ d _ o
-    (restriction-here a.table.now a.words.now a.log.now a.kind a.level a.scope a.at
-    c.value-v.result c.value-v.ensures v excluded d f next q))) in
-    let worked : let a = c.args in (ρ : List ℤ) (v : ℕ) (excluded : List (List ℤ)) (d f : Tree) (next : ℕ) (o : Outer a.environment a.scope ρ) (q :
-    Quantified a.table.now a.words.now a.kind a.level a.scope a.at v excluded d f next) → Works a.kind a.table.now a.log.now f ρ (found
-    a.table.now a.words.now a.log.now a.kind a.level a.scope a.at c.value-v.result c.value-v.ensures v excluded d f next q a.environment ρ o)
-    (length c.prepare-prepared.new.scratch / 17 - c.in-Some.placed.used) next c.instances-worked.new.out c.instances-worked.result = let a =
-    c.args in
-    λ ρ v excluded d f next o q.
-    (c.instances-worked.ensures.works ρ
-    (found a.table.now a.words.now a.log.now a.kind a.level a.scope a.at c.value-v.result
-    c.value-v.ensures v excluded d f next q a.environment ρ o) f next o
-    (stood ρ v excluded d f next o q).found
-    (subst
-    (λ (n : ℕ). Node a.table.now a.words.now L.Role.formula a.level (a.scope + c.value-v.result) n f next)
-    (sym (stood ρ v excluded d f next o q).behind)
-    (body-here a.table.now a.words.now a.log.now a.kind a.level a.scope a.at c.value-v.result
-    c.value-v.ensures v excluded d f next q))) in
     let a = c.args in
-    λ ρ v excluded d f next o q. let s = (stood ρ v excluded d f next o q) in quantifier-short a.table.now
-    a.words.now a.log.now a.kind a.level a.scope a.at c.value-v.result c.value-v.ensures v excluded
+    λ ρ v excluded d f next o q. let s = prepared_stood _ _ a.log.now.rows.now _ _ _ _ _ c.value-v.ensures _ _ _ _ _ q _ ρ o _ _ _ _ c.in-Some.is c.prepare-prepared.ensures in quantifier-short a.log.now.table.now
+    a.words.now a.log.now.rows.now a.kind a.level a.scope a.at c.value-v.result c.value-v.ensures v excluded
     d f next q a.environment ρ o (length a.scratch.now / 17) _
     (omega (
       arith,
-      (worked ρ v excluded d f next o q).short (same_true the_type (search rules) _ _ (sym c.eq.ensures ∙ c.if-eq.true)),
+      (worked_out _ _ a.log.now.rows.now _ _ _ _ _ c.value-v.ensures _ _ _ _ _ q _ ρ o _ _ _ _ _ _ s c.instances-worked.ensures.works).short (same_true the_type (search rules) _ _ (sym c.eq.ensures ∙ c.if-eq.true)),
       s.counted,
       s.fits,
       c.prepare-prepared.auto.scratch,
@@ -494,111 +440,57 @@ quantifier-returns-then-eq t c =
 
 pub quantifier-conclude-answer-requires : goal.quantifier-conclude-answer-requires
 quantifier-conclude-answer-requires t c =
-    let stood : let a = c.args in (ρ : List ℤ) (v : ℕ) (excluded : List (List ℤ)) (d f : Tree) (next : ℕ) (o : Outer a.environment a.scope ρ) (q :
-    Quantified a.table.now a.words.now a.kind a.level a.scope a.at v excluded d f next) → PS.InstancesStand a.table.now a.words.now a.log.now
-    a.scope c.value-v.result a.at d ρ (body_at a.table.now a.words.now a.log.now a.kind a.level a.scope a.at c.value-v.result c.value-v.ensures v
-    excluded d f next q) (length a.scratch.now / 17) c.prepare-prepared.new.scratch c.in-Some.placed = let a = c.args in
-    λ ρ v excluded d f next o q.
-    (prepared_stood a.table.now a.words.now a.log.now a.kind a.level a.scope a.at
-    c.value-v.result c.value-v.ensures v excluded d f next q a.environment ρ o (length a.scratch.now / 17)
-    c.prepare-prepared.new.scratch c.prepare-prepared.result c.in-Some.placed c.in-Some.is
-    (c.prepare-prepared.ensures ρ d _ o
-    (restriction-here a.table.now a.words.now a.log.now a.kind a.level a.scope a.at
-    c.value-v.result c.value-v.ensures v excluded d f next q))) in
-    let worked : let a = c.args in (ρ : List ℤ) (v : ℕ) (excluded : List (List ℤ)) (d f : Tree) (next : ℕ) (o : Outer a.environment a.scope ρ) (q :
-    Quantified a.table.now a.words.now a.kind a.level a.scope a.at v excluded d f next) → Works a.kind a.table.now a.log.now f ρ (found
-    a.table.now a.words.now a.log.now a.kind a.level a.scope a.at c.value-v.result c.value-v.ensures v excluded d f next q a.environment ρ o)
-    (length c.prepare-prepared.new.scratch / 17 - c.in-Some.placed.used) next c.instances-worked.new.out c.instances-worked.result = let a =
-    c.args in
-    λ ρ v excluded d f next o q.
-    (c.instances-worked.ensures.works ρ
-    (found a.table.now a.words.now a.log.now a.kind a.level a.scope a.at c.value-v.result
-    c.value-v.ensures v excluded d f next q a.environment ρ o) f next o
-    (stood ρ v excluded d f next o q).found
-    (subst
-    (λ (n : ℕ). Node a.table.now a.words.now L.Role.formula a.level (a.scope + c.value-v.result) n f next)
-    (sym (stood ρ v excluded d f next o q).behind)
-    (body-here a.table.now a.words.now a.log.now a.kind a.level a.scope a.at c.value-v.result
-    c.value-v.ensures v excluded d f next q))) in
     let a = c.args in
     let s =
-    (stood c.requires.5.0 c.requires.4.0 c.requires.4.1 c.requires.4.2
-    c.requires.4.3 c.requires.4.4 c.requires.5.1 c.requires.4.5) in (
-      omega (arith, c.instances-worked.auto.out, c.requires.3),
+    prepared_stood _ _ a.log.now.rows.now _ _ _ _ _ c.value-v.ensures _ _ _ _ _ c.requires.3.5 _ c.requires.4.0 c.requires.4.1 _ _ _ _ c.in-Some.is c.prepare-prepared.ensures in (
+      omega (arith, c.instances-worked.auto.out, c.requires.2),
       omega
           (arith, s.below, s.fits, c.prepare-prepared.auto.scratch, c.instances-worked.auto.scratch),
-      (concluding a.table.now a.words.now a.log.now a.kind a.level a.scope a.at c.value-v.result
-          c.value-v.ensures c.requires.4.0 c.requires.4.1 c.requires.4.2 c.requires.4.3
-          c.requires.4.4 c.requires.4.5 a.environment c.requires.5.0 c.requires.5.1
+      (concluding a.log.now.table.now a.words.now a.log.now.rows.now a.kind a.level a.scope a.at c.value-v.result
+          c.value-v.ensures c.requires.3.0 c.requires.3.1 c.requires.3.2 c.requires.3.3
+          c.requires.3.4 c.requires.3.5 a.environment c.requires.4.0 c.requires.4.1
           c.prepare-prepared.new.scratch c.instances-worked.new.scratch c.instances-worked.new.out
           c.in-Some.placed.from c.in-Some.placed.count c.in-Some.placed.used
           (length c.prepare-prepared.new.scratch / 17 - c.in-Some.placed.used) c.in-Some.placed.body
           c.instances-worked.result s.below c.instances-worked.ensures.scratch_unchanged s.found s.behind
-          (worked c.requires.5.0 c.requires.4.0 c.requires.4.1 c.requires.4.2
-          c.requires.4.3 c.requires.4.4 c.requires.5.1 c.requires.4.5) (same_false the_type _ _ (sym c.eq.ensures ∙ c.if-eq.false))),
+          (worked_out _ _ a.log.now.rows.now _ _ _ _ _ c.value-v.ensures _ _ _ _ _ c.requires.3.5 _ c.requires.4.0 c.requires.4.1 _ _ _ _ _ _ s c.instances-worked.ensures.works) (same_false the_type _ _ (sym c.eq.ensures ∙ c.if-eq.false))),
     )
 
 pub quantifier-returns : goal.quantifier-returns
 quantifier-returns t c =
-    let stood : let a = c.args in (ρ : List ℤ) (v : ℕ) (excluded : List (List ℤ)) (d f : Tree) (next : ℕ) (o : Outer a.environment a.scope ρ) (q :
-    Quantified a.table.now a.words.now a.kind a.level a.scope a.at v excluded d f next) → PS.InstancesStand a.table.now a.words.now a.log.now
-    a.scope c.value-v.result a.at d ρ (body_at a.table.now a.words.now a.log.now a.kind a.level a.scope a.at c.value-v.result c.value-v.ensures v
-    excluded d f next q) (length a.scratch.now / 17) c.prepare-prepared.new.scratch c.in-Some.placed = let a = c.args in
-    λ ρ v excluded d f next o q.
-    (prepared_stood a.table.now a.words.now a.log.now a.kind a.level a.scope a.at
-    c.value-v.result c.value-v.ensures v excluded d f next q a.environment ρ o (length a.scratch.now / 17)
-    c.prepare-prepared.new.scratch c.prepare-prepared.result c.in-Some.placed c.in-Some.is
-    (c.prepare-prepared.ensures ρ d _ o
-    (restriction-here a.table.now a.words.now a.log.now a.kind a.level a.scope a.at
-    c.value-v.result c.value-v.ensures v excluded d f next q))) in
-    let worked : let a = c.args in (ρ : List ℤ) (v : ℕ) (excluded : List (List ℤ)) (d f : Tree) (next : ℕ) (o : Outer a.environment a.scope ρ) (q :
-    Quantified a.table.now a.words.now a.kind a.level a.scope a.at v excluded d f next) → Works a.kind a.table.now a.log.now f ρ (found
-    a.table.now a.words.now a.log.now a.kind a.level a.scope a.at c.value-v.result c.value-v.ensures v excluded d f next q a.environment ρ o)
-    (length c.prepare-prepared.new.scratch / 17 - c.in-Some.placed.used) next c.instances-worked.new.out c.instances-worked.result = let a =
-    c.args in
-    λ ρ v excluded d f next o q.
-    (c.instances-worked.ensures.works ρ
-    (found a.table.now a.words.now a.log.now a.kind a.level a.scope a.at c.value-v.result
-    c.value-v.ensures v excluded d f next q a.environment ρ o) f next o
-    (stood ρ v excluded d f next o q).found
-    (subst
-    (λ (n : ℕ). Node a.table.now a.words.now L.Role.formula a.level (a.scope + c.value-v.result) n f next)
-    (sym (stood ρ v excluded d f next o q).behind)
-    (body-here a.table.now a.words.now a.log.now a.kind a.level a.scope a.at c.value-v.result
-    c.value-v.ensures v excluded d f next q))) in
     let a = c.args in
     let the-length = length c.prepare-prepared.new.scratch / 17 - c.in-Some.placed.used in
-    λ ρ v excluded d f next o q. let s = (stood ρ v excluded d f next o q) in quantifier-whole a.table.now
-    a.words.now a.log.now a.kind a.level a.scope a.at c.value-v.result c.value-v.ensures v excluded
+    λ ρ v excluded d f next o q. let s = prepared_stood _ _ a.log.now.rows.now _ _ _ _ _ c.value-v.ensures _ _ _ _ _ q _ ρ o _ _ _ _ c.in-Some.is c.prepare-prepared.ensures in quantifier-whole a.log.now.table.now
+    a.words.now a.log.now.rows.now a.kind a.level a.scope a.at c.value-v.result c.value-v.ensures v excluded
     d f next q a.environment ρ o (length a.scratch.now / 17) c.in-Some.placed.used the-length _ _
     (ap (λ (n : ℕ). n / 17 - c.in-Some.placed.used) c.prepare-prepared.auto.scratch) s.counted s.fits
     c.instances-worked.auto.out
     (c.conclude-answer.ensures
-    (concluding a.table.now a.words.now a.log.now a.kind a.level a.scope a.at c.value-v.result
+    (concluding a.log.now.table.now a.words.now a.log.now.rows.now a.kind a.level a.scope a.at c.value-v.result
     c.value-v.ensures v excluded d f next q a.environment ρ o c.prepare-prepared.new.scratch
     c.instances-worked.new.scratch c.instances-worked.new.out c.in-Some.placed.from
     c.in-Some.placed.count c.in-Some.placed.used the-length c.in-Some.placed.body
     c.instances-worked.result s.below c.instances-worked.ensures.scratch_unchanged s.found s.behind
-    (worked ρ v excluded d f next o q) (same_false the_type _ _ (sym c.eq.ensures ∙ c.if-eq.false))))
-    ((worked ρ v excluded d f next o q).behind (same_false the_type _ _ (sym c.eq.ensures ∙ c.if-eq.false)))
+    (worked_out _ _ a.log.now.rows.now _ _ _ _ _ c.value-v.ensures _ _ _ _ _ q _ ρ o _ _ _ _ _ _ s c.instances-worked.ensures.works) (same_false the_type _ _ (sym c.eq.ensures ∙ c.if-eq.false))))
+    ((worked_out _ _ a.log.now.rows.now _ _ _ _ _ c.value-v.ensures _ _ _ _ _ q _ ρ o _ _ _ _ _ _ s c.instances-worked.ensures.works).behind (same_false the_type _ _ (sym c.eq.ensures ∙ c.if-eq.false)))
 
 pub instances-returns-in-Short : goal.instances-returns-in-Short
 instances-returns-in-Short t c =
     let a = c.args in record {
-      works = instances-short a.table.now a.words.now a.log.now a.kind a.level a.scope a.v a.placed.body
-          a.placed.from a.placed.count a.placed.used a.environment a.scratch.now c.loop-i.scratch c.loop-i.invariant.0 c.requires.6
-          c.loop-i.i c.loop-i-test.true c.requires.5 c.requires.2 c.instance-bound.result
+      works = instances-short a.log.now.table.now a.words.now a.log.now.rows.now a.kind a.level a.scope a.v a.placed.body
+          a.placed.from a.placed.count a.placed.used a.environment a.scratch.now c.loop-i.scratch c.loop-i.invariant.0 c.requires.5
+          c.loop-i.i c.loop-i-test.true c.requires.4 c.requires.1 c.instance-bound.result
           c.instance-bound.ensures c.loop-i.next c.loop-i.join c.loop-i.out c.loop-i.invariant.1 c.formula-child.new.out
           c.formula-child.result c.formula-child.ensures _ _ c.add-join.ensures c.in-Short.is c.loop-i.next;
-      scratch_unchanged = (kept_lent a.table.now a.words.now a.log.now a.kind a.level a.scope a.v a.placed.body a.placed.from
-          a.placed.count a.placed.used a.environment a.scratch.now c.loop-i.scratch c.loop-i.invariant.0 c.requires.6
+      scratch_unchanged = (kept_lent a.log.now.table.now a.words.now a.log.now.rows.now a.kind a.level a.scope a.v a.placed.body a.placed.from
+          a.placed.count a.placed.used a.environment a.scratch.now c.loop-i.scratch c.loop-i.invariant.0 c.requires.5
           c.formula-child.new.scratch c.formula-child.auto.scratch).1;
     }
 
 pub instances-returns-then-k-eq0 : goal.instances-returns-then-k-eq0
 instances-returns-then-k-eq0 t c =
     let a = c.args in record {
-      works = instances-none a.table.now a.words.now a.log.now a.kind a.level a.scope a.v a.placed.body
+      works = instances-none a.log.now.table.now a.words.now a.log.now.rows.now a.kind a.level a.scope a.v a.placed.body
           a.placed.from a.placed.count a.placed.used a.environment a.scratch.now c.loop-i.i c.loop-i.next c.loop-i.join c.loop-i.out
           c.loop-i.invariant.1 c.if-k-eq0.true _ c.tree_end.ensures;
       scratch_unchanged = c.loop-i.invariant.0.1;
@@ -607,7 +499,7 @@ instances-returns-then-k-eq0 t c =
 pub instances-returns : goal.instances-returns
 instances-returns t c =
     let a = c.args in record {
-      works = instances_end a.table.now a.words.now a.log.now a.kind a.level a.scope a.v a.placed.body
+      works = instances_end a.log.now.table.now a.words.now a.log.now.rows.now a.kind a.level a.scope a.v a.placed.body
           a.placed.from a.placed.count a.placed.used a.environment a.scratch.now c.loop-i.i c.loop-i.next c.loop-i.join c.loop-i.out
           c.loop-i.invariant.1 c.loop-i-test.false (omega (arith, c.if-k-eq0.false));
       scratch_unchanged = c.loop-i.invariant.0.1;

@@ -10,12 +10,11 @@ pub formula-walked-requires : goal.formula-walked-requires
 unfolding is_formula
 formula-walked-requires c =
     let a = c.args in (
-      c.requires.0,
       omega arith,
       omega arith,
       lent_few a.buffer.now c.lendable-room.result c.lendable-room.ensures,
       refl,
-      c.requires.1,
+      c.requires,
       ([], (c.empty.ensures.0, refl)),
     )
 

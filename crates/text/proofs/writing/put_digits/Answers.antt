@@ -1,5 +1,4 @@
--- `text::writing::put_digits` meets its contract. The loop's invariant: the last digits stand from the index reached on. The measure is
--- the number of those left.
+-- `text::writing::put_digits` meets its contract. The loop's invariant: the last digits stand from the index reached on.
 use native.Mathlib.Omega.{arith}
 use Rattle.text.proofs.WritingLaws.{ending-more, ending-all}
 use Rattle.text.proofs.writing.put_digits.Goals as goal

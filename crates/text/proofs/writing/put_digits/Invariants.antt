@@ -1,5 +1,4 @@
--- `text::writing::put_digits` meets its contract. The loop's invariant: the last digits stand from the index reached on. The measure is
--- the number of those left.
+-- `text::writing::put_digits` meets its contract. The loop's invariant: the last digits stand from the index reached on.
 use Rattle.text.proofs.WritingLaws.{Ending}
 use Rattle.text.proofs.writing.put_digits.Given as goal
 

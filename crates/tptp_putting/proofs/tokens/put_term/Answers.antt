@@ -1,7 +1,7 @@
 -- `tptp_putting::tokens::put_term` meets its contract, by the first word of the term.
 use mathlib.Core.Path.{sym, ◌∙◌}
 use Prim.Native.Nat.{◌+◌}
-use Rattle.model.specs.Words.{word, value}
+use Rattle.model.specs.Words.{word}
 use Rattle.model.specs.Bytes.{bytes}
 use Rattle.model.specs.Decimal.{digits, decimal}
 use Rattle.tptp_putting.proofs.AddLaws.{adds-is, Behind, behind_more, behind-is}

@@ -1,6 +1,5 @@
--- `tptp_putting::tokens::put_terms` meets its contract: the first term, and those behind it. The loop's invariant: the terms
--- behind the first stand up to the one reached. The measure is the number of those left.
-use Prim.Native.Nat.{◌-◌}
+-- `tptp_putting::tokens::put_terms` meets its contract: the first term, and those behind it. The loop's invariant: the terms behind the
+-- first stand up to the one reached.
 use Rattle.tptp_putting.specs.Texts.{term_text}
 use Rattle.tptp_putting.proofs.AddLaws.{Behind, behind_then, behind-is, left-more, left_end}
 use Rattle.tptp_putting.proofs.TextLaws.{runs_more, runs_none, next_term, terms-first}

@@ -1,6 +1,5 @@
--- `tptp_putting::tokens::put_terms` meets its contract: the first term, and those behind it. The loop's invariant: the terms
--- behind the first stand up to the one reached. The measure is the number of those left.
-use Prim.Native.Nat.{◌-◌}
+-- `tptp_putting::tokens::put_terms` meets its contract: the first term, and those behind it. The loop's invariant: the terms behind the
+-- first stand up to the one reached.
 use Rattle.tptp_putting.proofs.AddLaws.{Left}
 use Rattle.tptp_putting.proofs.TextLaws.{runs, next_term}
 use Rattle.tptp_putting.proofs.tokens.put_terms.Given as goal
@@ -8,6 +7,3 @@ use Rattle.tptp_putting.proofs.tokens.put_terms.Given as goal
 abbrev pub invariant-loop-i : goal.invariant-loop-i
 invariant-loop-i l =
     Left (runs (next_term l.words l.first) 1 l.n) (runs (next_term l.words l.first) l.i l.n) l.initial.put l.initial.out l.out l.put
-
-abbrev pub decreases-loop-i : goal.decreases-loop-i
-decreases-loop-i l = l.n - l.i

@@ -1,6 +1,6 @@
--- `tptp_putting::tuples::put_each` meets its contract. The loop's invariant: the tuples stand up to the index reached, whatever
--- tuples they are. The measure is the number of words left.
-use Prim.Native.Nat.{◌-◌}
+-- `tptp_putting::tuples::put_each` meets its contract. The loop's invariant: the tuples stand up to the index reached, whatever tuples
+-- they are.
+use Prim.Native.Nat.{◌+◌, ◌≤◌}
 use native.Mathlib.Omega.{arith}
 use Rattle.tptp_putting.proofs.AddLaws.{behind-fits}
 use Rattle.tptp_putting.proofs.TupleLaws.{First, first-tuple, each_none, each_more, each_all}
@@ -33,3 +33,15 @@ returns c =
     (each_all a.words.now a.v a.scope a.first a.end t c.loop-from.from a.before a.out.now c.loop-from.out
     c.loop-from.put (c.loop-from.invariant t)
     c.loop-from-test.false c.requires.1).adds
+
+pub returns-2 : goal.returns-2
+returns-2 c =
+    let a = c.args in
+    let last : a.end ≤ c.loop-from.from + a.v = omega arith in
+    λ t.
+    (each_all a.words.now a.v a.scope a.first a.end t (c.loop-from.from + a.v) a.before a.out.now c.put_tuple-put.new.out
+    c.put_tuple-put.result
+    (each_more a.words.now a.v a.scope a.first a.end t c.loop-from.from a.before a.out.now c.loop-from.out
+    c.loop-from.put (c.loop-from.invariant t)
+    c.loop-from-test.true c.put_tuple-put.new.out c.put_tuple-put.result c.put_tuple-put.ensures c.put_tuple-put.auto.out)
+    last c.requires.1).adds

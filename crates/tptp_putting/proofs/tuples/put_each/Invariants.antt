@@ -1,6 +1,5 @@
--- `tptp_putting::tuples::put_each` meets its contract. The loop's invariant: the tuples stand up to the index reached, whatever
--- tuples they are. The measure is the number of words left.
-use Prim.Native.Nat.{◌-◌}
+-- `tptp_putting::tuples::put_each` meets its contract. The loop's invariant: the tuples stand up to the index reached, whatever tuples
+-- they are.
 use Rattle.tptp_putting.specs.Texts.{Tuples}
 use Rattle.tptp_putting.proofs.TupleLaws.{Each}
 use Rattle.tptp_putting.proofs.tuples.put_each.Given as goal
@@ -8,6 +7,3 @@ use Rattle.tptp_putting.proofs.tuples.put_each.Given as goal
 abbrev pub invariant-loop-from : goal.invariant-loop-from
 invariant-loop-from l =
     (t : Tuples l.words l.v l.first l.end) → Each l.words l.v l.scope l.first l.end t l.from l.initial.put l.initial.out l.out l.put
-
-abbrev pub decreases-loop-from : goal.decreases-loop-from
-decreases-loop-from l = l.end - l.from

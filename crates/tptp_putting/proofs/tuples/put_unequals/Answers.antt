@@ -1,6 +1,6 @@
--- `tptp_putting::tuples::put_unequals` meets its contract: the first variable, and those behind it. The loop's invariant: the
--- variables behind the first stand up to the word reached. The measure is the number of words left.
-use Prim.Native.Nat.{◌+◌, ◌-◌}
+-- `tptp_putting::tuples::put_unequals` meets its contract: the first variable, and those behind it. The loop's invariant: the variables
+-- behind the first stand up to the word reached.
+use Prim.Native.Nat.{◌+◌}
 use native.Mathlib.Omega.{arith}
 use mathlib.Core.Path.{refl}
 use Rattle.model.specs.Words.{word}

@@ -1,6 +1,6 @@
 -- `tptp_putting::tuples::put_variables` meets its contract: the first number, and those behind it. The loop's invariant: the numbers
--- behind the first stand up to the one reached. The measure is the number of those left.
-use Prim.Native.Nat.{◌+◌, ◌-◌}
+-- behind the first stand up to the one reached.
+use Prim.Native.Nat.{◌+◌}
 use Rattle.model.specs.Decimal.{digits}
 use Rattle.tptp_putting.proofs.AddLaws.{Behind, behind_then, behind-is, left-more, left_end}
 use Rattle.tptp_putting.proofs.TextLaws.{runs_more, runs_none, next_variable, variables-first}

@@ -1,6 +1,6 @@
 -- `tptp_putting::tuples::put_variables` meets its contract: the first number, and those behind it. The loop's invariant: the numbers
--- behind the first stand up to the one reached. The measure is the number of those left.
-use Prim.Native.Nat.{◌+◌, ◌-◌}
+-- behind the first stand up to the one reached.
+use Prim.Native.Nat.{◌+◌}
 use Rattle.tptp_putting.proofs.AddLaws.{Left}
 use Rattle.tptp_putting.proofs.TextLaws.{runs, next_variable}
 use Rattle.tptp_putting.proofs.tuples.put_variables.Given as goal
@@ -8,6 +8,3 @@ use Rattle.tptp_putting.proofs.tuples.put_variables.Given as goal
 abbrev pub invariant-loop-x : goal.invariant-loop-x
 invariant-loop-x l =
     Left (runs next_variable (l.scope + 1) (l.scope + l.v)) (runs next_variable l.x (l.scope + l.v)) l.initial.put l.initial.out l.out l.put
-
-abbrev pub decreases-loop-x : goal.decreases-loop-x
-decreases-loop-x l = l.end - l.x

@@ -2,7 +2,7 @@
 -- calls the others at its own level, `join` calls `operands` a level down, which calls `node` there, and `quantifier` and
 -- `some` call `node` a level down. The loop of `operands`: the operands behind the first stand up to the one reached, whatever
 -- nodes they are.
-use Prim.Native.Nat.{◌+◌, ◌*◌, ◌-◌, ◌<◌}
+use Prim.Native.Nat.{◌+◌, ◌*◌, ◌<◌}
 use native.Mathlib.Omega.{arith}
 use mathlib.Core.Path.{◌≡◌, refl, sym, ap, ◌∙◌}
 use mathlib.Core.Bool.{true, false, cond}
@@ -10,7 +10,7 @@ use lib.ListN.{length}
 use lib.Dec.{eqb}
 use Rattle.model.specs.Bytes.{bytes}
 use Rattle.model.specs.Tptp.{connective}
-use Rattle.text.specs.declared.writing.Put.TheVariants as P
+use Rattle.std.specs.Prelude.{Some}
 use Rattle.model.specs.Words.{word}
 use Rattle.model.specs.Tag.{tag_of}
 use Rattle.policies.specs.declared.node.Tag.{Tag}
@@ -154,8 +154,8 @@ operands-node-nodes-requires t c =
     (arith, here-low a.words.now a.above a.scope a.at (operands_headed c.requires.2).first) in
     (omega (arith, operands-low, c.decreases), (c.requires.0, (operands_headed c.requires.2).first))
 
-pub operands-loop-i-init : goal.operands-loop-i-init
-operands-loop-i-init t c =
+pub operands-loop-init : goal.operands-loop-init
+operands-loop-init t c =
     let operands-first : let a = c.args in (h : PrintableAll a.words.now a.above a.scope a.n a.at) (f : Headed a.words.now a.above a.scope a.n a.at
     h) → Prints (node_text false f.first.tree a.scope) f.first.next a.before a.out.now c.node-nodes.new.out c.node-nodes.result = λ h f.
     operand_prints f.first.tree _ _ (c.node-nodes.ensures f.first) refl in
@@ -168,8 +168,8 @@ operands-loop-i-init t c =
     λ h f. more-none c.requires.1 c.node-nodes.result (operands-stand h f)
     (operands-first h f).ends
 
-pub operands-returns-in_default : goal.operands-returns-in_default
-operands-returns-in_default t c =
+pub operands-returns-in_err-next : goal.operands-returns-in_err-next
+operands-returns-in_err-next t c =
     let operands_headed : let a = c.args in (h : PrintableAll a.words.now a.above a.scope a.n a.at) → Headed a.words.now a.above a.scope a.n a.at h =
     λ h. let a = c.args in headed a.words.now a.above a.scope a.n a.at h c.requires.1 in
     let operands-first : let a = c.args in (h : PrintableAll a.words.now a.above a.scope a.n a.at) (f : Headed a.words.now a.above a.scope a.n a.at
@@ -181,40 +181,40 @@ operands-returns-in_default t c =
           = (operands-first h f).adds;
       long = c.node-nodes.auto.out;
     } in
-    λ h. let f = operands_headed h in more-full (c.loop-i.invariant h f) (operands-stand h f)
-    c.in_default.is
+    λ h. let f = operands_headed h in
+    rw c.from_residual.ensures (more-full (c.loop.invariant h f) (operands-stand h f) c.in_err-next.was)
 
 pub operands-put_connective-sign-requires : goal.operands-put_connective-sign-requires
 operands-put_connective-sign-requires t c =
     let operands_headed : let a = c.args in (h : PrintableAll a.words.now a.above a.scope a.n a.at) → Headed a.words.now a.above a.scope a.n a.at h =
     λ h. let a = c.args in headed a.words.now a.above a.scope a.n a.at h c.requires.1 in
-    let operands-more : let a = c.args in let h = c.requires.2 in More a.words.now a.above a.scope a.n a.at a.every h (operands_headed h) c.loop-i.i
-    (wrote c.node-nodes.result) c.node-nodes.new.out c.loop-i.out c.loop-i.nodes = let h = c.requires.2 in
-    c.loop-i.invariant h (operands_headed h) in
-    more-fits (operands-more) c.in-At.is
+    let operands-more : let a = c.args in let h = c.requires.2 in More a.words.now a.above a.scope a.n a.at a.every h (operands_headed h) c.loop.counter
+    (wrote c.node-nodes.result) c.node-nodes.new.out c.loop.out c.loop.nodes = let h = c.requires.2 in
+    c.loop.invariant h (operands_headed h) in
+    more-fits (operands-more) c.in_ok-next.was
 
-pub operands-node-nodes-requires-in-loop-i : goal.operands-node-nodes-requires-in-loop-i
-operands-node-nodes-requires-in-loop-i t c =
+pub operands-node-nodes-requires-in-loop : goal.operands-node-nodes-requires-in-loop
+operands-node-nodes-requires-in-loop t c =
     let operands_headed : let a = c.args in (h : PrintableAll a.words.now a.above a.scope a.n a.at) → Headed a.words.now a.above a.scope a.n a.at h =
     λ h. let a = c.args in headed a.words.now a.above a.scope a.n a.at h c.requires.1 in
     let operands-low : c.args.above < 64 = let a = c.args in omega
     (arith, here-low a.words.now a.above a.scope a.at (operands_headed c.requires.2).first) in
-    let operands-more : let a = c.args in let h = c.requires.2 in More a.words.now a.above a.scope a.n a.at a.every h (operands_headed h) c.loop-i.i
-    (wrote c.node-nodes.result) c.node-nodes.new.out c.loop-i.out c.loop-i.nodes = let h = c.requires.2 in
-    c.loop-i.invariant h (operands_headed h) in
-    let operands_sign : Behind (connective c.args.every) (P.At c.in-At.end) c.loop-i.out c.put_connective-sign.new.out c.put_connective-sign.result =
+    let operands-more : let a = c.args in let h = c.requires.2 in More a.words.now a.above a.scope a.n a.at a.every h (operands_headed h) c.loop.counter
+    (wrote c.node-nodes.result) c.node-nodes.new.out c.loop.out c.loop.nodes = let h = c.requires.2 in
+    c.loop.invariant h (operands_headed h) in
+    let operands_sign : Behind (connective c.args.every) (Some c.in_ok-next.field-0.end) c.loop.out c.put_connective-sign.new.out c.put_connective-sign.result =
     record { adds = c.put_connective-sign.ensures; long = c.put_connective-sign.auto.out } in (
       omega (arith, operands-low, c.decreases),
-      (behind-fits (operands_sign), more-here (operands-more) c.in-At.is c.loop-i-test.true),
+      (behind-fits (operands_sign), more-here (operands-more) c.in_ok-next.was c.loop-test.true),
     )
 
-pub operands-loop-i-preserved : goal.operands-loop-i-preserved
-operands-loop-i-preserved t c =
-    let operands_sign : Behind (connective c.args.every) (P.At c.in-At.end) c.loop-i.out c.put_connective-sign.new.out c.put_connective-sign.result =
+pub operands-loop-preserved : goal.operands-loop-preserved
+operands-loop-preserved t c =
+    let operands_sign : Behind (connective c.args.every) (Some c.in_ok-next.field-0.end) c.loop.out c.put_connective-sign.new.out c.put_connective-sign.result =
     record { adds = c.put_connective-sign.ensures; long = c.put_connective-sign.auto.out } in
     λ h f.
-    more_turn (c.loop-i.invariant h f) c.in-At.is c.loop-i-test.true (operands_sign) _ c.node-nodes-in-loop-i.ensures refl
-    c.node-nodes-in-loop-i.auto.out
+    more_turn (c.loop.invariant h f) c.in_ok-next.was c.loop-test.true (operands_sign) _ c.node-nodes-in-loop.ensures refl
+    c.node-nodes-in-loop.auto.out
 
 pub operands-returns : goal.operands-returns
 operands-returns t c =
@@ -229,8 +229,8 @@ operands-returns t c =
           = (operands-first h f).adds;
       long = c.node-nodes.auto.out;
     } in
-    λ h. let f = operands_headed h in more_end (c.loop-i.invariant h f) (operands-stand h f)
-    c.loop-i-test.false
+    λ h. let f = operands_headed h in more_end (c.loop.invariant h f) (operands-stand h f)
+    c.loop-test.false
 
 pub quantifier-overflow_mul-first : goal.quantifier-overflow_mul-first
 quantifier-overflow_mul-first t c =
@@ -278,8 +278,8 @@ quantifier-overflow_add-scope t c =
     c.value-m.ensures refl in
     omega (arith, (quantifier-parts c.requires.2).few)
 
-pub quantifier-node-restriction-requires : goal.quantifier-node-restriction-requires
-quantifier-node-restriction-requires t c =
+pub quantifier-node-requires : goal.quantifier-node-requires
+quantifier-node-requires t c =
     let quantifier-parts : let v = c.value-v.result in let m = c.value-m.result in let a =
     c.args in (h : Printable a.words.now a.above a.scope a.at) → Quantified a.words.now a.above a.scope a.at a.every v m (a.at + 3 + v * m) h = λ
     h. let a = c.args in
@@ -293,8 +293,8 @@ quantifier-node-restriction-requires t c =
       (behind-fits (quantifier_lead), q.restricts),
     )
 
-pub quantifier-returns-in_default : goal.quantifier-returns-in_default
-quantifier-returns-in_default t c =
+pub quantifier-returns-in_err-restriction : goal.quantifier-returns-in_err-restriction
+quantifier-returns-in_err-restriction t c =
     let quantifier-parts : let v = c.value-v.result in let m = c.value-m.result in let a =
     c.args in (h : Printable a.words.now a.above a.scope a.at) → Quantified a.words.now a.above a.scope a.at a.every v m (a.at + 3 + v * m) h = λ
     h. let a = c.args in
@@ -302,8 +302,8 @@ quantifier-returns-in_default t c =
     c.value-m.ensures refl in
     let quantifier_lead : let a = c.args in Behind (head_text a.every a.scope c.value-v.result (eqb c.value-m.result 0)) a.before a.out.now
     c.put_head-head.new.out c.put_head-head.result = record { adds = c.put_head-head.ensures; long = c.put_head-head.auto.out } in
-    λ h. quantifier-full (quantifier-parts h) (quantifier_lead) c.node-restriction.ensures
-    c.node-restriction.auto.out c.in_default.is
+    λ h. rw c.from_residual.ensures
+    (quantifier-full (quantifier-parts h) (quantifier_lead) c.node.ensures c.node.auto.out c.in_err-restriction.was)
 
 pub quantifier-put_tuples-excluded-requires : goal.quantifier-put_tuples-excluded-requires
 quantifier-put_tuples-excluded-requires t c =
@@ -315,7 +315,7 @@ quantifier-put_tuples-excluded-requires t c =
     let quantifier_lead : let a = c.args in Behind (head_text a.every a.scope c.value-v.result (eqb c.value-m.result 0)) a.before a.out.now
     c.put_head-head.new.out c.put_head-head.result = record { adds = c.put_head-head.ensures; long = c.put_head-head.auto.out } in
     let q = quantifier-parts c.requires.2 in (
-      restriction-fits q (quantifier_lead) c.node-restriction.ensures c.node-restriction.auto.out c.in-At.is,
+      restriction-fits q (quantifier_lead) c.node.ensures c.node.auto.out c.in_ok-restriction.was,
       q.some,
       q.few,
       q.excluded,
@@ -331,10 +331,10 @@ quantifier-put_either-sign-requires t c =
     let quantifier_lead : let a = c.args in Behind (head_text a.every a.scope c.value-v.result (eqb c.value-m.result 0)) a.before a.out.now
     c.put_head-head.new.out c.put_head-head.result = record { adds = c.put_head-head.ensures; long = c.put_head-head.auto.out } in
     let quantifier-tuples : let a = c.args in (t : Tuples a.words.now c.value-v.result (a.at + 3) (a.at + 3 + c.value-v.result * c.value-m.result)) →
-    Behind (closed_text a.scope t.list) (P.At c.in-At.end) c.node-restriction.new.out c.put_tuples-excluded.new.out c.put_tuples-excluded.result
+    Behind (closed_text a.scope t.list) (Some c.in_ok-restriction.restriction.end) c.node.new.out c.put_tuples-excluded.new.out c.put_tuples-excluded.result
     = λ t. record { adds = c.put_tuples-excluded.ensures t; long = c.put_tuples-excluded.auto.out } in
     let q = quantifier-parts c.requires.2 in
-    tuples-fits q (quantifier_lead) c.node-restriction.ensures c.node-restriction.auto.out c.in-At.is (quantifier-tuples)
+    tuples-fits q (quantifier_lead) c.node.ensures c.node.auto.out c.in_ok-restriction.was (quantifier-tuples)
 
 pub quantifier-overflow_add-above-2 : goal.quantifier-overflow_add-above-2
 quantifier-overflow_add-above-2 t c =
@@ -367,7 +367,7 @@ quantifier-node-body-requires t c =
       omega (arith, here-low a.words.now a.above a.scope a.at c.requires.2, c.decreases),
       (
         behind-fits (quantifier_sign),
-        body-here q (quantifier_lead) c.node-restriction.ensures c.node-restriction.auto.out c.in-At.is,
+        body-here q (quantifier_lead) c.node.ensures c.node.auto.out c.in_ok-restriction.was,
       ),
     )
 
@@ -382,12 +382,12 @@ quantifier-close-requires t c =
     let quantifier_lead : let a = c.args in Behind (head_text a.every a.scope c.value-v.result (eqb c.value-m.result 0)) a.before a.out.now
     c.put_head-head.new.out c.put_head-head.result = record { adds = c.put_head-head.ensures; long = c.put_head-head.auto.out } in
     let quantifier-tuples : let a = c.args in (t : Tuples a.words.now c.value-v.result (a.at + 3) (a.at + 3 + c.value-v.result * c.value-m.result)) →
-    Behind (closed_text a.scope t.list) (P.At c.in-At.end) c.node-restriction.new.out c.put_tuples-excluded.new.out c.put_tuples-excluded.result
+    Behind (closed_text a.scope t.list) (Some c.in_ok-restriction.restriction.end) c.node.new.out c.put_tuples-excluded.new.out c.put_tuples-excluded.result
     = λ t. record { adds = c.put_tuples-excluded.ensures t; long = c.put_tuples-excluded.auto.out } in
     let quantifier_sign : let a = c.args in Behind (cond a.every (bytes "=>") (bytes "&")) c.put_tuples-excluded.result c.put_tuples-excluded.new.out
     c.put_either-sign.new.out c.put_either-sign.result = record { adds = c.put_either-sign.ensures; long = c.put_either-sign.auto.out } in
     let q = quantifier-parts c.requires.2 in
-    body-fits q (quantifier_lead) c.node-restriction.ensures c.node-restriction.auto.out c.in-At.is (quantifier-tuples)
+    body-fits q (quantifier_lead) c.node.ensures c.node.auto.out c.in_ok-restriction.was (quantifier-tuples)
     (quantifier_sign) c.node-body.ensures c.node-body.auto.out
 
 pub quantifier-returns : goal.quantifier-returns
@@ -401,13 +401,13 @@ quantifier-returns t c =
     let quantifier_lead : let a = c.args in Behind (head_text a.every a.scope c.value-v.result (eqb c.value-m.result 0)) a.before a.out.now
     c.put_head-head.new.out c.put_head-head.result = record { adds = c.put_head-head.ensures; long = c.put_head-head.auto.out } in
     let quantifier-tuples : let a = c.args in (t : Tuples a.words.now c.value-v.result (a.at + 3) (a.at + 3 + c.value-v.result * c.value-m.result)) →
-    Behind (closed_text a.scope t.list) (P.At c.in-At.end) c.node-restriction.new.out c.put_tuples-excluded.new.out c.put_tuples-excluded.result
+    Behind (closed_text a.scope t.list) (Some c.in_ok-restriction.restriction.end) c.node.new.out c.put_tuples-excluded.new.out c.put_tuples-excluded.result
     = λ t. record { adds = c.put_tuples-excluded.ensures t; long = c.put_tuples-excluded.auto.out } in
     let quantifier_sign : let a = c.args in Behind (cond a.every (bytes "=>") (bytes "&")) c.put_tuples-excluded.result c.put_tuples-excluded.new.out
     c.put_either-sign.new.out c.put_either-sign.result = record { adds = c.put_either-sign.ensures; long = c.put_either-sign.auto.out } in
     λ h.
-    quantifier-stands (quantifier-parts h) (quantifier_lead) c.node-restriction.ensures c.node-restriction.auto.out
-    c.in-At.is (quantifier-tuples) (quantifier_sign) c.node-body.ensures c.node-body.auto.out
+    quantifier-stands (quantifier-parts h) (quantifier_lead) c.node.ensures c.node.auto.out
+    c.in_ok-restriction.was (quantifier-tuples) (quantifier_sign) c.node-body.ensures c.node-body.auto.out
     c.close.ensures c.close.auto.out
 
 pub some-put_head-head-requires : goal.some-put_head-head-requires

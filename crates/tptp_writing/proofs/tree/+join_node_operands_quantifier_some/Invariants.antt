@@ -23,10 +23,7 @@ decreases-quantifier l = 191 - 3 * l.above
 abbrev pub decreases-some : goal.decreases-some
 decreases-some l = 191 - 3 * l.above
 
-abbrev pub invariant-operands-loop-i : goal.invariant-operands-loop-i
-invariant-operands-loop-i l =
+abbrev pub invariant-operands-loop : goal.invariant-operands-loop
+invariant-operands-loop l =
     (h : PrintableAll l.words l.above l.scope l.n l.at) (f : Headed l.words l.above l.scope l.n l.at h) →
-    More l.words l.above l.scope l.n l.at l.every h f l.i (wrote l.initial.nodes) l.initial.out l.out l.nodes
-
-abbrev pub decreases-operands-loop-i : goal.decreases-operands-loop-i
-decreases-operands-loop-i l = l.n - l.i
+    More l.words l.above l.scope l.n l.at l.every h f l.counter (wrote l.initial.nodes) l.initial.out l.out l.nodes

@@ -1,12 +1,12 @@
 -- `tptp_writing::tree::compare` meets its contract: texts one behind another.
-use Prim.Native.Nat.{◌+◌}
+use Prim.Native.Nat.{ℕ, ◌+◌}
 use mathlib.Core.Path.{refl}
 use mathlib.Core.Bool.{cond}
 use mathlib.Core.List.{◌++◌}
 use Rattle.model.specs.Words.{word}
 use Rattle.model.specs.Bytes.{Text, bytes}
 use Rattle.model.specs.Decimal.{decimal}
-use Rattle.text.specs.declared.writing.Put.{Put}
+use Rattle.std.specs.Prelude.{Option}
 use Rattle.tptp_putting.specs.Texts.{term_text}
 use Rattle.tptp_putting.proofs.AddLaws.{Behind, behind_more}
 use Rattle.tptp_writing.proofs.NodeTextLaws.{compare-text}
@@ -23,7 +23,7 @@ returns c =
     let sum_text : Text = number_text ++ bytes ")," in
     let right_text : Text = sum_text ++ term_text c.args.words.now (c.args.at + 4) in
     let close_text : Text = right_text ++ bytes ")" in
-    let Stands : Text → Text → Put → Type 0 = λ text out r. Behind text c.args.before c.args.out.now out r in
+    let Stands : Text → Text → Option ℕ → Type 0 = λ text out r. Behind text c.args.before c.args.out.now out r in
     let name : Stands (name_text) c.put_either-name.new.out c.put_either-name.result = record { adds = c.put_either-name.ensures; long = c.put_either-name.auto.out } in
     let left : Stands (left_text) c.put_term-left.new.out c.put_term-left.result = behind_more (name) (term_text _ _) c.put_term-left.ensures c.put_term-left.auto.out in
     let comma : Stands (comma_text) c.put_bytes-comma.new.out c.put_bytes-comma.result = behind_more (left) (bytes ",") c.put_bytes-comma.ensures c.put_bytes-comma.auto.out in

@@ -1,7 +1,0 @@
--- `nodes::ground::instance` meets its contract. The loop's invariant: the environment so far binds i variables more, to the first
--- i numbers of the instance.
-use Rattle.nodes.proofs.GroundLaws.{Binding}
-use Rattle.nodes.proofs.ground.instance.Given as goal
-
-abbrev pub invariant-loop-i : goal.invariant-loop-i
-invariant-loop-i l = Binding l.scratch l.from l.scope l.initial.bound l.bound l.i
