@@ -31,9 +31,6 @@ pub record Scans (text : Text) (at i depth : ℕ) : Type 0 where
   pub few : depth ≤ i
   pub same : stopping (drop at text) 0 ≡ stopping (drop i text) depth
 
-pub scan_start : (text : Text) (at : ℕ) → at ≤ length text → Scans text at at 0
-scan_start text at h = record { low = omega arith; high = h; few = omega arith; same = refl }
-
 module _ (text : Text) (at i depth : ℕ) (s : Scans text at i depth) where
   -- the end of the text
   pub scan_end : i ≡ length text → StopsAt text at (length text)
@@ -81,12 +78,6 @@ module _ (text : Text) (at i depth : ℕ) (s : Scans text at i depth) where
       scan_other depth' e is =
           goes depth' (omega (arith, s.few))
           (rw (here text i h, ne_eqb (get_or text i 0) 40 opens, ne_eqb (get_or text i 0) 41 closes, e, is))
-
--- where the scan stops, the connective that stands there foretells
-pub foretold :
-    (text : Text) (at stop c : ℕ) (r : Bool) → StopsAt text at stop → r ≡ begins_with c (drop stop text) → c ≡ 38 → Foretells text at r
-foretold text at stop c r s e is =
-    record { tells = λ _. e ∙ ap (λ (k : ℕ). begins_with k (drop stop text)) is ∙ ap (begins_with 38) s.stops }
 
 -- the byte that is looked up at an index begins the text from there on
 pub same_byte :

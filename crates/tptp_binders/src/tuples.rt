@@ -90,6 +90,7 @@ pub fn tuples(
     let mut next = at;
     let mut count = 0;
     let mut to = w;
+    // By hand: the index goes on behind the tuple that was read.
     loop {
         let i = skip(text, next);
         if text.len() <= i {

@@ -27,7 +27,7 @@ use Rattle.std.specs.Prelude.{Result, Ok, Err}
 use Rattle.model.specs.declared.Refused.{Refused}
 use Rattle.modes.specs.Mode.{set_of}
 use Rattle.tptp_tokens.specs.Laying.{most_words, Laid}
-use Rattle.tptp_state.specs.Told.{Passed, told, Modes, Told, Entered, Handed, Joined}
+use Rattle.tptp_state.specs.Told.{told, Modes, Told, Entered, Handed, Joined}
 use Rattle.tptp_reading.specs.Formula.{bindings_of, ModesAll, ToldAll}
 use Rattle.tptp_state.specs.declared.state.State.{State}
 use Rattle.tptp_binders.proofs.TuplesLaws.{sets-append}

@@ -1,12 +1,11 @@
 -- Laws for the reading of an operand: by its first byte.
 use Prim.Native.Nat.{ℕ, zero, suc, ◌-◌, ◌≤◌, ◌<◌}
 use native.Mathlib.Omega.{arith}
-use mathlib.Core.Path.{◌≡◌, refl, sym, ap, subst, ◌∙◌}
+use mathlib.Core.Path.{◌≡◌, refl, sym, ap, ◌∙◌}
 use mathlib.Core.Bool.{Bool, true, false, cond, ◌&&◌}
-use mathlib.Core.Logic.{⊎_elim}
 use lib.ListN.{length, get_or}
 use lib.Dec.{eqb}
-use borrow.Author.Tests.{eqb-true, ne_eqb}
+use borrow.Author.Tests.{ne_eqb}
 use Rattle.model.specs.Words.{Words}
 use Rattle.model.specs.Bytes.{Text, blank, dollar, letter_p, tilde, parenthesis, interrogation, exclamation}
 use Rattle.model.specs.Answer.{refused}
@@ -19,7 +18,7 @@ use Rattle.model.specs.TptpReading.{Reader, stop, look, opening, readers, read_d
 use Rattle.model.specs.TptpReading.{read_some, read_operand}
 use Rattle.model.specs.declared.Refusal.{Refusal}
 use Rattle.model.specs.declared.Refusal.TheVariants.{Tptp}
-use Rattle.laws.specs.Words.Tests.{clash, decide}
+use Rattle.laws.specs.Words.Tests.{clash}
 use Rattle.laws.specs.Tptp.Sound.Policies.{operand_sound}
 use Rattle.tptp_tokens.specs.Steps.{Step, from, Skips, Reads, Value, Valued}
 use Rattle.tptp_leaves.specs.Leaves.{LeafStands, read_leaf}
@@ -160,19 +159,6 @@ module _ (room : ℕ) (formula : Bool) (scope : ℕ) where
         reads = record { low = v.reads.low; high = v.reads.high; reads = operand-leaf ∙ v.reads.reads };
         holds = told v.what v.holds good;
       }
-
--- what the tests of the first byte tell
-pub leaf-byte :
-    {b : ℕ} {formula : Bool} → (b ≡ parenthesis → ⊥) → (b ≡ interrogation → ⊥) → (b ≡ exclamation → formula ≡ false) → LeafByte formula b
-leaf-byte {b} {formula} p q f = record {
-  join = p;
-  some = q;
-  quantifier =
-      ⊎_elim
-      (λ e. ap (λ (x : Bool). eqb b exclamation && x) (f (eqb-true b exclamation e)) ∙ ap (λ (x : Bool). x && false) e)
-      (λ e. ap (λ (x : Bool). x && formula) e)
-      (decide (eqb b exclamation));
-}
 
 -- a role that is no formula's is a restriction's
 pub restricts : (role : L.Role) → is_formula role ≡ false → role ≡ L.Role.restriction

@@ -1,7 +1,7 @@
 -- Laws for what is read behind a parenthesis: there was room for it, and what is read there has room for one less.
 use Prim.Native.Nat.{ℕ, zero, suc, ◌-◌, ◌≤◌}
 use native.Mathlib.Omega.{arith}
-use mathlib.Core.Path.{◌≡◌, sym, ap, subst, ◌∙◌}
+use mathlib.Core.Path.{◌≡◌, ap}
 use mathlib.Core.Bool.{cond}
 use mathlib.Core.Logic.{⊎_elim}
 use lib.Dec.{eqb}

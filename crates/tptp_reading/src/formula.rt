@@ -1,6 +1,7 @@
 // Formulas and restrictions, as they stand in a text: they are read, asked questions 4 to 7 and laid in a buffer in one walk. Each way
 // deeper opens a parenthesis; operands and tuples are loops. What a node is to the node above it hangs, for a first operand, on the
-// connective behind it, which is looked up ahead. A parenthesis takes at most some 900 bytes of stack: what is known is lent, and a node with none below it is read by two calls, so that the frame of an operand has no room for its words.
+// connective behind it, which is looked up ahead. A parenthesis takes at most some 900 bytes of stack: what is known is lent, and a node
+// with none below it is read by two calls, so that the frame of an operand has no room for its words.
 ghost use Rattle.std.specs.Prelude.{◌≡◌, true, false, cond, ◌+◌, ◌*◌, ◌≤◌, ◌<◌, length, get_or, drop};
 ghost use Rattle.model.specs.Bytes.{bytes, blank, ampersand, bar, exclamation, interrogation};
 ghost use Rattle.model.specs.Level.{restriction};
@@ -111,6 +112,7 @@ fn children(
     let connective = connective(every);
     let mut next = at;
     let mut n = 1;
+    // By hand: the index goes on behind the operand that was read.
     loop {
         let i = skip(text, next);
         if text.len() <= i {
@@ -259,8 +261,8 @@ fn count_of(listed: Result<Counted, Refused>) -> usize
 }
 
 // A restriction with excluded tuples, in parentheses of their own, the first of which is open; the connective before the first tuple
-// stands at an index ahead. The tuples are read first: in the words they stand before the restriction. In the text
-// they stand behind it, so that their refusal waits for that of the restriction.
+// stands at an index ahead. The tuples are read first: in the words they stand before the restriction. In the text they stand behind it,
+// so that their refusal waits for that of the restriction.
 #[cycle(chain_children_excluding_operand_quantifier_restricted_some_whole)]
 fn excluding(
     table: &[i32],

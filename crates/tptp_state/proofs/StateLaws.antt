@@ -58,10 +58,6 @@ unfoldable carried : Outcome (Unit {0}) → Outcome Variables
 carried (refused q p) = refused q p
 carried (passed u) = passed (λ x. false)
 
--- a pass is no refusal
-refused-passes : {e : Refused} → Err e ≡ Passed → ⊥
-refused-passes e = refused-passed (ap outcome e)
-
 -- question 7 of a node whose words stand apart
 module _ (table own : Words) (above scope : ℕ) (s : State) (ready : Ready table above scope s) where
   pub bound-moded : {q : Refused} → s.moded ≡ Err q → LeafBound table own above scope s s

@@ -85,6 +85,7 @@ fn lay_word(out: &mut [i32], w: usize, own: &[i32], i: usize)
 }
 
 // The first words of one slice are laid in another, from an index on, as far as it reaches.
+// By hand: for a copy of slices, both would have to be cut to what the buffer has left.
 fn lay_own(out: &mut [i32], w: usize, own: &[i32], n: usize)
     requires { (n ≤ length own.now) × (w + n < 2 ^ 64) }
     ensures { out.new ≡ sets out.old w (take n own.now) }

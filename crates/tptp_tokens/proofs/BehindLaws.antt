@@ -1,11 +1,10 @@
 -- Laws for what is read behind something else.
 use Prim.Native.Nat.{ℕ, ◌≤◌}
 use native.Mathlib.Omega.{arith}
-use mathlib.Core.Path.{◌≡◌, sym, subst, ◌∙◌}
+use mathlib.Core.Path.{◌≡◌, ◌∙◌}
 use Rattle.model.specs.Bytes.{Text}
 use Rattle.model.specs.TptpReading.{Reader, give, ◌>>=◌}
 use Rattle.std.specs.Prelude.{Ok, Err}
-use Rattle.model.specs.declared.Refused.{Refused}
 use Rattle.tptp_tokens.specs.Steps.{Step, from, Steps, Valued}
 use Rattle.tptp_tokens.proofs.TokenLaws.{onward, halt}
 

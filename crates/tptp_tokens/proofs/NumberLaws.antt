@@ -2,21 +2,23 @@
 use Prim.Native.Nat.{ℕ, ◌+◌, ◌*◌, ◌-◌, ◌≤◌, ◌<◌}
 use native.Mathlib.Numerals.{add-one}
 use native.Mathlib.Omega.{arith}
-use mathlib.Core.Path.{◌≡◌, sym, ◌∙◌}
-use mathlib.Core.Bool.{true, false}
+use mathlib.Core.Path.{◌≡◌, refl, sym, ap, ap₂, fun_ext, ◌∙◌}
+use mathlib.Core.Bool.{Bool, true, false, not, ◌&&◌, ◌||◌}
 use mathlib.Core.List.{[], ◌∷◌}
 use lib.ListN.{length, get_or}
-use borrow.Author.Tests.{le-leb, lt-leb, eq-eqb, ne_eqb}
+use borrow.Author.Tests.{le-leb, lt-leb, eq-eqb, ne_eqb, ltb-true, ltb-false, leb-true, leb-false}
 use Rattle.model.specs.Bytes.{Text, digit, minus}
 use Rattle.model.specs.Answer.{refused}
 use Rattle.model.specs.TptpReading.{give, look, literal, more_digits, number, natural, integer}
 use Rattle.model.specs.declared.Refusal.TheVariants.{Tptp}
-use Rattle.laws.specs.Decimal.{digit-range}
 use Rattle.tptp_tokens.specs.Steps.{from, got, Skips}
 use Rattle.std.specs.Prelude.{Result, Ok, Err}
 use Rattle.model.specs.declared.Refused.{Refused}
 use Rattle.tptp_tokens.specs.declared.numbers.Digits.{Digits}
-use Rattle.tptp_tokens.specs.Numbers.{More, Naturals, behind_minus, Magnitudes, Integers, with_sign}
+use Rattle.tptp_tokens.specs.Numbers.{More, digit-from, Numbers, Naturals, behind_minus, Magnitudes, Integers, with_sign}
+use Rattle.laws.specs.Words.Tests.{decide, clash, or_false_left, or_false_right}
+use mathlib.Core.Logic.{⊎_elim}
+use lib.Dec.{leb, ltb, eqb}
 use Rattle.tptp_tokens.proofs.TokenLaws.{here, over, onward, halt, look-here, look-over, literal-more, literal_end}
 
 -- one digit more; none behind a 0; too great a number; no digit; the text's end
@@ -47,53 +49,89 @@ module _ (text : Text) (i most n : ℕ) where
   unfolding more_digits
   digits_end e = rw (e, over text (length text) (omega arith))
 
+and_true : (b : Bool) → (b && true) ≡ b
+and_true true = refl
+and_true false = refl
+
+and_false : (b : Bool) → (b && false) ≡ false
+and_false true = refl
+and_false false = refl
+
 -- the first digit
+module _ (text : Text) (at least most : ℕ) where
+  pub number-over : length text ≤ at → from (number (digit-from least) most) text at ≡ refused Tptp at
+  unfolding number
+  number-over h = rw (over text at h)
+
+  pub number-other :
+      at < length text → (ltb (get_or text at 0) least || ltb 57 (get_or text at 0)) ≡ true →
+      from (number (digit-from least) most) text at ≡ refused Tptp at
+  unfolding number
+  number-other h e = rw (here text at h, outside (get_or text at 0) e)
+    where
+      outside : (b : ℕ) → (ltb b least || ltb 57 b) ≡ true → digit-from least b ≡ false
+      outside b e =
+          ⊎_elim
+          (λ k. rw (lt-leb least b (ltb-true b least k)))
+          (λ k. ⊎_elim (λ l. rw (lt-leb b 57 (ltb-true 57 b l)) (and_false (leb least b))) (λ l. clash e (ap₂ (λ (x y : Bool). x || y) k l)) (decide (ltb 57 b)))
+          (decide (ltb b least))
+
+  module _ (h : at < length text) (e : (ltb (get_or text at 0) least || ltb 57 (get_or text at 0)) ≡ false) where
+    pub within : (least ≤ get_or text at 0) × (get_or text at 0 ≤ 57)
+    within =
+        (ltb-false (get_or text at 0) least (or_false_left _ _ e), ltb-false 57 (get_or text at 0) (or_false_right (ltb (get_or text at 0) least) _ e))
+
+    pub number-first : (r : Result Digits Refused) → 48 ≤ least → More most (get_or text at 0 - 48) text (at + 1) r → Numbers least most text at r
+    unfolding number
+    number-first (Ok d) k m = (
+      record {
+        low = omega (arith, m.0.low);
+        high = m.0.high;
+        reads = rw (here text at h, le-leb least (get_or text at 0) within.0, le-leb (get_or text at 0) 57 within.1, sym (add-one at)) m.0.reads;
+      },
+      omega (arith, m.0.low),
+      omega (arith, m.1, within.0),
+      m.2,
+    )
+    number-first (Err q) k m =
+        rw (here text at h, le-leb least (get_or text at 0) within.0, le-leb (get_or text at 0) 57 within.1, sym (add-one at)) m
+
 module _ (text : Text) (at : ℕ) where
-  pub natural-over : length text ≤ at → from natural text at ≡ refused Tptp at
-  unfolding natural number
-  natural-over h = rw (over text at h)
+  -- from 0 on, and from 1 on
+  pub natural-number : (r : Result Digits Refused) → Numbers 48 2147483647 text at r → Naturals text at r
+  unfolding natural digit
+  natural-number (Ok d) m = (m.0, m.1, m.3)
+  natural-number (Err q) m = m
 
-  pub natural-other : at < length text → digit (get_or text at 0) ≡ false → from natural text at ≡ refused Tptp at
-  unfolding natural number
-  natural-other h d = rw (here text at h, d)
+  -- tests that are alike where they are asked
+  same_test : (f g : ℕ → Bool) (most : ℕ) → ((c : ℕ) → f c ≡ g c) → from (number f most) text at ≡ from (number g most) text at
+  same_test f g most e = ap (λ (t : ℕ → Bool). from (number t most) text at) (fun_ext e)
 
-  pub natural-first :
-      (r : Result Digits Refused) → at < length text → digit (get_or text at 0) ≡ true → More 2147483647 (get_or text at 0 - 48) text (at + 1) r → Naturals text at r
-  unfolding natural number
-  natural-first (Ok r) h d m = (
-    record { low = omega (arith, m.0.low); high = m.0.high; reads = rw (here text at h, d, sym (add-one at)) m.0.reads },
-    omega (arith, m.0.low),
-    m.2,
+  from_one : (c : ℕ) → (digit c && not (eqb c 48)) ≡ digit-from 49 c
+  unfolding digit
+  from_one c =
+      ⊎_elim
+      (λ k.
+      let low = leb-true 49 c k in
+      rw (k, le-leb 48 c (omega arith), ne_eqb c 48 (λ z. omega arith)) (and_true (leb c 57)))
+      (λ k.
+      let high = leb-false 49 c k in
+      rw k
+      (⊎_elim
+      (λ l.
+      let low = leb-true 48 c l in
+      rw (eq-eqb c 48 (omega arith)) (and_false (digit c)))
+      (λ l. ap (λ (b : Bool). b && leb c 57 && not (eqb c 48)) l)
+      (decide (leb 48 c))))
+      (decide (leb 49 c))
+
+  pub magnitude-number : (r : Result Digits Refused) → Numbers 49 2147483648 text at r → Magnitudes text at r
+  magnitude-number (Ok d) m = (
+    record { low = m.0.low; high = m.0.high; reads = same_test _ _ 2147483648 from_one ∙ m.0.reads },
+    omega (arith, m.2),
+    m.3,
   )
-  natural-first (Err r) h d m = rw (here text at h, d, sym (add-one at)) m
-
-  pub minus-over : length text ≤ at → from behind_minus text at ≡ refused Tptp at
-  unfolding number
-  minus-over h = rw (over text at h)
-
-  pub minus-other : at < length text → digit (get_or text at 0) ≡ false → from behind_minus text at ≡ refused Tptp at
-  unfolding number
-  minus-other h d = rw (here text at h, d)
-
-  pub minus-nought : at < length text → digit (get_or text at 0) ≡ true → get_or text at 0 ≡ 48 → from behind_minus text at ≡ refused Tptp at
-  unfolding number
-  minus-nought h d e = rw (here text at h, d, eq-eqb (get_or text at 0) 48 e)
-
-  pub minus-first :
-      (r : Result Digits Refused) → at < length text → digit (get_or text at 0) ≡ true → (get_or text at 0 ≡ 48 → ⊥) →
-      More 2147483648 (get_or text at 0 - 48) text (at + 1) r →
-      Magnitudes text at r
-  unfolding number
-  minus-first (Ok r) h d z m = (
-    record {
-      low = omega (arith, m.0.low);
-      high = m.0.high;
-      reads = rw (here text at h, d, ne_eqb (get_or text at 0) 48 z, sym (add-one at)) m.0.reads;
-    },
-    (let range = digit-range (get_or text at 0) d in omega (arith, m.1, range)),
-    m.2,
-  )
-  minus-first (Err r) h d z m = rw (here text at h, d, ne_eqb (get_or text at 0) 48 z, sym (add-one at)) m
+  magnitude-number (Err q) m = same_test _ _ 2147483648 from_one ∙ m
 
 -- a number with a minus, and one without
 module _ (text : Text) (at i : ℕ) (s : Skips text at i) where

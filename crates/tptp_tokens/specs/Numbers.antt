@@ -1,5 +1,5 @@
 -- What the reading of numbers comes to.
-use Rattle.std.specs.Prelude.{ℕ, ◌≤◌, ◌<◌, ◌≡◌, Bool, ◌&&◌, not, eqb, Result, Ok, Err}
+use Rattle.std.specs.Prelude.{ℕ, ◌≤◌, ◌<◌, ◌≡◌, Bool, ◌+◌, ◌&&◌, not, eqb, leb, Result, Ok, Err}
 use Rattle.model.specs.Bytes.{Text, digit, nought}
 use Rattle.model.specs.Answer.{refused}
 use Rattle.model.specs.TptpReading.{Reader, more_digits, number, natural, integer}
@@ -13,6 +13,15 @@ use Rattle.tptp_tokens.specs.declared.numbers.Signed.{Signed}
 abbrev pub More : (most first : ℕ) (text : Text) (at : ℕ) (digits : Result Digits Refused) → Type 0
 More most first text at (Ok d) = Reads (more_digits most first) text at d.number d.next × (first ≤ d.number) × (d.number ≤ most)
 More most first text at (Err e) = from (more_digits most first) text at ≡ refused e.0 e.1
+
+-- a number that is at most `most`, whose first digit is at least this one; it takes a byte at least
+abbrev pub digit-from : (least : ℕ) → ℕ → Bool
+digit-from least c = leb least c && leb c 57
+
+abbrev pub Numbers : (least most : ℕ) (text : Text) (at : ℕ) (digits : Result Digits Refused) → Type 0
+Numbers least most text at (Ok d) =
+    Reads (number (digit-from least) most) text at d.number d.next × (at < d.next) × (least ≤ d.number + 48) × (d.number ≤ most)
+Numbers least most text at (Err e) = from (number (digit-from least) most) text at ≡ refused e.0 e.1
 
 -- the number of a predicate or a variable, which takes a byte at least
 abbrev pub Naturals : (text : Text) (at : ℕ) (digits : Result Digits Refused) → Type 0

@@ -6,21 +6,12 @@ ghost use Rattle.tptp_tokens.specs.Steps.{Reads, Steps};
 
 use crate::tokens::{Step, skip};
 use model::{Refusal, Refused};
-use text::bytes;
-
-// The byte is a small letter.
-fn is_small(b: u8) -> bool
-    ensures { result ≡ small b }
-{
-    (97 <= b) & (b <= 122)
-}
 
 // The byte is a letter, a digit or an underscore.
 fn is_word(b: u8) -> bool
     ensures { result ≡ word_byte b }
 {
-    let capital = (65 <= b) & (b <= 90);
-    is_small(b) | capital | bytes::digit(b) | (b == 95)
+    b.is_ascii_alphanumeric() | (b == b'_')
 }
 
 // The first index from one on where no letter, digit or underscore stands.
@@ -46,7 +37,7 @@ pub fn name(text: &[u8], at: usize) -> Step
         return Err(Refused(Refusal::Tptp, i));
     }
     let b = text[i];
-    if !is_small(b) {
+    if !b.is_ascii_lowercase() {
         return Err(Refused(Refusal::Tptp, i));
     }
     Ok(word_end(text, i))

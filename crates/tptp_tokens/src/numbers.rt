@@ -47,19 +47,27 @@ fn more_digits(text: &[u8], at: usize, most: usize, first: usize) -> Result<Digi
     })
 }
 
-// The number of a predicate or a variable.
-pub fn natural(text: &[u8], at: usize) -> Result<Digits, Refused>
-    requires { at ≤ length text.now }
-    ensures { N.Naturals text.now at result }
+// A number up to the most, of whose digits the first is at least this one.
+fn number(text: &[u8], at: usize, least: u8, most: usize) -> Result<Digits, Refused>
+    requires { (at ≤ length text.now) × (48 ≤ least) × (9 ≤ most) × (most < 2 ^ 32) }
+    ensures { N.Numbers least most text.now at result }
 {
     if text.len() <= at {
         return Err(Refused(Refusal::Tptp, at));
     }
     let b = text[at];
-    if !bytes::digit(b) {
+    if (b < least) | (b'9' < b) {
         return Err(Refused(Refusal::Tptp, at));
     }
-    more_digits(text, at + 1, 2147483647, (b - bytes::NOUGHT) as usize)
+    more_digits(text, at + 1, most, (b - bytes::NOUGHT) as usize)
+}
+
+// The number of a predicate or a variable.
+pub fn natural(text: &[u8], at: usize) -> Result<Digits, Refused>
+    requires { at ≤ length text.now }
+    ensures { N.Naturals text.now at result }
+{
+    number(text, at, b'0', 2147483647)
 }
 
 // The digits behind a minus.
@@ -67,17 +75,7 @@ fn magnitude(text: &[u8], at: usize) -> Result<Digits, Refused>
     requires { at ≤ length text.now }
     ensures { N.Magnitudes text.now at result }
 {
-    if text.len() <= at {
-        return Err(Refused(Refusal::Tptp, at));
-    }
-    let b = text[at];
-    if !bytes::digit(b) {
-        return Err(Refused(Refusal::Tptp, at));
-    }
-    if b == bytes::NOUGHT {
-        return Err(Refused(Refusal::Tptp, at));
-    }
-    more_digits(text, at + 1, 2147483648, (b - bytes::NOUGHT) as usize)
+    number(text, at, b'1', 2147483648)
 }
 
 // A number with this sign.

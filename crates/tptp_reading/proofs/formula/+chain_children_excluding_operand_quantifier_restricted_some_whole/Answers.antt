@@ -3,7 +3,7 @@
 -- there, two for `children`, `excluding` and `restricted`, which call `operand`, three for `chain`, which calls `children`, and four for
 -- `whole`, which calls `chain`. All other calls are behind a parenthesis.
 -- The loop of `children`: the operands passed are read and told behind the first, and there is fuel for those left.
-use Prim.Native.Nat.{ℕ, ◌+◌, ◌*◌, ◌-◌, min}
+use Prim.Native.Nat.{ℕ, ◌+◌, ◌*◌, min}
 use native.Mathlib.Omega.{arith}
 use mathlib.Core.Path.{sym, refl, ap, ◌∙◌, subst}
 use mathlib.Core.Bool.{true, false}

@@ -3,7 +3,7 @@ use Rattle.model.specs.Bytes.{bytes}
 use Rattle.model.specs.Reading.{is_formula}
 use Rattle.model.specs.TptpReading.{read_whole, onwards, ◌>>=◌}
 use Rattle.laws.specs.Answer.{passed_on}
-use Rattle.tptp_reading.proofs.PolicyLaws.{start-ready, policy-refused, policy_undotted, policy_unended, policy-read}
+use Rattle.tptp_reading.proofs.PolicyLaws.{policy-refused, policy_undotted, policy_unended, policy-read}
 use Rattle.tptp_reading.proofs.policy.policy.Goals as goal
 
 pub returns-in_err-word : goal.returns-in_err-word

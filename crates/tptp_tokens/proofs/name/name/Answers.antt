@@ -1,6 +1,7 @@
 -- `tptp_tokens::name::name` meets its contract.
 use native.Mathlib.Omega.{arith}
 use mathlib.Core.Path.{sym, ◌∙◌}
+use Rattle.model.specs.Bytes.{small}
 use Rattle.tptp_tokens.proofs.NameLaws.{name-over, name-other, name-here}
 use Rattle.tptp_tokens.proofs.name.name.Goals as goal
 
@@ -10,14 +11,16 @@ returns-then-text-i c =
     let a = c.args in
     name-over a.text.now a.at skip.result skip.ensures c.if-text-i.true
 
-pub returns-then-not-is_small : goal.returns-then-not-is_small
-returns-then-not-is_small c =
+pub returns-then-not-is_ascii_lowercase : goal.returns-then-not-is_ascii_lowercase
+unfolding small
+returns-then-not-is_ascii_lowercase c =
     let a = c.args in
     name-other a.text.now a.at _ c.skip-i.ensures (omega (arith, c.if-text-i.false))
-    (sym c.is_small.ensures ∙ c.if-not-is_small.true)
+    (sym c.is_ascii_lowercase.ensures.value ∙ c.if-not-is_ascii_lowercase.true)
 
 pub returns : goal.returns
+unfolding small
 returns c =
     let a = c.args in
     name-here a.text.now a.at _ c.skip-i.ensures (omega (arith, c.if-text-i.false)) _
-    (sym c.is_small.ensures ∙ c.if-not-is_small.false) c.word_end.ensures
+    (sym c.is_ascii_lowercase.ensures.value ∙ c.if-not-is_ascii_lowercase.false) c.word_end.ensures

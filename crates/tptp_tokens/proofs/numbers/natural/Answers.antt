@@ -1,28 +1,6 @@
 -- `tptp_tokens::numbers::natural` meets its contract.
-use native.Mathlib.Omega.{arith}
-use mathlib.Core.Path.{sym, ◌∙◌}
-use Rattle.laws.specs.Decimal.{digit-range}
-use Rattle.tptp_tokens.proofs.NumberLaws.{natural-over, natural-other, natural-first}
+use Rattle.tptp_tokens.proofs.NumberLaws.{natural-number}
 use Rattle.tptp_tokens.proofs.numbers.natural.Goals as goal
 
-pub returns-then-text-at : goal.returns-then-text-at
-returns-then-text-at c =
-    let a = c.args in
-    natural-over a.text.now a.at c.if-text-at.true
-
-pub returns-then-not-digit : goal.returns-then-not-digit
-returns-then-not-digit c =
-    let a = c.args in
-    natural-other a.text.now a.at (omega (arith, c.if-text-at.false)) (sym c.digit.ensures ∙ c.if-not-digit.true)
-
-pub overflow_sub-b : goal.overflow_sub-b
-overflow_sub-b c =
-    let range = digit-range _ (sym c.digit.ensures ∙ c.if-not-digit.false) in
-    omega (arith, range)
-
 pub returns : goal.returns
-returns c =
-    let a = c.args in
-    natural-first a.text.now a.at c.more_digits.result (omega (arith, c.if-text-at.false))
-    (sym c.digit.ensures ∙ c.if-not-digit.false)
-    c.more_digits.ensures
+returns c = natural-number c.args.text.now c.args.at c.number.result c.number.ensures
