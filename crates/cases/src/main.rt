@@ -12,19 +12,33 @@ use call::Call;
 use given::Given;
 use model::Answer;
 use show::{Spaced, Verdict};
-use std::{fmt, io};
+use std::io;
 
-/// Prints a case's name, its answer and what the call left of its buffer.
-fn report<T: fmt::Display + Drop>(
-    rt: &impl Print,
-    name: &str,
-    answer: Answer,
-    left: &[T],
-) -> io::Result<()> {
-    println!(rt; "{name} {}{}", Verdict(answer), Spaced(left))
+/// Makes a call, which writes to the scratch, the text and the buffer that it is lent.
+fn ask(
+    call: Call,
+    given: &Given,
+    scratch: &mut [i32],
+    text: &mut [u8],
+    buffer: &mut [i32],
+) -> Answer {
+    let table = given.table.as_slice();
+    let policy = given.policy.as_slice();
+    let log = given.log.as_slice();
+    match call {
+        Call::CheckPolicy => auditor::check_policy(table, policy),
+        Call::CheckLog => auditor::check_log(table, log),
+        Call::Dual => auditor::dual(table, policy, buffer),
+        Call::Reduce => auditor::reduce(table, policy, log, scratch, buffer),
+        Call::ReadLog => auditor::read_log(table, text, buffer),
+        Call::ReadPolicy => auditor::read_policy(table, text, buffer),
+        Call::WriteLog => auditor::write_log(table, log, text),
+        Call::WritePolicy => auditor::write_policy(table, policy, text),
+    }
 }
 
-/// Makes a call, and prints what it answers and leaves. It writes over copies of the scratch and the text that are given.
+/// Runs a case, on copies of the scratch and the text that are given, and prints the answer and what the call left of what it may
+/// write to.
 fn case(
     rt: &(impl Print + AllocGlobal),
     call: Call,
@@ -32,41 +46,16 @@ fn case(
     given: &Given,
     buffer: &mut [i32],
 ) -> io::Result<()> {
-    let table = given.table.as_slice();
-    let policy = given.policy.as_slice();
-    let log = given.log.as_slice();
+    let mut scratch = given.scratch.clone()?;
+    let mut text = given.text.clone()?;
+    let answer = Verdict(ask(call, given, &mut scratch, &mut text, buffer));
     match call {
-        Call::CheckPolicy => report(rt, name, auditor::check_policy(table, policy), buffer),
-        Call::CheckLog => report(rt, name, auditor::check_log(table, log), buffer),
-        Call::Dual => report(rt, name, auditor::dual(table, policy, buffer), buffer),
+        Call::WriteLog | Call::WritePolicy => println!(rt; "{name} {answer}{}", Spaced(&text)),
         Call::Reduce => {
-            let mut scratch = given.scratch.clone()?;
-            let answer = auditor::reduce(table, policy, log, &mut scratch, buffer);
-            report(rt, name, answer, buffer)?;
+            println!(rt; "{name} {answer}{}", Spaced(buffer))?;
             println!(rt; "{name} scratch{}", Spaced(&scratch))
         }
-        Call::ReadLog => report(
-            rt,
-            name,
-            auditor::read_log(table, &given.text, buffer),
-            buffer,
-        ),
-        Call::ReadPolicy => report(
-            rt,
-            name,
-            auditor::read_policy(table, &given.text, buffer),
-            buffer,
-        ),
-        Call::WriteLog => {
-            let mut text = given.text.clone()?;
-            let answer = auditor::write_log(table, log, &mut text);
-            report(rt, name, answer, &text)
-        }
-        Call::WritePolicy => {
-            let mut text = given.text.clone()?;
-            let answer = auditor::write_policy(table, policy, &mut text);
-            report(rt, name, answer, &text)
-        }
+        _ => println!(rt; "{name} {answer}{}", Spaced(buffer)),
     }
 }
 
