@@ -1,6 +1,6 @@
 ghost use Rattle.cases.specs.Call.{Names};
 
-/// A call of the auditor.
+// A call of the auditor.
 #[derive(Clone, Copy, Debug, PartialEq, Eq)]
 pub enum Call {
     CheckPolicy,
@@ -13,7 +13,7 @@ pub enum Call {
     WritePolicy,
 }
 
-/// A word that names no call.
+// A word that names no call.
 #[derive(Clone, Copy, Debug, PartialEq, Eq)]
 pub struct UnknownCall;
 

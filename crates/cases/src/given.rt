@@ -5,13 +5,13 @@ ghost use Rattle.cases.specs.Given.{HasLength};
 use anyhow::{Context, Result, ensure};
 use std::alloc::Global;
 
-/// What stands before a length.
+// What stands before a length.
 const MARK: char = ':';
 
-/// The greatest length that the input may ask for: more than any call takes.
+// The greatest length that the input may ask for: more than any call takes.
 const MOST: usize = 1 << 24;
 
-/// What a case's call is given by the lines above the case.
+// What a case's call is given by the lines above the case.
 #[derive(Drop)]
 pub struct Given {
     pub table: Vec<i32>,
@@ -22,7 +22,7 @@ pub struct Given {
 }
 
 impl Given {
-    /// Nothing is given yet.
+    // Nothing is given yet.
     pub fn new(alloc: Global) -> Self
         ensures table { result.table.items ≡ [] }
         ensures policy { result.policy.items ≡ [] }
@@ -40,7 +40,7 @@ impl Given {
     }
 }
 
-/// The length that the text begins with, if its mark stands there.
+// The length that the text begins with, if its mark stands there.
 fn announced(text: &str) -> Result<Option<usize>>
     ensures asked { IfOk result (λ found. IsSome found ↔ HasLength text.now) }
     ensures most { IfOk result (λ found. IfSome found (λ n. n ≤ MOST)) }
@@ -56,7 +56,7 @@ fn announced(text: &str) -> Result<Option<usize>>
     Ok(Some(n))
 }
 
-/// The numbers that the text begins with, over as many lines as they take; or, if it begins with a length, so many of the filler.
+// The numbers that the text begins with, over as many lines as they take; or, if it begins with a length, so many of the filler.
 pub fn words(alloc: Global, text: &str, filler: i32) -> Result<Vec<i32>>
     ensures filled { IfOk result (λ words. HasLength text.now → All (λ word. word ≡ filler) words.items) }
 {
@@ -70,7 +70,7 @@ pub fn words(alloc: Global, text: &str, filler: i32) -> Result<Vec<i32>>
     )
 }
 
-/// What a byte means behind a backslash.
+// What a byte means behind a backslash.
 fn meant(b: u8) -> u8 {
     match b {
         b'r' => b'\r',
@@ -80,8 +80,8 @@ fn meant(b: u8) -> u8 {
     }
 }
 
-/// The first line of the text, where a backslash and the byte behind it are the byte that they mean; or, if it begins with a length,
-/// so many bytes 7.
+// The first line of the text, where a backslash and the byte behind it are the byte that they mean; or, if it begins with a length,
+// so many bytes 7.
 pub fn bytes(alloc: Global, text: &str) -> Result<Vec<u8>>
     ensures filled { IfOk result (λ bytes. HasLength text.now → All (λ b. b ≡ 7) bytes.items) }
 {

@@ -1,6 +1,6 @@
-//! Runs the cases of the auditor's calls that standard input lists, and prints a line for each: its name, number, place and count of
-//! the answer, and the words or bytes of the buffer; of reduce, on a second line, also those of scratch. Table T, log A, formula F
-//! and the cases P are those of the specification.
+// Runs the cases of the auditor's calls that standard input lists, and prints a line for each: its name, number, place and count of
+// the answer, and the words or bytes of the buffer; of reduce, on a second line, also those of scratch. Table T, log A, formula F
+// and the cases P are those of the specification.
 #![tactic(auto)]
 
 mod call;
@@ -14,7 +14,7 @@ use model::Answer;
 use show::{Spaced, Verdict};
 use std::io;
 
-/// Makes a call, which writes to the scratch, the text and the buffer that it is lent.
+// Makes a call, which writes to the scratch, the text and the buffer that it is lent.
 fn ask(
     call: Call,
     given: &Given,
@@ -37,8 +37,8 @@ fn ask(
     }
 }
 
-/// Runs a case, on copies of the scratch and the text that are given, and prints the answer and what the call left of what it may
-/// write to.
+// Runs a case, on copies of the scratch and the text that are given, and prints the answer and what the call left of what it may
+// write to.
 fn case(
     rt: &(impl Print + AllocGlobal),
     call: Call,
@@ -59,8 +59,8 @@ fn case(
     }
 }
 
-/// Reads the line at the front of the input: what the cases below it are given, or a case, which is run. Any other line is passed
-/// over.
+// Reads the line at the front of the input: what the cases below it are given, or a case, which is run. Any other line is passed
+// over.
 fn line(rt: &(impl Print + AllocGlobal), given: &mut Given, input: &str) -> Result<()> {
     let Some((first, rest)) = input.split_once(char::is_whitespace) else {
         return Ok(());
@@ -83,7 +83,7 @@ fn line(rt: &(impl Print + AllocGlobal), given: &mut Given, input: &str) -> Resu
     Ok(())
 }
 
-/// Reads each line of the input.
+// Reads each line of the input.
 fn lines(rt: &(impl Print + AllocGlobal), input: &str) -> Result<()> {
     let mut given = Given::new(rt.alloc());
     let mut rest = input;

@@ -1,20 +1,20 @@
-use model::Answer;
+use model::{Answer, Refused};
 use std::fmt;
 
-/// An answer, printed as its number, its place and its count.
+// An answer, printed as its number, its place and its count.
 #[derive(Drop)]
 pub struct Verdict(pub Answer);
 
 impl fmt::Display for Verdict {
     fn fmt<W: fmt::Write>(&self, f: &mut fmt::Formatter<W>) -> fmt::Result {
         match self.0 {
-            Answer::Accepted(count) => write!(f, "0 0 {count}"),
-            Answer::Refused(refusal, place) => write!(f, "{} {place} 0", model::number(refusal)),
+            Ok(count) => write!(f, "0 0 {count}"),
+            Err(Refused(refusal, place)) => write!(f, "{} {place} 0", u32::from(refusal)),
         }
     }
 }
 
-/// Numbers, printed with a blank before each.
+// Numbers, printed with a blank before each.
 #[derive(Drop)]
 pub struct Spaced<'a, T>(pub &'a [T]);
 
