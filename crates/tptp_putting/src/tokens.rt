@@ -1,5 +1,6 @@
 // Tokens: fixed bytes, numbers and terms, each written behind what was written before. Where that found no room, nothing is
-// written. What was written before is handed on as an Option: so a line of writes has one goal; a ? behind each has one more.
+// written.
+// What was written before is handed on as an Option, with no ? behind each write: tried, and `put_unequal` has four goals then for one.
 ghost use Rattle.std.specs.Prelude.{cond, ◌+◌, ◌*◌, ◌≤◌, ◌<◌, length, ◌++◌};
 ghost use Rattle.model.specs.Words.{word};
 ghost use Rattle.model.specs.Bytes.{bytes};
