@@ -10,7 +10,7 @@ use lib.ListN.{length, take, replicate, length-append}
 use lib.Seq.{take-suc-set}
 use lib.Dec.{leb, ltb, eqb}
 use lib.IntN.{pos}
-use borrow.Author.Tests.{leb-true, leb-false, ltb-true, le-leb, ne_eqb}
+use borrow.Author.Tests.{leb-false, ltb-true, le-leb, ne_eqb}
 use Rattle.model.specs.declared.Refusal.TheVariants.{Csv}
 use Rattle.model.specs.Answer.{Outcome, passed, refused, ◌>>=◌}
 use Rattle.model.specs.Words.{Words, value}
@@ -287,9 +287,6 @@ module _ (table : Words) (text : Text) (i j fields : ℕ) (good : Bool) (row : W
       ended-line text i j fields good row table next e h row' false
       (sym (not_good table (e.contents ++ e.content ∷ []) t (ap (λ (n : ℕ). all good_number (e.contents ++ e.content ∷ []) && leb n 8) e.size ∙ sym e.said ∙ g)))
       (λ z. absurd (false≢true z))
-
-  pub line-few : good ≡ true → fields ≤ 8
-  line-few g = leb-true fields 8 (and_right (all good_number (e.contents ++ e.content ∷ [])) _ (sym e.said ∙ g))
 
   pub line-good : good ≡ true → (row' : Words) (r : Bool) → RowAsked table row fields row' r → Reads table text i row' next r
   line-good g row' r s =

@@ -1,13 +1,12 @@
 -- Laws for the reading of a whole text: records one after another, question 14 of them, and their rows.
-use Prim.Native.Nat.{ℕ, suc, ◌+◌, ◌*◌, ◌-◌, ◌/◌, ◌≤◌, ◌<◌}
+use Prim.Native.Nat.{ℕ, suc, ◌+◌, ◌*◌, ◌≤◌, ◌<◌}
 use native.Mathlib.Numerals.{add-one}
 use native.Mathlib.Omega.{arith}
 use mathlib.Core.Path.{◌≡◌, refl, sym, ap, ap₂, ◌∙◌, subst}
 use mathlib.Core.Logic.{⊎_elim}
 use mathlib.Core.Bool.{Bool, true, false}
 use mathlib.Core.List.{List, [], ◌∷◌, ◌++◌, append_assoc, append-nil}
-use lib.ListN.{length, take, drop, length-append, length-take, length-drop}
-use lib.Seq.{take_at, length-take-le}
+use lib.ListN.{length, take, length-append}
 use lib.Dec.{leb}
 use borrow.Author.Tests.{leb-true, leb-false}
 use Rattle.model.specs.declared.Refusal.TheVariants.{Csv, Record}
@@ -21,9 +20,8 @@ use Rattle.laws.specs.Words.Tests.{decide}
 use Rattle.laws.specs.Answer.{then_same}
 use Rattle.csv_reading.specs.declared.record.Line.{Line}
 use Rattle.csv_reading.specs.declared.field.BadByte.{BadByte}
-use Rattle.std.specs.Prelude.{Result, Ok, Err}
+use Rattle.std.specs.Prelude.{Ok, Err}
 use Rattle.csv_reading.specs.Field.{reading}
-use Rattle.csv_reading.specs.Record.{RecordAt}
 use Rattle.csv_reading.specs.Rows.{Placed, good_before, ask_text, Stand}
 use Rattle.csv_reading.proofs.FieldLaws.{read_end}
 
@@ -208,23 +206,3 @@ module _ (table : Words) (text : Text) (at count good : ℕ) (rows : Words) (g :
         long = all.long;
         stands = all.stands;
       }
-
--- the words of one row
-pub row-long : (count : ℕ) (rows : Words) → count < length rows / 8 → length (take (8 * count + 8 - 8 * count) (drop (8 * count) rows)) ≡ 8
-row-long count rows h = simp (length-take, length-drop) (omega arith)
-
--- a record's row behind the others, and in a spare place
-module _ (table : Words) (text : Text) (i count : ℕ) (rows row : Words) (r : Result Line BadByte) (long : length row ≡ 8) (e : RecordAt table text i row r) where
-  pub placed_row : (rest : Words) → count < length rows / 8 → Placed table text i count rows (take (8 * count) rows ++ (row ++ rest)) r
-  placed_row rest h = record {
-    row = row;
-    long = long;
-    reads = e;
-    stands = λ k.
-        ap (take (8 * count + 8)) (sym (append_assoc (take (8 * count) rows) row rest))
-        ∙ take_at (take (8 * count) rows ++ row) rest (8 * count + 8)
-        (length-append (take (8 * count) rows) row ∙ ap₂ (λ (m n : ℕ). m + n) (length-take-le (8 * count) rows (omega arith)) long);
-  }
-
-  pub placed_spare : (rows' : Words) → length rows / 8 ≤ count → Placed table text i count rows rows' r
-  placed_spare rows' h = record { row = row; long = long; reads = e; stands = λ k. absurd (omega (arith, h, k)) }

@@ -39,12 +39,10 @@ fn bare(text: &[u8], from: usize) -> usize
     requires { from ≤ length text.now }
     ensures { F.BareTo text.now from result }
 {
-    for i in from..text.len() {
-        if !bytes::text_data(text[i]) {
-            return i;
-        }
-    }
-    text.len()
+    from + text[from..]
+        .iter()
+        .take_while(|b| bytes::text_data(**b))
+        .count()
 }
 
 // The rest of a field in quotes, up to the index behind the closing quote.

@@ -53,38 +53,6 @@ module _ (row : Words) (n i : ℕ) where
       let few : length (take n row) ≤ i = omega (arith, length-take n row) in
       ap (gather (λ z. comma ∷ decimal z)) (drop_of_length-le (take n row) few)
 
--- a comma, and a text behind it
-pub comma-put :
-    (text out out' : Text) (at b : ℕ) (r : Option ℕ) →
-    at < length out →
-    b ≡ comma →
-    length out' ≡ length (set out at b) →
-    Puts text (at + 1) (set out at b) out' r →
-    Puts (comma ∷ text) at out out' r
-comma-put text out out' at b r h e l p =
-    part-last
-    (part-more (part_none (comma ∷ text) out at (omega arith)) (comma ∷ []) text refl
-    (set out at b) (Some (at + 1)) (byte-wrote out at b comma h e) (at + 1) refl (length-set out at b))
-    out' r p l
-
--- the end of a line
-pub end_wrote :
-    (out : Text) (at c l next : ℕ) →
-    at + 2 ≤ length out →
-    c ≡ cr →
-    l ≡ lf →
-    next ≡ at + 2 →
-    Wrote (cr ∷ lf ∷ []) at out (set (set out at c) (at + 1) l) next
-end_wrote out at c l next h e f n =
-    let out₁ = set out at c in
-    let long = length-set out at c in
-    let same : at + 1 + 1 ≡ next = omega arith in
-    subst (Wrote (cr ∷ lf ∷ []) at out (set out₁ (at + 1) l)) same
-    (part-last
-    (part-more (part_none (cr ∷ lf ∷ []) out at (omega arith)) (cr ∷ []) (lf ∷ []) refl
-    out₁ (Some (at + 1)) (byte-wrote out at c cr (omega arith) e) (at + 1) refl long)
-    (set out₁ (at + 1) l) (Some (at + 1 + 1)) (byte-wrote out₁ (at + 1) l lf (omega arith) f) (length-set out₁ (at + 1) l))
-
 -- the arity of a good row, as it is found, and its line
 module _ (table row : Words) (v a : ℕ) (predicate : v ≡ value row 0) (found : a ≡ arity table v) where
   same-arity : a ≡ arity table (value row 0)

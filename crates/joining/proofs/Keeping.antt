@@ -1,8 +1,9 @@
--- A child that stands behind the parts of a join: nothing more is kept if the join is no longer open; a join of the same kind gives its children, its header taken out; any other tree is one part more.
+-- A child that stands behind the parts of a join: nothing more is kept if the join is no longer open; a join
+-- of the same kind gives its children, its header taken out; any other tree is one part more.
 use Prim.Native.Nat.{ℕ, ◌+◌, ◌-◌, ◌≤◌, ◌<◌}
 use native.Mathlib.Omega.{arith}
 use mathlib.Core.Path.{◌≡◌, refl, sym, ap, ap₂, ◌∙◌, subst}
-use mathlib.Core.Bool.{Bool, true, false, not, cond, true≢false}
+use mathlib.Core.Bool.{Bool, true, false, not, cond}
 use mathlib.Core.List.{◌∷◌, ◌++◌}
 use lib.ListN.{length, take, drop, get_or, length-append, length-drop}
 use lib.Seq.{take_at, drop_at, take-add, drop-drop, get_or-take, get_or-drop, length-take-le}

@@ -9,7 +9,7 @@ use lib.ListN.{length, take}
 use lib.Seq.{sets-eq, take-append_seam}
 use lib.Dec.{leb}
 use borrow.Author.Tests.{leb-true, leb-false, le-leb, lt-leb}
-use Rattle.std.specs.Prelude.{Ok, Err}
+use Rattle.std.specs.Prelude.{Result, Ok, Err}
 use Rattle.model.specs.declared.Refusal.{Refusal}
 use Rattle.model.specs.declared.Refusal.TheVariants.{PolicyLength, Room}
 use Rattle.model.specs.Words.{Words, policy_limit}
@@ -28,14 +28,10 @@ use Rattle.laws.specs.Words.Tests.{decide}
 use Rattle.laws.specs.Reading.Trees.{ask_tree, ask-tree}
 use Rattle.laws.specs.Tptp.Sound.Policies.{tptp_sound}
 use Rattle.tables.specs.Checked.{outcome}
-use Rattle.tables.specs.declared.Checked.{Checked}
-use Rattle.tables.specs.declared.Checked.TheVariants as checked
+use Rattle.model.specs.declared.Refused.{Refused}
 use Rattle.tptp_state.specs.Told.{Told}
 use Rattle.tptp_reading.specs.Policy.{start_state, PolicyRead}
-use Rattle.tptp_tokens.specs.declared.tokens.Step.{Step}
-use Rattle.tptp_tokens.specs.declared.tokens.Step.TheVariants as step
 use Rattle.tptp_state.specs.declared.state.State.{State}
-use Rattle.tptp_reading.specs.declared.policy.Came.{Came}
 use Rattle.policy_texts.specs.PolicyText.{settled_policy, ReadsPolicy}
 
 -- questions 2, 4 to 7 and 12 by what is known: the first refusal, or none
@@ -48,16 +44,16 @@ module _ (room : ℕ) (s : State) where
   settle-long h = rw (lt-leb s.words policy_limit h)
 
   module _ (h : s.words ≤ policy_limit) where
-    pub settle-asked : {q : Refusal} {p : ℕ} → s.asked ≡ checked.Refused q p → Settles (Err (refused_at q p))
+    pub settle-asked : {q : Refusal} {p : ℕ} → s.asked ≡ Err (refused_at q p) → Settles (Err (refused_at q p))
     unfolding settled_policy answer ask ◌>>=◌
     settle-asked e = rw (le-leb s.words policy_limit h, e)
 
-    module _ (e : s.asked ≡ checked.Passed) where
-      pub settle-moded : {q : Refusal} {p : ℕ} → s.moded ≡ checked.Refused q p → Settles (Err (refused_at q p))
+    module _ (e : s.asked ≡ Ok tt) where
+      pub settle-moded : {q : Refusal} {p : ℕ} → s.moded ≡ Err (refused_at q p) → Settles (Err (refused_at q p))
       unfolding settled_policy answer ask ◌>>=◌
       settle-moded f = rw (le-leb s.words policy_limit h, e, f)
 
-      module _ (f : s.moded ≡ checked.Passed) where
+      module _ (f : s.moded ≡ Ok tt) where
         pub settle-short : room < s.words → Settles (Err (refused_at Room 0))
         unfolding settled_policy answer ask ◌>>=◌
         settle-short l = rw (le-leb s.words policy_limit h, e, f, lt-leb s.words room l)
@@ -86,21 +82,21 @@ settles room s e = go (leb s.words policy_limit) refl (outcome s.asked) (outcome
 
 -- what was asked on the way, and what is asked of the tree
 asked-alike :
-    (a m : Checked) (o u : Outcome (Unit {0})) (tree : Tree) (ws : Words) (room : ℕ) →
+    (a m : Result (Unit {0}) Refused) (o u : Outcome (Unit {0})) (tree : Tree) (ws : Words) (room : ℕ) →
     outcome a ≡ o →
-    (a ≡ checked.Passed → outcome m ≡ u) →
+    (a ≡ Ok tt → outcome m ≡ u) →
     (o >>= (λ _. u >>= λ _. passed tree) >>= λ _. in_room room ws)
     ≡ (outcome a >>= (λ _. outcome m >>= λ _. ask (leb (length ws) room) Room 0) >>= λ _. passed ws)
 unfolding in_room ◌>>=◌
-asked-alike (checked.Refused q p) m o u tree ws room e f = rw (sym e)
-asked-alike checked.Passed m o u tree ws room e f = rw (sym e, sym (f refl)) (go m)
+asked-alike (Err q) m o u tree ws room e f = rw (sym e)
+asked-alike (Ok t) m o u tree ws room e f = rw (sym e, sym (f refl)) (go m)
   where
     go :
-        (m : Checked) →
+        (m : Result (Unit {0}) Refused) →
         (outcome m >>= (λ _. passed tree) >>= λ _. in_room room ws)
         ≡ (outcome m >>= (λ _. ask (leb (length ws) room) Room 0) >>= λ _. passed ws)
-    go (checked.Refused q p) = refl
-    go checked.Passed = refl
+    go (Err q) = refl
+    go (Ok t) = refl
 
 module _ (table : Words) (text : Text) (room : ℕ) where
   -- a refusal
@@ -185,23 +181,21 @@ module _ (table : Words) (text : Text) (room : ℕ) where
         pub text-read : length old ≡ room → (r : Answer) → r ≡ answer (λ _. s.words) (settled_policy room s) → ReadsPolicy table text room after r
         text-read l r a = subst (ReadsPolicy table text room after) (sym a) (leaves l (settled_policy room s) refl)
 
--- what came of a text: a refusal, or a tree and what is known behind it
+-- what came of a text: a refusal, or what is known behind its tree
 module _ (table : Words) (text : Text) (old after : Words) (e : ask_table table ≡ passed tt) where
   pub came_refused :
-      (came : Came) → PolicyRead table text old after came → {q : Refusal} {p : ℕ} → came.end ≡ step.Refused q p →
+      (r : Result State Refused) → PolicyRead table text old after r → {q : Refusal} {p : ℕ} → r ≡ Err (refused_at q p) →
       ReadsPolicy table text (length old) after (Err (refused_at q p))
-  came_refused came r f =
-      text-refused table text (length old) e after
-      (subst (λ (s : Step). PolicyRead table text old after (record { end = s; state = came.state })) f r)
+  came_refused r h f = text-refused table text (length old) e after (subst (PolicyRead table text old after) f h)
 
   pub came-read :
-      (came : Came) → PolicyRead table text old after came → {n : ℕ} → came.end ≡ step.At n → (r : Answer) →
-      r ≡ answer (λ _. came.state.words) (settled_policy (length old) came.state) →
-      ReadsPolicy table text (length old) after r
+      (r : Result State Refused) → PolicyRead table text old after r → {s : State} → r ≡ Ok s → (a : Answer) →
+      a ≡ answer (λ _. s.words) (settled_policy (length old) s) →
+      ReadsPolicy table text (length old) after a
   unfolding read_text read_tptp tree_of
-  came-read came r f a answered =
-      let v = subst (λ (s : Step). PolicyRead table text old after (record { end = s; state = came.state })) f r in
-      text-read table text (length old) e old after v.what came.state (ap tree_of v.reads.reads) v.holds refl a answered
+  came-read r h {s} f a answered =
+      let (next, v) = subst (PolicyRead table text old after) f h in
+      text-read table text (length old) e old after v.what s (ap tree_of v.reads.reads) v.holds refl a answered
 
 -- what stands behind the words counted becomes zero
 pub policy-cleared :

@@ -1,6 +1,6 @@
 -- The writing of a policy, question by question.
 use Prim.Native.Nat.{ℕ}
-use mathlib.Core.Path.{◌≡◌, sym, ◌∙◌}
+use mathlib.Core.Path.{◌≡◌, refl, sym, ◌∙◌}
 use lib.ListN.{length}
 use Rattle.std.specs.Prelude.{Ok, Err}
 use Rattle.model.specs.declared.Refusal.{Refusal}
@@ -12,7 +12,7 @@ use Rattle.model.specs.Reading.{read_policy}
 use Rattle.model.specs.Tptp.{policy_text}
 use Rattle.model.specs.Calls.{check_policy, ask_policy_writing}
 use Rattle.laws.specs.Calls.Policy.{accepted-asked}
-use Rattle.text.specs.declared.writing.Put.{Put}
+use Rattle.std.specs.Prelude.{Option}
 use Rattle.text.specs.Put.{Writes}
 use Rattle.text.specs.Written.{written}
 use Rattle.policy_texts.specs.PolicyText.{WritesPolicy}
@@ -22,9 +22,9 @@ use Rattle.text.proofs.WrittenLaws.{text-refused, text-written}
 -- what the check of a policy answered
 module _ (table policy : Words) {a : Answer} (same : a ≡ check_policy table policy) where
   -- the policy is refused
-  pub policy-refused : {room : ℕ} {after : Text} {q : Refusal} {p : ℕ} → a ≡ Err (refused_at q p) → WritesPolicy table policy room after a
+  pub policy-refused : {room : ℕ} {after : Text} {q : Refusal} {p : ℕ} → a ≡ Err (refused_at q p) → WritesPolicy table policy room after (Err (refused_at q p))
   unfolding ask_policy_writing ◌>>=◌
-  policy-refused {room} {after} e = text-refused _ room after (rw (policy_was_refused table policy (sym e ∙ same))) e
+  policy-refused {room} {after} e = text-refused _ room after (rw (policy_was_refused table policy (sym e ∙ same))) refl
 
   module _ {k : ℕ} (e : a ≡ Ok k) where
     -- the policy is accepted: it was read
@@ -34,7 +34,7 @@ module _ (table policy : Words) {a : Answer} (same : a ≡ check_policy table po
 
     -- and its text was written, if it has room
     pub policy-written :
-        {out after : Text} {put : Put} {r : Answer} →
+        {out after : Text} {put : Option ℕ} {r : Answer} →
         ((tree : Tree) → read_policy table policy ≡ passed tree → Writes (policy_text tree) out after put) →
         r ≡ written put →
         WritesPolicy table policy (length out) after r

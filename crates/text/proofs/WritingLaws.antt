@@ -82,16 +82,6 @@ pub record Ending (old : Text) (from next n : ℕ) (buffer : Text) (left i : ℕ
   pub long : length buffer ≡ length old
 
 module _ (old : Text) (from next n : ℕ) (fits : next ≤ length old) where
-  pub ending-none : from ≤ next → Ending old from next n old n next
-  ending-none h = record {
-    low = h;
-    high = omega arith;
-    last = [];
-    is = sym (take-append-drop next old);
-    all = append-nil (last_digits (next - from) n);
-    long = refl;
-  }
-
   module _ (buffer : Text) (left i : ℕ) (e : Ending old from next n buffer left i) where
     -- one more digit
     pub ending-more : (b : ℕ) → from < i → b ≡ nought + left % 10 → Ending old from next n (set buffer (i - 1) b) (left / 10) (i - 1)

@@ -21,6 +21,11 @@ pub record Behind (text : Text) (before : Option ℕ) (old out : Text) (r : Opti
   pub adds : Adds text before old out r
   pub long : length out ≡ length old
 
+-- a write that leaves the buffer as long as it was
+pub behind-put :
+    (text : Text) (before r : Option ℕ) {old out : Text} → Adds text before old out r → length out ≡ length old → Behind text before old out r
+behind-put text before r adds long = record { adds = adds; long = long }
+
 -- it ends within the buffer
 pub behind-fits : {text : Text} {before : Option ℕ} {old out : Text} {r : Option ℕ} → Behind text before old out r → Fits r out
 behind-fits {r = None} b = tt
@@ -52,6 +57,14 @@ behind_more {a} {before} {old} {out} {p} h b {out'} {r} k m = record {
   adds = behind-both a b before old out out' p r h.adds h.long k m;
   long = m ∙ h.long;
 }
+
+-- the same of a write, whose outcome is handed over
+pub behind-next :
+    {a : Text} {before : Option ℕ} {old out : Text} {p : Option ℕ} → Behind a before old out p →
+    (b : Text) (r : Option ℕ) {out' : Text} → Adds b p out out' r →
+    length out' ≡ length out →
+    Behind (a ++ b) before old out' r
+behind-next h b r k m = behind_more h b k m
 
 pub behind_then :
     {a b : Text} {before p r : Option ℕ} {old out out' : Text} → Behind a before old out p → Behind b p out out' r →

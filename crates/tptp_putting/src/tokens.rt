@@ -1,5 +1,5 @@
 // Tokens: fixed bytes, numbers and terms, each written behind what was written before. Where that found no room, nothing is
-// written.
+// written. What was written before is handed on as an Option: so a line of writes has one goal; a ? behind each has one more.
 ghost use Rattle.std.specs.Prelude.{cond, ◌+◌, ◌*◌, ◌≤◌, ◌<◌, length, ◌++◌};
 ghost use Rattle.model.specs.Words.{word};
 ghost use Rattle.model.specs.Bytes.{bytes};

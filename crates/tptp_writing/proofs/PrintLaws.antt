@@ -1,12 +1,12 @@
 -- Laws for the writing of nodes: the index of the word behind them goes along with what was written.
-use Prim.Native.Nat.{ℕ, ◌≤◌}
+use Prim.Native.Nat.{ℕ}
 use mathlib.Core.Path.{◌≡◌, refl, sym, subst}
 use lib.ListN.{length}
 use mathlib.Core.List.{◌++◌}
 use Rattle.model.specs.Bytes.{Text}
 use Rattle.std.specs.Prelude.{Option, Some, None}
 use Rattle.tptp_writing.specs.declared.tree.Printed.{Printed}
-use Rattle.tptp_putting.specs.Adding.{Fits, Adds}
+use Rattle.tptp_putting.specs.Adding.{Adds}
 use Rattle.tptp_writing.specs.Printing.{placed, wrote, Ends, Prints}
 use Rattle.tptp_putting.proofs.AddLaws.{Behind, behind-is, behind_more}
 
@@ -32,17 +32,6 @@ prints_is {a} {b} {n} {m} {before} {old} {out} {r} h e f =
 -- the word behind a node
 pub word_at : {r : Option Printed} {q : Printed} (next : ℕ) → r ≡ Some q → Ends r next → q.next ≡ next
 word_at next e h = subst (λ (o : Option Printed). Ends o next) e h
-
--- what was written of nodes ends within the buffer
-pub fits-nodes :
-    {nodes : Option Printed} {q : Printed} (out : Text) → nodes ≡ Some q → Fits (wrote nodes) out → q.end ≤ length out
-fits-nodes out e h = subst (λ (o : Option Printed). Fits (wrote o) out) e h
-
--- a text behind nodes for which there was no room
-pub closes_full :
-    {nodes : Option Printed} (text : Text) (next : ℕ) (old out : Text) → nodes ≡ None → Prints text next (wrote nodes) old out None
-closes_full text next old out e =
-    subst (λ (o : Option Printed). Prints text next (wrote o) old out None) (sym e) (record { adds = refl; ends = tt })
 
 -- a text behind nodes that were written
 pub closes_at :

@@ -73,7 +73,9 @@ module _ (words : Words) (at left end : ℕ) (a : Ahead words at left end) where
 
 -- a step of a walk past the node of the first tree
 module _ (words : Words) (at left end : ℕ) (a : Ahead words at left end) (tag : Tag) (e : tag ≡ tag_of (word words at)) where
-  pub passed : (after : Walk) (own more : ℕ) → more ≡ below words tag at → Sized words tag at own → after ≡ record { at = at + own; left = left - 1 + more } → Passed words tag (record { at = at; left = left }) after
+  pub passed :
+      (after : Walk) (own more : ℕ) → more ≡ below words tag at → Sized words tag at own → after ≡ record { at = at + own; left = left - 1 + more } →
+      Passed words tag (record { at = at; left = left }) after
   passed after own more m o is =
       record {
         own = own;

@@ -1,12 +1,14 @@
--- `auditor::counted` meets its contract, case by case.
-use Rattle.model.specs.Answer.{count}
-use borrow.Author.Rules.{rules}
+-- `auditor::counted` meets its contract, by cases on the answer.
+use mathlib.Core.Path.{◌≡◌, refl, ◌∙◌}
+use Rattle.std.specs.Prelude.{Ok, Err}
+use Rattle.std.specs.Result.{result_unwrap_or}
+use Rattle.model.specs.Answer.{Answer, count}
 use Rattle.auditor.proofs.counted.Goals as goal
 
-pub returns-in-Accepted : goal.returns-in-Accepted
+by_cases : (answer : Answer) → result_unwrap_or answer 0 ≡ count answer
 unfolding count
-returns-in-Accepted c = search rules
+by_cases (Ok n) = refl
+by_cases (Err e) = refl
 
-pub returns-in-Refused : goal.returns-in-Refused
-unfolding count
-returns-in-Refused c = search rules
+pub returns : goal.returns
+returns c = c.unwrap_or.ensures ∙ by_cases c.args.answer

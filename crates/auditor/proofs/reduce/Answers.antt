@@ -1,8 +1,10 @@
 -- `auditor::reduce` meets its contract: what the residual left, and zeros.
+use Rattle.model.specs.Calls.{zeros}
 use Rattle.auditor.proofs.ReduceCleared.{all-cleared}
 use Rattle.auditor.proofs.reduce.Goals as goal
 
 pub returns : goal.returns
+unfolding zeros
 returns c =
     let a = c.args in
     all-cleared a.table.now a.policy.now a.log.now a.scratch.now a.buffer.now

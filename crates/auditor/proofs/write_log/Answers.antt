@@ -6,11 +6,11 @@ use Rattle.auditor.proofs.write_log.Goals as goal
 pub returns : goal.returns
 unfolding write_log_call
 returns c =
-    let told = text-cleared _ c.args.buffer.now c.write-answer.new.buffer _ _ _
-    c.write-answer.ensures
-    c.write-answer.auto.buffer
+    let told = text-cleared _ c.args.buffer.now c.write-text.new.buffer _ _ _
+    c.write-text.ensures
+    c.write-text.auto.buffer
     c.counted.ensures
-    c.clear_bytes.ensures in record {
+    c.clear.ensures in record {
       answers_as = told.0;
       buffer_after = told.1;
     }

@@ -10,7 +10,7 @@ returns c =
     c.write-answer.ensures
     c.write-answer.auto.buffer
     c.counted.ensures
-    c.clear_bytes.ensures in record {
+    c.clear.ensures in record {
       answers_as = told.0;
       buffer_after = told.1;
     }

@@ -1,10 +1,6 @@
--- `cases::lines` is safe and ends. The lines behind the index are left.
-use Prim.Native.Nat.{◌-◌}
+-- `cases::lines` is safe and ends. The lines that are not read yet are left.
 use lib.ListN.{length}
 use Rattle.cases.proofs.lines.Given as goal
 
-abbrev pub invariant-loop-at : goal.invariant-loop-at
-invariant-loop-at l = Unit {0}
-
-abbrev pub decreases-loop-at : goal.decreases-loop-at
-decreases-loop-at l = length l.input - l.at
+abbrev pub decreases-loop-rest : goal.decreases-loop-rest
+decreases-loop-rest g l = length l.rest

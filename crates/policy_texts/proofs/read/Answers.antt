@@ -1,38 +1,39 @@
 -- `policy_texts::read` meets its contract, question by question.
 use Prim.Native.Nat.{ℕ}
-use mathlib.Core.Path.{◌≡◌, sym, ap, ◌∙◌}
-use Rattle.model.specs.Answer.{passed, answer}
-use Rattle.model.specs.Table.{ask_table}
+use mathlib.Core.Path.{sym, ap, ◌∙◌}
+use Rattle.model.specs.Answer.{answer}
+use Rattle.laws.specs.Answer.{passed_on}
 use Rattle.laws.specs.Table.{accepted}
 use Rattle.tables.specs.Checked.{outcome}
 use Rattle.policy_texts.specs.PolicyText.{settled_policy}
 use Rattle.policy_texts.proofs.PolicyReading.{table-refused, came_refused, came-read}
 use Rattle.policy_texts.proofs.read.Goals as goal
 
-pub returns-in-Refused : goal.returns-in-Refused
-returns-in-Refused c =
+pub returns-in_err-check_table : goal.returns-in_err-check_table
+returns-in_err-check_table c =
     let a = c.args in
-    table-refused a.table.now a.text.now _ _
-    (sym c.check_table-first.ensures ∙ ap outcome c.in-Refused.is)
+    rw (passed_on _ c.from_residual.ensures.1)
+    (table-refused a.table.now a.text.now _ _ (sym c.check_table.ensures ∙ ap outcome c.in_err-check_table.was))
 
-pub policy-came-requires : goal.policy-came-requires
-policy-came-requires c =
-    let good-table : ask_table c.args.table.now ≡ passed tt = sym c.check_table-first.ensures ∙ ap outcome c.in_default.is in
-    (accepted c.args.table.now (good-table)).few
+pub policy-requires : goal.policy-requires
+policy-requires c = (accepted c.args.table.now (sym c.check_table.ensures ∙ ap outcome c.in_ok-check_table.was)).few
 
-pub returns-in-Refused-end : goal.returns-in-Refused-end
-returns-in-Refused-end c =
-    let good-table : ask_table c.args.table.now ≡ passed tt = sym c.check_table-first.ensures ∙ ap outcome c.in_default.is in
+pub returns-in_err-state : goal.returns-in_err-state
+returns-in_err-state c =
     let a = c.args in
-    came_refused a.table.now a.text.now a.buffer.now _ (good-table) c.policy-came.result c.policy-came.ensures
-    c.in-Refused-end.is
+    rw (passed_on _ c.from_residual-in_err-state.ensures.1)
+    (came_refused a.table.now a.text.now a.buffer.now _ (sym c.check_table.ensures ∙ ap outcome c.in_ok-check_table.was)
+    c.policy.result
+    c.policy.ensures
+    c.in_err-state.was)
 
-pub returns-in-At : goal.returns-in-At
-returns-in-At c =
-    let good-table : ask_table c.args.table.now ≡ passed tt = sym c.check_table-first.ensures ∙ ap outcome c.in_default.is in
+pub returns : goal.returns
+returns c =
     let a = c.args in
-    came-read a.table.now a.text.now a.buffer.now _ (good-table) c.policy-came.result c.policy-came.ensures
-    c.in-At.is _
-    (c.settle.ensures ∙ ap
-    (λ (room : ℕ). answer (λ _. c.policy-came.result.state.words) (settled_policy room c.policy-came.result.state))
-    c.policy-came.auto.out)
+    let s = c.in_ok-state.state in
+    came-read a.table.now a.text.now a.buffer.now _ (sym c.check_table.ensures ∙ ap outcome c.in_ok-check_table.was)
+    c.policy.result
+    c.policy.ensures
+    c.in_ok-state.was
+    _
+    (c.settle.ensures ∙ ap (λ (room : ℕ). answer (λ _. s.words) (settled_policy room s)) c.policy.auto.out)

@@ -432,7 +432,8 @@ quantifier-returns-then-eq t c =
     d f next q a.environment ρ o (length a.scratch.now / 17) _
     (omega (
       arith,
-      (worked_out _ _ a.log.now.rows.now _ _ _ _ _ c.value-v.ensures _ _ _ _ _ q _ ρ o _ _ _ _ _ _ s c.instances-worked.ensures.works).short (same_true the_type (search rules) _ _ (sym c.eq.ensures ∙ c.if-eq.true)),
+      (worked_out _ _ a.log.now.rows.now _ _ _ _ _ c.value-v.ensures _ _ _ _ _ q _ ρ o _ _ _ _ _ _
+          s c.instances-worked.ensures.works).short (same_true the_type (search rules) _ _ (sym c.eq.ensures ∙ c.if-eq.true)),
       s.counted,
       s.fits,
       c.prepare-prepared.auto.scratch,
@@ -453,7 +454,8 @@ quantifier-conclude-answer-requires t c =
           c.in-Some.placed.from c.in-Some.placed.count c.in-Some.placed.used
           (length c.prepare-prepared.new.scratch / 17 - c.in-Some.placed.used) c.in-Some.placed.body
           c.instances-worked.result s.below c.instances-worked.ensures.scratch_unchanged s.found s.behind
-          (worked_out _ _ a.log.now.rows.now _ _ _ _ _ c.value-v.ensures _ _ _ _ _ c.requires.3.5 _ c.requires.4.0 c.requires.4.1 _ _ _ _ _ _ s c.instances-worked.ensures.works) (same_false the_type _ _ (sym c.eq.ensures ∙ c.if-eq.false))),
+          (worked_out _ _ a.log.now.rows.now _ _ _ _ _ c.value-v.ensures _ _ _ _ _ c.requires.3.5 _ c.requires.4.0 c.requires.4.1 _ _ _ _ _ _
+          s c.instances-worked.ensures.works) (same_false the_type _ _ (sym c.eq.ensures ∙ c.if-eq.false))),
     )
 
 pub quantifier-returns : goal.quantifier-returns

@@ -4,7 +4,7 @@ use Prim.Native.Nat.{◌+◌}
 use Rattle.model.specs.Words.{word}
 use Rattle.model.specs.Bytes.{bytes}
 use Rattle.model.specs.Decimal.{digits, decimal}
-use Rattle.tptp_putting.proofs.AddLaws.{adds-is, Behind, behind_more, behind-is}
+use Rattle.tptp_putting.proofs.AddLaws.{adds-is, behind_more, behind-is, behind-put}
 use Rattle.tptp_putting.proofs.TextLaws.{constant-text, variable-text}
 use Rattle.tptp_putting.proofs.tokens.put_term.Goals as goal
 
@@ -18,11 +18,7 @@ returns-then-zero c =
 pub returns : goal.returns
 unfolding bytes
 returns c =
-    let name : let a = c.args in Behind (bytes "X") a.before a.out.now c.put_bytes-name.new.out c.put_bytes-name.result = record {
-      adds =
-          c.put_bytes-name.ensures;
-      long = c.put_bytes-name.auto.out;
-    } in
+    let name = behind-put (bytes "X") c.args.before c.put_bytes-name.result c.put_bytes-name.ensures c.put_bytes-name.auto.out in
     let a = c.args in
     behind-is (behind_more (name) (digits 10 c.value.result) c.put_natural.ensures c.put_natural.auto.out)
     (variable-text a.words.now a.i (sym c.zero.ensures ∙ c.if-zero.false) ∙ rw c.value.ensures)

@@ -1,7 +1,7 @@
 -- `tptp_putting::tokens::put_terms` meets its contract: the first term, and those behind it. The loop's invariant: the terms behind the
 -- first stand up to the one reached.
 use Rattle.tptp_putting.specs.Texts.{term_text}
-use Rattle.tptp_putting.proofs.AddLaws.{Behind, behind_then, behind-is, left-more, left_end}
+use Rattle.tptp_putting.proofs.AddLaws.{behind_then, behind-is, left-more, left_end, behind-put}
 use Rattle.tptp_putting.proofs.TextLaws.{runs_more, runs_none, next_term, terms-first}
 use Rattle.tptp_putting.proofs.tokens.put_terms.Goals as goal
 
@@ -14,8 +14,7 @@ loop-i-preserved c =
 
 pub returns : goal.returns
 returns c =
-    let head : let a = c.args in Behind (term_text a.words.now a.first) a.before a.out.now c.put_term-put.new.out c.put_term-put.result =
-    record { adds = c.put_term-put.ensures; long = c.put_term-put.auto.out } in
+    let head = behind-put (term_text c.args.words.now c.args.first) c.args.before c.put_term-put.result c.put_term-put.ensures c.put_term-put.auto.out in
     let a = c.args in
     let rest = left_end c.loop-i.invariant
     (runs_none (next_term a.words.now a.first) c.loop-i.i a.n c.loop-i-test.false) in

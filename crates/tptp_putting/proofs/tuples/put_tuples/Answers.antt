@@ -1,8 +1,8 @@
 -- `tptp_putting::tuples::put_tuples` meets its contract: nothing, or two texts, one behind the other.
 use mathlib.Core.List.{[]}
 use Rattle.model.specs.Bytes.{bytes}
-use Rattle.tptp_putting.specs.Texts.{tuples_text, Tuples}
-use Rattle.tptp_putting.proofs.AddLaws.{adds-is, adds_none, Behind, behind-fits, behind_more, behind-is}
+use Rattle.tptp_putting.specs.Texts.{tuples_text}
+use Rattle.tptp_putting.proofs.AddLaws.{adds-is, adds_none, behind-put, behind-fits, behind_more, behind-is}
 use Rattle.tptp_putting.proofs.TupleLaws.{closed_none, closed_some}
 use Rattle.tptp_putting.proofs.tuples.put_tuples.Goals as goal
 
@@ -15,16 +15,16 @@ returns-then-end-first c =
 
 pub put_bytes-requires : goal.put_bytes-requires
 put_bytes-requires c =
-    let tuples : let a = c.args in (t : Tuples a.words.now a.v a.first a.end) → Behind (tuples_text a.scope t.list) a.before a.out.now
-    c.put_each-tuples.new.out c.put_each-tuples.result = λ t. record { adds = c.put_each-tuples.ensures t; long = c.put_each-tuples.auto.out } in
-    behind-fits (tuples c.requires.3)
+    let each = c.put_each-tuples in
+    behind-fits (behind-put _ c.args.before each.result (each.ensures c.requires.3) each.auto.out)
 
 pub returns : goal.returns
 unfolding bytes
 returns c =
-    let tuples : let a = c.args in (t : Tuples a.words.now a.v a.first a.end) → Behind (tuples_text a.scope t.list) a.before a.out.now
-    c.put_each-tuples.new.out c.put_each-tuples.result = λ t. record { adds = c.put_each-tuples.ensures t; long = c.put_each-tuples.auto.out } in
     let a = c.args in
+    let each = c.put_each-tuples in
     λ t.
-    behind-is (behind_more (tuples t) (bytes ")") c.put_bytes.ensures c.put_bytes.auto.out)
+    behind-is
+    (behind_more (behind-put (tuples_text a.scope t.list) a.before each.result (each.ensures t) each.auto.out) (bytes ")") c.put_bytes.ensures
+    c.put_bytes.auto.out)
     (closed_some a.words.now a.v a.first a.end a.scope t c.if-end-first.false)

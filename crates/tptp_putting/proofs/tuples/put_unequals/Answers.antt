@@ -5,7 +5,7 @@ use native.Mathlib.Omega.{arith}
 use mathlib.Core.Path.{refl}
 use Rattle.model.specs.Words.{word}
 use Rattle.tptp_putting.specs.Texts.{unequal_text}
-use Rattle.tptp_putting.proofs.AddLaws.{Behind, behind_then, behind-is, left-more, left_end}
+use Rattle.tptp_putting.proofs.AddLaws.{behind_then, behind-is, left-more, left_end, behind-put}
 use Rattle.tptp_putting.proofs.TextLaws.{next_unequal, tuple_starts, tuple-more, tuple-none}
 use Rattle.tptp_putting.proofs.tuples.put_unequals.Goals as goal
 
@@ -22,8 +22,7 @@ loop-i-preserved c =
 
 pub returns : goal.returns
 returns c =
-    let head : let a = c.args in Behind (unequal_text a.scope (word a.words.now a.first)) a.before a.out.now c.put_unequal-put.new.out
-    c.put_unequal-put.result = record { adds = c.put_unequal-put.ensures; long = c.put_unequal-put.auto.out } in
+    let head = behind-put (unequal_text c.args.scope (word c.args.words.now c.args.first)) c.args.before c.put_unequal-put.result c.put_unequal-put.ensures c.put_unequal-put.auto.out in
     let a = c.args in
     let end = a.first + a.v in
     let rest = left_end c.loop-i.invariant.1

@@ -2,7 +2,7 @@
 -- behind the first stand up to the one reached.
 use Prim.Native.Nat.{◌+◌}
 use Rattle.model.specs.Decimal.{digits}
-use Rattle.tptp_putting.proofs.AddLaws.{Behind, behind_then, behind-is, left-more, left_end}
+use Rattle.tptp_putting.proofs.AddLaws.{behind_then, behind-is, left-more, left_end, behind-put}
 use Rattle.tptp_putting.proofs.TextLaws.{runs_more, runs_none, next_variable, variables-first}
 use Rattle.tptp_putting.proofs.tuples.put_variables.Goals as goal
 
@@ -15,11 +15,7 @@ loop-x-preserved c =
 
 pub returns : goal.returns
 returns c =
-    let head : let a = c.args in Behind (digits 10 a.scope) a.before a.out.now c.put_natural-put.new.out c.put_natural-put.result = record {
-      adds =
-          c.put_natural-put.ensures;
-      long = c.put_natural-put.auto.out;
-    } in
+    let head = behind-put (digits 10 c.args.scope) c.args.before c.put_natural-put.result c.put_natural-put.ensures c.put_natural-put.auto.out in
     let a = c.args in
     let rest = left_end c.loop-x.invariant (runs_none next_variable c.loop-x.x (a.scope + a.v) c.loop-x-test.false) in
     behind-is (behind_then (head) rest)

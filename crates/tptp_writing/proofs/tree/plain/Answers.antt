@@ -2,7 +2,7 @@
 use mathlib.Core.Path.{refl}
 use mathlib.Core.Bool.{cond}
 use Rattle.model.specs.Bytes.{bytes}
-use Rattle.tptp_putting.proofs.AddLaws.{Behind}
+use Rattle.tptp_putting.proofs.AddLaws.{behind-put}
 use Rattle.tptp_writing.proofs.NodeTextLaws.{plain-text}
 use Rattle.tptp_writing.proofs.PrintLaws.{prints_placed}
 use Rattle.tptp_writing.proofs.tree.plain.Goals as goal
@@ -10,6 +10,5 @@ use Rattle.tptp_writing.proofs.tree.plain.Goals as goal
 pub returns : goal.returns
 unfolding bytes
 returns c =
-    let word : let a = c.args in Behind (cond a.holds (bytes "$true") (bytes "$false")) a.before a.out.now c.put_either-put.new.out
-    c.put_either-put.result = record { adds = c.put_either-put.ensures; long = c.put_either-put.auto.out } in
+    let word = behind-put (cond c.args.holds (bytes "$true") (bytes "$false")) c.args.before c.put_either-put.result c.put_either-put.ensures c.put_either-put.auto.out in
     prints_placed _ _ _ (word) (plain-text _) refl c.placed.ensures

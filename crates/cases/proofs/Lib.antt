@@ -1,2 +1,0 @@
--- A law that the proofs of several functions cite.
-pub mod Fronts
