@@ -15,7 +15,7 @@ use tptp_tokens::numbers::natural;
 use tptp_tokens::tokens::{Step, expect, literal, opening, skip, token};
 
 // One of two numbers.
-// A function of its own: an `if` at each call would leave its two ways to be joined in the proof of the straight line.
+// A function of its own: an `if` at each call would leave its two ways to be joined in each goal behind it.
 pub fn either(b: bool, x: usize, y: usize) -> usize
     ensures { result ≡ cond b x y }
 {

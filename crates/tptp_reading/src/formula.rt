@@ -254,10 +254,7 @@ fn some(
 fn count_of(listed: Result<Counted, Refused>) -> usize
     ensures { result ≡ F.count_of listed }
 {
-    match listed {
-        Ok(found) => found.count,
-        Err(_) => 0,
-    }
+    listed.map_or(0, |found| found.count)
 }
 
 // A restriction with excluded tuples, in parentheses of their own, the first of which is open; the connective before the first tuple
