@@ -59,8 +59,12 @@ fn case(
     }
 }
 
+<<<<<<< HEAD
 // Reads the line at the front of the input: what the cases below it are given, or a case, which is run. Any other line is passed
 // over.
+=======
+/// Reads the line that the input begins with: what the cases below it are given, or a case, which is run. Any other is passed over.
+>>>>>>> 6dbdcfe9f1be4107d73279a1e9fc1b99e433c839
 fn line(rt: &(impl Print + AllocGlobal), given: &mut Given, input: &str) -> Result<()> {
     let Some((first, rest)) = input.split_once(char::is_whitespace) else {
         return Ok(());
@@ -87,6 +91,7 @@ fn line(rt: &(impl Print + AllocGlobal), given: &mut Given, input: &str) -> Resu
 fn lines(rt: &(impl Print + AllocGlobal), input: &str) -> Result<()> {
     let mut given = Given::new(rt.alloc());
     let mut rest = input;
+    // By hand: a line is read together with all that follows it, since a list may go on over further lines.
     while !rest.is_empty() {
         line(rt, &mut given, rest)?;
         rest = rest.split_once('\n').map_or("", |(_, below)| below);
