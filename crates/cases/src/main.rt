@@ -59,12 +59,7 @@ fn case(
     }
 }
 
-<<<<<<< HEAD
-// Reads the line at the front of the input: what the cases below it are given, or a case, which is run. Any other line is passed
-// over.
-=======
-/// Reads the line that the input begins with: what the cases below it are given, or a case, which is run. Any other is passed over.
->>>>>>> 6dbdcfe9f1be4107d73279a1e9fc1b99e433c839
+// Reads the line that the input begins with: what the cases below it are given, or a case, which is run. Any other is passed over.
 fn line(rt: &(impl Print + AllocGlobal), given: &mut Given, input: &str) -> Result<()> {
     let Some((first, rest)) = input.split_once(char::is_whitespace) else {
         return Ok(());
