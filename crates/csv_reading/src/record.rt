@@ -51,6 +51,7 @@ pub fn record(table: &[i32], text: &[u8], at: usize, row: &mut [i32]) -> Result<
     let mut from = at;
     let mut fields = 0;
     let mut good = true;
+    // By hand: the index goes on behind the field that was read, up to the end of the record.
     loop {
         let Field { value, end } = field_at(text, from)?;
         good = good & put_field(row, fields, value);

@@ -50,25 +50,27 @@ impl From<Refusal> for u32 {
 }
 
 // The refusal with a number: of a number that no question has, the last.
-#[tactic(auto, unfolding(crate::specs::Answer::refusal_of, crate::specs::Answer::in_order))]
-pub fn refusal_of(n: usize) -> Refusal
-    ensures { result ≡ refusal_of n }
-{
-    match n {
-        1 => Refusal::Table,
-        2 => Refusal::PolicyLength,
-        3 => Refusal::Shape,
-        4 => Refusal::Level,
-        5 => Refusal::Predicate,
-        6 => Refusal::Variable,
-        7 => Refusal::Mode,
-        8 => Refusal::LogLength,
-        9 => Refusal::Row,
-        10 => Refusal::Repeat,
-        11 => Refusal::Scratch,
-        12 => Refusal::Room,
-        13 => Refusal::Csv,
-        14 => Refusal::Record,
-        _ => Refusal::Tptp,
+impl From<usize> for Refusal {
+    ghost from_gives = { λ n refusal. refusal ≡ refusal_of n };
+
+    #[tactic(auto, unfolding(crate::specs::Answer::refusal_of, crate::specs::Answer::in_order))]
+    fn from(n: usize) -> Refusal {
+        match n {
+            1 => Refusal::Table,
+            2 => Refusal::PolicyLength,
+            3 => Refusal::Shape,
+            4 => Refusal::Level,
+            5 => Refusal::Predicate,
+            6 => Refusal::Variable,
+            7 => Refusal::Mode,
+            8 => Refusal::LogLength,
+            9 => Refusal::Row,
+            10 => Refusal::Repeat,
+            11 => Refusal::Scratch,
+            12 => Refusal::Room,
+            13 => Refusal::Csv,
+            14 => Refusal::Record,
+            _ => Refusal::Tptp,
+        }
     }
 }
