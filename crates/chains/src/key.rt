@@ -76,7 +76,7 @@ fn of_row(log: &[i32], row: usize) -> usize
     )
 }
 
-// The key of a row, of either kind.
+// The key of a row, of either kind. By a kind: `fill`, given a closure for it, would ask in each clause what is the contract here.
 pub fn of(kind: Kind, log: &[i32], row: usize) -> usize
     requires { 8 * row + 8 ≤ length log.now }
     ensures { result ≡ K.key_by kind log.now row }

@@ -23,6 +23,7 @@ pub fn check_policy(table: &[i32], policy: &[i32]) -> Answer
 pub fn check_rows(table: &[i32], log: &[i32]) -> Result<(), Refused>
     ensures { outcome result ≡ ask_log table.now log.now }
 {
+    // An array, since no call takes memory.
     let mut links = [0; 20480];
     logs::log::check_log(table, log, &mut links)
 }

@@ -24,6 +24,7 @@ fn place_record(
         let to = from + ROW_WORDS;
         return record(table, text, at, &mut rows[from..to]);
     }
+    // An array, since no call takes memory.
     let mut spare = [0; ROW_WORDS];
     record(table, text, at, &mut spare)
 }

@@ -40,7 +40,8 @@ fn numbers_at(words: &[i32], at: usize) -> [i32; 16]
     numbers
 }
 
-// The numbers of the variables, 0 for a free one, and whether each is bound.
+// The numbers of the variables, 0 for a free one, and whether each is bound. Two arrays, since a place of scratch has sixteen numbers
+// and one word of marks, and what is put in for variables is the numbers alone.
 #[derive(Clone, Copy)]
 pub struct Environment {
     pub numbers: [i32; 16],

@@ -105,6 +105,7 @@ fn by_key(
     requires { (scope + v ≤ 16) × (17 * (first + count) ≤ length scratch.old) × (from + v * m ≤ length words.now) × (m + count ≤ 8192) }
     ensures { Chosen words.now from m v scope scratch.old scratch.new first count result }
 {
+    // Two arrays with links from one to the other, since no call takes memory: a map would.
     let mut heads = [0; 8192];
     let mut links = [0; 8192];
     choose(

@@ -167,6 +167,7 @@ fn list_kept(
 
 // The room for the next child of an all-of (true), which is handed the list that was made, or for the next branch of an any-of, once that
 // list stands behind those of the branches before.
+// By an if, since a word of the policy says which: closures would be chosen by an if too.
 fn pass_on(every: bool, scratch: &mut [i32], handed: Room, to: Room) -> Room
     requires { R.Passing every handed to scratch.old }
     ensures { R.Passed every handed to scratch.old scratch.new result }
@@ -179,6 +180,7 @@ fn pass_on(every: bool, scratch: &mut [i32], handed: Room, to: Room) -> Room
 }
 
 // The list of an all-of (true) or any-of, once no child is left: the last child's, counted once more, or those of all branches.
+// By an if, since a word of the policy says which: closures would be chosen by an if too.
 fn close(every: bool, room: Room, handed: Room, next: usize) -> Option<Made>
     requires { (handed.used ≤ handed.limit) × (room.base ≤ handed.base) }
     ensures { R.Closes every room handed next result }

@@ -30,6 +30,7 @@ fn no_room(table: &[i32], text: &[u8], rows: usize) -> Answer
     requires { (ask_table table.now ≡ passed tt) × L.Spelled table.now text.now rows × (rows ≤ 4096) }
     ensures { L.NoRoom table.now text.now result }
 {
+    // An array, since no call takes memory.
     let mut words = [0; 32768];
     ask_apart(table, text, &mut words, rows)?;
     Err(Refused(Refusal::Room, 0))

@@ -32,6 +32,7 @@ fn link_true(log: &[i32], links: &mut [u16])
     requires { (row_count log.now ≤ 4096) × (links.old ≡ replicate 12546 0) }
     ensures { TrueRows log.now links.new }
 {
+    // An array, since no call takes memory.
     let mut keys = [0; 4096];
     chain_true(log, &mut keys, links);
 }

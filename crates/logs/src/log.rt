@@ -115,6 +115,7 @@ pub fn check_log(table: &[i32], log: &[i32], links: &mut [u16]) -> Result<(), Re
     if 4096 < log.len() / ROW_WORDS {
         return Err(Refused(Refusal::LogLength, 0));
     }
+    // An array, since no call takes memory.
     let mut keys = [0; 4096];
     chain_and_check(table, log, &mut keys, links)
 }

@@ -28,6 +28,7 @@ pub fn value_at(
     let predicate = words::value(words, at + 1);
     let n = words::value(words, at + 2);
     let numbers = environment.numbers;
+    // An array, since no call takes memory.
     let mut arguments = [0; 6];
     terms::arguments(&numbers, words, at + 3, n, &mut arguments);
     value::value_of(table, log, atoms, predicate, &arguments)

@@ -55,6 +55,7 @@ impl From<usize> for Refusal {
 
     #[tactic(auto, unfolding(crate::specs::Answer::refusal_of, crate::specs::Answer::in_order))]
     fn from(n: usize) -> Refusal {
+        // By hand: no derive takes a number to its variant.
         match n {
             1 => Refusal::Table,
             2 => Refusal::PolicyLength,

@@ -44,6 +44,7 @@ pub fn tag_at(words: &[i32], at: usize) -> Tag
     if words::negative(words, at) {
         return Tag::Unused;
     }
+    // By hand: no derive gives the variants that hold a bool their numbers.
     match words::value(words, at) {
         0 => Tag::Plain(false),
         1 => Tag::Plain(true),

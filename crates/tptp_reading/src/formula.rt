@@ -67,6 +67,7 @@ fn read_leaf(
         × F.LeafByte (is_formula (as_role role)) (get_or text.now at 0) }
     ensures { F.OperandRead room table.now (as_role role) above scope state.old out.old out.new text.now at (F.came result state.new) }
 {
+    // An array, since no call takes memory.
     let mut own = [0; 16];
     leaf_apart(
         table, text, at, room, role, above, scope, state, &mut own, out,
@@ -80,7 +81,7 @@ fn connective(every: bool) -> u8
     if every { 38 } else { 124 }
 }
 
-// What stands between restriction and body.
+// What stands between restriction and body. By an if, since the text says which.
 fn implies(text: &[u8], at: usize, every: bool) -> Step
     requires { at ≤ length text.now }
     ensures { Steps (R.token (cond every (bytes "=>") (bytes "&"))) text.now at result }

@@ -193,6 +193,7 @@ impl State {
     }
 
     // What an operand is handed: the marks behind the one before, or those of the start.
+    // By an if, here and in `join`, since the text says which: closures would be chosen by an if too.
     pub fn hand(&mut self, every: bool, start: [bool; 16])
         ensures { T.Handed every start self.old self.new }
     {
