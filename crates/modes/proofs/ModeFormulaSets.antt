@@ -1,4 +1,4 @@
--- The variables below the next free one, marked one at a time; and a test of those from it on, one at a time.
+-- The variables below the next free one, marked one at a time.
 use Prim.Native.Nat.{ℕ, ◌+◌, ◌<◌}
 use native.Mathlib.Omega.{arith}
 use mathlib.Core.Path.{◌≡◌, sym, ap, ◌∙◌}
