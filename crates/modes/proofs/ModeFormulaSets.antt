@@ -1,15 +1,13 @@
--- The variables below the next free one, marked one at a time; and a test of those from it on, one at a time.
-use Prim.Native.Nat.{ℕ, suc, ◌+◌, ◌-◌, ◌≤◌, ◌<◌}
+-- The variables below the next free one, marked one at a time.
+use Prim.Native.Nat.{ℕ, ◌+◌, ◌<◌}
 use native.Mathlib.Omega.{arith}
-use native.Mathlib.Nat.{sub-zero, add-zero}
 use mathlib.Core.Path.{◌≡◌, sym, ap, ◌∙◌}
 use mathlib.Core.Logic.{⊎_elim}
-use mathlib.Core.Bool.{Bool, true, false, ◌&&◌, ◌||◌}
+use mathlib.Core.Bool.{Bool, true, false, ◌||◌}
 use mathlib.Core.List.{List}
 use lib.ListN.{length, set, length-set, replicate, length-replicate, get_or-replicate, get_or-eq_default}
 use lib.Dec.{ltb, eqb}
 use borrow.Author.Tests.{ltb-true, ltb-false, eqb-true, eqb-false, lt-ltb, le-ltb}
-use Rattle.model.specs.Lists.{span, all}
 use Rattle.laws.specs.Words.Tests.{decide}
 use Rattle.modes.specs.Mode.{set_of}
 use Rattle.modes.proofs.ModeTerms.{set_marked}
@@ -55,28 +53,3 @@ marked_more marks i h m =
           ∙ ap (λ (b : Bool). b || eqb x i) (m.below x)
           ∙ one_more x i;
     }
-
--- v numbers from `scope` on, those from number i on
-module _ (test : ℕ → Bool) (scope v : ℕ) where
-  abbrev pub left : (i : ℕ) → Bool
-  left i = all test (span (scope + i) (v - i))
-
-  pub left-first : all test (span scope v) ≡ left 0
-  left-first = rw (sub-zero v, add-zero scope)
-
-  pub left-last : (i : ℕ) → v ≤ i → left i ≡ true
-  unfolding span all
-  left-last i h = let none : v - i ≡ 0 = omega arith in rw none
-
-  left-next : (i : ℕ) → i < v → left i ≡ (test (scope + i) && left (i + 1))
-  unfolding span all
-  left-next i h =
-      let some : v - i ≡ suc (v - (i + 1)) = omega arith in
-      let next : suc (scope + i) ≡ scope + (i + 1) = omega arith in
-      rw (some, next)
-
-  pub left-yes : (i : ℕ) → i < v → test (scope + i) ≡ true → left i ≡ left (i + 1)
-  left-yes i h e = left-next i h ∙ rw e
-
-  pub left-no : (i : ℕ) → i < v → test (scope + i) ≡ false → left i ≡ false
-  left-no i h e = left-next i h ∙ rw e

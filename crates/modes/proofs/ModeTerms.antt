@@ -1,5 +1,5 @@
 -- Terms under a set of variables: each is bound, inputs are bound, and the set with their variables, one term at a time.
-use Prim.Native.Nat.{ℕ, ◌+◌, ◌≤◌, ◌<◌}
+use Prim.Native.Nat.{ℕ, zero, suc, ◌+◌, ◌*◌, ◌≤◌, ◌<◌}
 use native.Mathlib.Omega.{arith}
 use native.Mathlib.Numerals.{add-one}
 use mathlib.Core.Path.{◌≡◌, refl, sym, ap, ◌∙◌, fun_ext}
@@ -12,13 +12,16 @@ use lib.Dec.{eqb, ltb}
 use lib.IntN.{ℤ, pos}
 use borrow.Author.Tests.{eqb-true, eqb-false, ltb-true, ltb-false}
 use Rattle.model.specs.Words.{Words, word, value, equal}
-use Rattle.model.specs.Lists.{all, any}
+use Rattle.model.specs.Lists.{span, all, any}
 use Rattle.model.specs.Table.{input}
 use Rattle.model.specs.Tree.{Term, constant, variable}
 use Rattle.model.specs.Reading.{places, term_at}
 use Rattle.model.specs.Mode.{Variables, is_bound, is_variable, inputs_bound}
 use Rattle.laws.specs.Words.Tests.{decide}
+use Rattle.laws.specs.Lists.Membership.{all_map}
+use Rattle.std.specs.List.{list_all, range_with_len}
 use Rattle.policies.specs.Standing.{terms_at}
+use Rattle.policies.proofs.NodeTerms.{all_places}
 use Rattle.modes.specs.Mode.{set_of, with_terms}
 
 -- the term at an index
@@ -31,29 +34,31 @@ module _ (words : Words) (i : ℕ) where
   unfolding term_at is_bound
   variable-bound b e = rw e
 
-all_map : {A B : Type 0} (test : B → Bool) (f : A → B) (l : List A) → all test (map f l) ≡ all (λ x. test (f x)) l
-unfolding all
-all_map test f [] = refl
-all_map test f (x ∷ l) = ap (λ (b : Bool). test (f x) && b) (all_map test f l)
-
--- all terms bound, as a test at their places
-pub bound-places : (words : Words) (b : Variables) (first n : ℕ) → all (is_bound b) (terms_at words first n) ≡ all (λ i. is_bound b (term_at words i)) (places first n)
+-- all terms bound, as a test of the numbers of their places
+pub bound-places :
+    (words : Words) (b : Variables) (first n : ℕ) →
+    list_all (λ i. is_bound b (term_at words (first + 2 * i))) (range_with_len 0 n) ≡ all (is_bound b) (terms_at words first n)
 unfolding terms_at
-bound-places words b first n = all_map (is_bound b) (term_at words) (places first n)
+bound-places words b first n =
+    all_places (λ k. is_bound b (term_at words k)) first n
+    ∙ all_map (λ k. is_bound b (term_at words k)) (is_bound b) (term_at words) (places first n) (λ x m. refl)
 
--- inputs, one term at a time
-module _ (table : Words) (p : ℕ) (b : Variables) (i : ℕ) (t : Term) (ts : List Term) where
-  pub inputs_free : input table p i ≡ false → inputs_bound table p b i (t ∷ ts) ≡ inputs_bound table p b (i + 1) ts
-  unfolding inputs_bound
-  inputs_free e = rw (e, add-one i)
+-- the inputs bound, as a test of the numbers of all terms
+module _ (table words : Words) (p : ℕ) (b : Variables) where
+  inputs_range :
+      (f : ℕ → ℕ) (i n : ℕ) →
+      list_all (λ j. not (input table p j) || is_bound b (term_at words (f j))) (range_with_len i n) ≡ inputs_bound table p b i (map (term_at words) (map f (span i n)))
+  unfolding inputs_bound span
+  inputs_range f i zero = refl
+  inputs_range f i (suc n) =
+      ap (λ (c : Bool). (not (input table p i) || is_bound b (term_at words (f i))) && c)
+      (inputs_range f (i + 1) n ∙ ap (λ (j : ℕ). inputs_bound table p b j (map (term_at words) (map f (span j n)))) (add-one i))
 
-  pub inputs_yes : input table p i ≡ true → is_bound b t ≡ true → inputs_bound table p b i (t ∷ ts) ≡ inputs_bound table p b (i + 1) ts
-  unfolding inputs_bound
-  inputs_yes e f = rw (e, f, add-one i)
-
-  pub inputs_no : input table p i ≡ true → is_bound b t ≡ false → inputs_bound table p b i (t ∷ ts) ≡ false
-  unfolding inputs_bound
-  inputs_no e f = rw (e, f)
+  pub inputs_places :
+      (first n : ℕ) →
+      list_all (λ i. not (input table p i) || is_bound b (term_at words (first + 2 * i))) (range_with_len 0 n) ≡ inputs_bound table p b 0 (terms_at words first n)
+  unfolding terms_at places
+  inputs_places first n = inputs_range (λ i. first + 2 * i) 0 n
 
 -- a set with one variable more
 or_right-true : (a : Bool) → (a || true) ≡ true

@@ -44,12 +44,7 @@ fn all_bound(words: &[i32], bound: [bool; 16], first: usize, n: usize) -> bool
     requires { (first + 2 * n < 2 ^ 64) × (all (in_scope words.now 16) (places first n) ≡ true) }
     ensures { result ≡ all (is_bound (set_of bound)) (terms_at words.now first n) }
 {
-    for i in 0..n {
-        if !term_bound(words, bound, first + 2 * i) {
-            return false;
-        }
-    }
-    true
+    (0..n).all(|i| term_bound(words, bound, first + 2 * i))
 }
 
 // Of the n terms of an atom, those at input positions are bound.
@@ -64,14 +59,7 @@ fn inputs_bound(
     requires { (n ≤ 6) × (first + 2 * n < 2 ^ 64) × (all (in_scope words.now 16) (places first n) ≡ true) }
     ensures { result ≡ inputs_bound table.now p (set_of bound) 0 (terms_at words.now first n) }
 {
-    for i in 0..n {
-        if table::input(table, p, i) {
-            if !term_bound(words, bound, first + 2 * i) {
-                return false;
-            }
-        }
-    }
-    true
+    (0..n).all(|i| !table::input(table, p, i) || term_bound(words, bound, first + 2 * i))
 }
 
 // The set with the variables among the n terms from an index on.
@@ -266,12 +254,7 @@ pub fn introduced(set: [bool; 16], scope: usize, v: usize) -> bool
     requires { scope + v ≤ 16 }
     ensures { result ≡ all (set_of set) (span scope v) }
 {
-    for i in 0..v {
-        if !set[scope + i] {
-            return false;
-        }
-    }
-    true
+    (scope..scope + v).all(|x| set[x])
 }
 
 // n formulas one behind another, in one role under a node at the level above.

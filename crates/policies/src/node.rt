@@ -97,12 +97,7 @@ fn kinds(words: &[i32], first: usize, n: usize) -> bool
     requires { first + 2 * n < 2 ^ 64 }
     ensures { result ≡ all (good_kind words.now) (places first n) }
 {
-    for i in 0..n {
-        if !words::within(words, first + 2 * i, 0, 1) {
-            return false;
-        }
-    }
-    true
+    (0..n).all(|i| words::within(words, first + 2 * i, 0, 1))
 }
 
 // The term at an index is a constant, or one of the variables in scope.
@@ -121,12 +116,7 @@ fn variables(words: &[i32], scope: usize, first: usize, n: usize) -> bool
     requires { first + 2 * n < 2 ^ 64 }
     ensures { result ≡ all (in_scope words.now scope) (places first n) }
 {
-    for i in 0..n {
-        if !in_scope(words, scope, first + 2 * i) {
-            return false;
-        }
-    }
-    true
+    (0..n).all(|i| in_scope(words, scope, first + 2 * i))
 }
 
 // A node in this role is a formula.

@@ -1,41 +1,27 @@
--- `modes::mode::all_bound` meets its contract. The loop's invariant: the terms from number i on decide.
+-- `modes::mode::all_bound` meets its contract.
+use Prim.Native.Nat.{◌+◌, ◌*◌}
 use native.Mathlib.Omega.{arith}
-use mathlib.Core.Path.{sym, ◌∙◌}
+use mathlib.Core.Path.{◌∙◌}
+use Rattle.std.proofs.iter.Serving.{serving}
+use borrow.Author.Rules.{rules}
+use borrow.Author.Tests.{tests}
+use Rattle.std.proofs.lemmas.Iterator.{YieldsList-from_range}
+use Rattle.std.proofs.lemmas.Iterator.Search.{all_from_yields_List}
 use Rattle.model.specs.Reading.{term_at, in_scope}
 use Rattle.model.specs.Mode.{is_bound}
 use Rattle.modes.specs.Mode.{set_of}
-use Rattle.policies.proofs.NodeTerms.{from_first, from_last, from-yes, from-no}
 use Rattle.policies.proofs.TermLaws.{place-holds}
 use Rattle.modes.proofs.ModeTerms.{bound-places}
 use Rattle.modes.proofs.mode.all_bound.Goals as goal
 
-pub loop-i-init : goal.loop-i-init
-loop-i-init c = (
-  omega arith,
-  bound-places c.args.words.now (set_of c.args.bound) c.args.first c.args.n
-      ∙ from_first (λ k. is_bound (set_of c.args.bound) (term_at c.args.words.now k)) c.args.first c.args.n,
-)
-
-pub term_bound-requires : goal.term_bound-requires
-term_bound-requires c = (
-  omega (arith, c.requires.0),
-  place-holds (in_scope c.args.words.now 16) c.args.first
-      c.args.n c.loop-i.i c.requires.1 c.loop-i-test.true,
-)
-
-pub returns-then-not-term_bound : goal.returns-then-not-term_bound
-returns-then-not-term_bound c =
-    sym
-    (c.loop-i.invariant.1
-    ∙ from-no _ _ _ c.loop-i.i c.loop-i-test.true
-    (sym c.term_bound.ensures ∙ c.if-not-term_bound.true))
-
-pub loop-i-preserved : goal.loop-i-preserved
-loop-i-preserved c = (
-  omega arith,
-  c.loop-i.invariant.1 ∙ from-yes _ _ _ c.loop-i.i c.loop-i-test.true
-      (sym c.term_bound.ensures ∙ c.if-not-term_bound.false),
-)
+pub all-requires-clause-callable : goal.all-requires-clause-callable
+all-requires-clause-callable c =
+    let a = c.args in grind (serving, arith, c.requires.1, place-holds (in_scope a.words.now 16) a.first a.n)
 
 pub returns : goal.returns
-returns c = sym (c.loop-i.invariant.1 ∙ from_last _ _ _ c.loop-i.i c.loop-i-test.false)
+returns c =
+    let a = c.args in
+    all_from_yields_List (λ i. is_bound (set_of a.bound) (term_at a.words.now (a.first + 2 * i))) _ _ _ c.all.ensures.ran
+    (YieldsList-from_range 0 a.n a.n (cc) (omega arith))
+    (λ x b q k. search (rules, tests))
+    ∙ bound-places a.words.now (set_of a.bound) a.first a.n

@@ -1,64 +1,30 @@
--- `modes::mode::inputs_bound` meets its contract. The loop's invariant: the terms from number i on decide.
+-- `modes::mode::inputs_bound` meets its contract.
+use Prim.Native.Nat.{◌+◌, ◌*◌}
 use native.Mathlib.Omega.{arith}
-use mathlib.Core.Path.{sym, ap, ◌∙◌}
-use Rattle.model.specs.Reading.{in_scope}
-use Rattle.model.specs.Mode.{inputs_bound}
+use mathlib.Core.Path.{◌∙◌}
+use mathlib.Core.Bool.{not, ◌||◌}
+use borrow.Author.Rules.{rules}
+use borrow.Author.Tests.{tests}
+use Rattle.std.proofs.iter.Serving.{serving}
+use Rattle.std.proofs.lemmas.Iterator.{YieldsList-from_range}
+use Rattle.std.proofs.lemmas.Iterator.Search.{all_from_yields_List}
+use Rattle.model.specs.Reading.{term_at, in_scope}
+use Rattle.model.specs.Mode.{is_bound}
+use Rattle.model.specs.Table.{input}
 use Rattle.modes.specs.Mode.{set_of}
-use Rattle.policies.proofs.TermLaws.{place-holds, terms-first, terms-next, terms-last}
-use Rattle.modes.proofs.ModeTerms.{inputs_free, inputs_yes, inputs_no}
+use Rattle.policies.proofs.TermLaws.{place-holds}
+use Rattle.modes.proofs.ModeTerms.{inputs_places}
 use Rattle.modes.proofs.mode.inputs_bound.Goals as goal
-use Rattle.modes.proofs.mode.inputs_bound.Goals.{then-input+else-not-term_bound, else-input}
 
-pub loop-i-init : goal.loop-i-init
-loop-i-init c = (
-  omega arith,
-  ap (inputs_bound c.args.table.now c.args.p (set_of c.args.bound) 0)
-      (terms-first c.args.words.now c.args.first c.args.n),
-)
-
-pub term_bound-requires : goal.term_bound-requires
-term_bound-requires c = (
-  omega (arith, c.requires.1),
-  place-holds (in_scope c.args.words.now 16) c.args.first
-      c.args.n c.loop-i.i c.requires.2 c.loop-i-test.true,
-)
-
-pub returns-then-not-term_bound : goal.returns-then-not-term_bound
-returns-then-not-term_bound c =
-    let a = c.args in
-    sym
-    (c.loop-i.invariant.1
-    ∙ ap (inputs_bound a.table.now a.p (set_of a.bound) c.loop-i.i)
-    (terms-next a.words.now a.first a.n c.loop-i.i c.loop-i-test.true)
-    ∙ inputs_no a.table.now a.p (set_of a.bound) c.loop-i.i _ _
-    (sym c.input.ensures ∙ c.if-input.true)
-    (sym c.term_bound.ensures ∙ c.if-not-term_bound.true))
-
-pub loop-i-preserved : goal.loop-i-preserved
-loop-i-preserved c =
-    let a = c.args in
-    let next =
-    c.loop-i.invariant.1
-    ∙ ap (inputs_bound a.table.now a.p (set_of a.bound) c.loop-i.i)
-    (terms-next a.words.now a.first a.n c.loop-i.i c.loop-i-test.true)
-    in (
-      omega arith,
-      next
-          ∙ elim c.if-input.branch [
-            | then-input+else-not-term_bound w ↦
-                inputs_yes a.table.now a.p (set_of a.bound) c.loop-i.i _ _
-                (sym c.input.ensures ∙ w.if-input.true)
-                (sym w.term_bound.ensures ∙ w.if-not-term_bound.false)
-            | else-input w ↦
-                inputs_free a.table.now a.p (set_of a.bound) c.loop-i.i _ _ (sym c.input.ensures ∙ w.if-input.false)
-          ],
-    )
+pub all-requires-clause-callable : goal.all-requires-clause-callable
+all-requires-clause-callable c =
+    let a = c.args in grind (serving, arith, c.requires.2, place-holds (in_scope a.words.now 16) a.first a.n)
 
 pub returns : goal.returns
-unfolding inputs_bound
 returns c =
     let a = c.args in
-    sym
-    (c.loop-i.invariant.1
-    ∙ ap (inputs_bound a.table.now a.p (set_of a.bound) c.loop-i.i)
-    (terms-last a.words.now a.first a.n c.loop-i.i c.loop-i-test.false))
+    all_from_yields_List (λ i. not (input a.table.now a.p i) || is_bound (set_of a.bound) (term_at a.words.now (a.first + 2 * i))) _ _ _
+    c.all.ensures.ran
+    (YieldsList-from_range 0 a.n a.n (cc) (omega arith))
+    (λ x b q k. search (rules, tests))
+    ∙ inputs_places a.table.now a.words.now a.p (set_of a.bound) a.first a.n

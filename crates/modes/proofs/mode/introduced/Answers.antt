@@ -1,16 +1,19 @@
--- `modes::mode::introduced` meets its contract. The loop's invariant: the variables from number i on decide.
+-- `modes::mode::introduced` meets its contract.
+use Prim.Native.Nat.{◌+◌}
 use native.Mathlib.Omega.{arith}
-use mathlib.Core.Path.{sym, ◌∙◌}
-use Rattle.modes.proofs.ModeFormulaSets.{left-last, left-yes, left-no}
+use mathlib.Core.Path.{◌∙◌}
+use borrow.Author.Rules.{rules}
+use borrow.Author.Tests.{tests}
+use Rattle.std.proofs.lemmas.Iterator.{YieldsList-from_range}
+use Rattle.std.proofs.lemmas.Iterator.Search.{all_from_yields_List}
+use Rattle.modes.specs.Mode.{set_of}
+use Rattle.policies.proofs.NodeTerms.{all_range}
 use Rattle.modes.proofs.mode.introduced.Goals as goal
 
-pub returns-then-not-set-scope : goal.returns-then-not-set-scope
-returns-then-not-set-scope c =
-    sym (c.loop-i.invariant.1 ∙ left-no _ _ _ c.loop-i.i c.loop-i-test.true (c.if-not-set-scope.true))
-
-pub loop-i-preserved : goal.loop-i-preserved
-loop-i-preserved c =
-    (omega arith, c.loop-i.invariant.1 ∙ left-yes _ _ _ c.loop-i.i c.loop-i-test.true (c.if-not-set-scope.false))
-
 pub returns : goal.returns
-returns c = sym (c.loop-i.invariant.1 ∙ left-last _ _ _ c.loop-i.i c.loop-i-test.false)
+returns c =
+    let a = c.args in
+    all_from_yields_List (set_of a.set) _ _ _ c.all.ensures.ran
+    (YieldsList-from_range a.scope (a.scope + a.v) a.v (cc) (omega arith))
+    (λ x b q k. search (rules, tests))
+    ∙ all_range (set_of a.set) a.scope a.v

@@ -1,25 +1,19 @@
--- `policies::node::variables` meets its contract. The loop's invariant: the terms from number i on decide. The measure is their number.
+-- `policies::node::variables` meets its contract.
+use Prim.Native.Nat.{◌+◌, ◌*◌}
 use native.Mathlib.Omega.{arith}
-use mathlib.Core.Path.{sym, ◌∙◌}
+use mathlib.Core.Path.{◌∙◌}
 use borrow.Author.Rules.{rules}
-use Rattle.policies.proofs.NodeTerms.{from_first, from_last, from-yes, from-no}
+use borrow.Author.Tests.{tests}
+use Rattle.std.proofs.lemmas.Iterator.{YieldsList-from_range}
+use Rattle.std.proofs.lemmas.Iterator.Search.{all_from_yields_List}
+use Rattle.model.specs.Reading.{in_scope}
+use Rattle.policies.proofs.NodeTerms.{all_places}
 use Rattle.policies.proofs.node.variables.Goals as goal
 
-pub loop-i-init : goal.loop-i-init
-loop-i-init c = (search rules, from_first _ _ _)
-
-pub returns-then-not-in_scope : goal.returns-then-not-in_scope
-returns-then-not-in_scope c =
-    sym
-    (c.loop-i.invariant.1
-    ∙ from-no _ _ _ c.loop-i.i c.loop-i-test.true (sym c.in_scope.ensures ∙ c.if-not-in_scope.true))
-
-pub loop-i-preserved : goal.loop-i-preserved
-loop-i-preserved c = (
-  omega (arith, c.loop-i-test.true),
-  c.loop-i.invariant.1
-      ∙ from-yes _ _ _ c.loop-i.i c.loop-i-test.true (sym c.in_scope.ensures ∙ c.if-not-in_scope.false),
-)
-
 pub returns : goal.returns
-returns c = sym (c.loop-i.invariant.1 ∙ from_last _ _ _ c.loop-i.i c.loop-i-test.false)
+returns c =
+    let a = c.args in
+    all_from_yields_List (λ i. in_scope a.words.now a.scope (a.first + 2 * i)) _ _ _ c.all.ensures.ran
+    (YieldsList-from_range 0 a.n a.n (cc) (omega arith))
+    (λ x b q k. search (rules, tests))
+    ∙ all_places (in_scope a.words.now a.scope) a.first a.n
