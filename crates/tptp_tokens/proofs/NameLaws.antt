@@ -12,20 +12,6 @@ use Rattle.model.specs.declared.Refusal.TheVariants.{Tptp}
 use Rattle.tptp_tokens.specs.Steps.{from, got, Skips, Reads}
 use Rattle.tptp_tokens.proofs.TokenLaws.{here, over, onward, halt, look-here, look-over}
 
--- further bytes of a word: one more, another byte, the end of the text
-pub word_more :
-    (text : Text) (i : ℕ) → i < length text → word_byte (get_or text i 0) ≡ true → from word_bytes text i ≡ from word_bytes text (i + 1)
-unfolding word_bytes
-word_more text i h e = rw (here text i h, e, add-one i)
-
-pub word-stop : (text : Text) (i : ℕ) → i < length text → word_byte (get_or text i 0) ≡ false → from word_bytes text i ≡ got text tt i
-unfolding word_bytes
-word-stop text i h e = rw (here text i h, e)
-
-pub word_over : (text : Text) (i : ℕ) → i ≡ length text → from word_bytes text i ≡ got text tt (length text)
-unfolding word_bytes
-word_over text i e = rw (e, over text (length text) (omega arith))
-
 -- a name by its first byte
 module _ (text : Text) (at i : ℕ) (s : Skips text at i) where
   pub name-over : length text ≤ i → from name text at ≡ refused Tptp i

@@ -19,12 +19,7 @@ fn word_end(text: &[u8], at: usize) -> usize
     requires { at ≤ length text.now }
     ensures { Reads R.word_bytes text.now at tt result }
 {
-    for i in at..text.len() {
-        if !is_word(text[i]) {
-            return i;
-        }
-    }
-    text.len()
+    at + text[at..].iter().take_while(|b| is_word(**b)).count()
 }
 
 // A name.
