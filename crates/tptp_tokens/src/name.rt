@@ -28,11 +28,7 @@ pub fn name(text: &[u8], at: usize) -> Step
     ensures { Steps R.name text.now at result }
 {
     let i = skip(text, at);
-    if text.len() <= i {
-        return Err(Refused(Refusal::Tptp, i));
-    }
-    let b = text[i];
-    if !b.is_ascii_lowercase() {
+    if !text.get(i).is_some_and(u8::is_ascii_lowercase) {
         return Err(Refused(Refusal::Tptp, i));
     }
     Ok(word_end(text, i))
