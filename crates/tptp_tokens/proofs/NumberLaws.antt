@@ -9,13 +9,14 @@ use lib.ListN.{length, get_or}
 use borrow.Author.Tests.{le-leb, lt-leb, eq-eqb, ne_eqb, ltb-true, ltb-false, leb-true, leb-false}
 use Rattle.model.specs.Bytes.{Text, digit, minus}
 use Rattle.model.specs.Answer.{refused}
-use Rattle.model.specs.TptpReading.{give, look, literal, more_digits, number, natural, integer}
+use Rattle.model.specs.TptpReading.{give, ◌>>=◌, look, literal, more_digits, number, natural, integer}
 use Rattle.model.specs.declared.Refusal.TheVariants.{Tptp}
 use Rattle.tptp_tokens.specs.Steps.{from, got, Skips}
-use Rattle.std.specs.Prelude.{Result, Ok, Err}
+use Rattle.std.specs.Prelude.{Result, Ok, Err, pos}
 use Rattle.model.specs.declared.Refused.{Refused}
 use Rattle.tptp_tokens.specs.declared.numbers.Digits.{Digits}
 use Rattle.tptp_tokens.specs.Numbers.{More, digit-from, Numbers, Naturals, behind_minus, Magnitudes, Integers, with_sign}
+use Rattle.laws.specs.Lists.Span.{side}
 use Rattle.laws.specs.Words.Tests.{decide, clash, or_false_left, or_false_right}
 use mathlib.Core.Logic.{⊎_elim}
 use lib.Dec.{leb, ltb, eqb}
@@ -135,10 +136,6 @@ module _ (text : Text) (at : ℕ) where
 
 -- a number with a minus, and one without
 module _ (text : Text) (at i : ℕ) (s : Skips text at i) where
-  pub integer-over : length text ≤ i → from integer text at ≡ refused Tptp i
-  unfolding integer
-  integer-over h = halt look _ text at Tptp i (look-over text at i s h)
-
   module _ (h : i < length text) where
     pub integer-below : get_or text i 0 ≡ 45 → (r : Result Digits Refused) → Magnitudes text (i + 1) r → Integers text at (with_sign r true)
     unfolding integer give
@@ -163,18 +160,26 @@ module _ (text : Text) (at i : ℕ) (s : Skips text at i) where
         ∙ rw (eq-eqb (get_or text i 0) 45 e)
         (onward (literal (minus ∷ [])) _ text i tt (i + 1) sign ∙ halt behind_minus _ text (i + 1) r.0 r.1 m)
 
-    pub integer-above : (get_or text i 0 ≡ 45 → ⊥) → (r : Result Digits Refused) → Naturals text i r → Integers text at (with_sign r false)
-    unfolding integer give
-    integer-above e (Ok r) m =
-        let start = onward look _ text at (get_or text i 0) i (look-here text at i s h) in (
-          record {
-            low = omega (arith, s.low, m.0.low);
-            high = m.0.high;
-            reads = start ∙ rw (ne_eqb (get_or text i 0) 45 e) (onward natural _ text i r.number r.next m.0.reads);
-          },
-          m.2,
-          omega (arith, s.low, m.1),
-        )
-    integer-above e (Err r) m =
-        onward look _ text at (get_or text i 0) i (look-here text at i s h)
-        ∙ rw (ne_eqb (get_or text i 0) 45 e) (halt natural _ text i r.0 r.1 m)
+  above : (i < length text → get_or text i 0 ≡ 45 → ⊥) → from integer text at ≡ from (natural >>= λ n. give (pos n)) text i
+  unfolding integer natural number
+  above e =
+      ⊎_elim
+      (λ (h : i < length text). onward look _ text at (get_or text i 0) i (look-here text at i s h) ∙ rw (ne_eqb (get_or text i 0) 45 (e h)))
+      (λ (h : length text ≤ i).
+      halt look _ text at Tptp i (look-over text at i s h)
+      ∙ sym (halt natural (λ n. give (pos n)) text i Tptp i (ap (λ (t : Text). natural t i) (over text i h))))
+      (side (length text) i)
+
+  pub integer-above :
+      (i < length text → get_or text i 0 ≡ 45 → ⊥) → (r : Result Digits Refused) → Naturals text i r → Integers text at (with_sign r false)
+  unfolding give
+  integer-above e (Ok r) m = (
+    record {
+      low = omega (arith, s.low, m.0.low);
+      high = m.0.high;
+      reads = above e ∙ onward natural (λ n. give (pos n)) text i r.number r.next m.0.reads;
+    },
+    m.2,
+    omega (arith, s.low, m.1),
+  )
+  integer-above e (Err r) m = above e ∙ halt natural (λ n. give (pos n)) text i r.0 r.1 m

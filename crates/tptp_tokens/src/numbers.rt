@@ -96,10 +96,7 @@ pub fn integer(text: &[u8], at: usize) -> Result<Signed, Refused>
     ensures { N.Integers text.now at result }
 {
     let i = skip(text, at);
-    if text.len() <= i {
-        return Err(Refused(Refusal::Tptp, i));
-    }
-    if text[i] == bytes::MINUS {
+    if text.get(i) == Some(&bytes::MINUS) {
         return with_sign(magnitude(text, i + 1), true);
     }
     with_sign(natural(text, i), false)
