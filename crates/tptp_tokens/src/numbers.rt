@@ -52,14 +52,12 @@ fn number(text: &[u8], at: usize, least: u8, most: usize) -> Result<Digits, Refu
     requires { (at ≤ length text.now) × (48 ≤ least) × (9 ≤ most) × (most < 2 ^ 32) }
     ensures { N.Numbers least most text.now at result }
 {
-    if text.len() <= at {
-        return Err(Refused(Refusal::Tptp, at));
+    match text.get(at) {
+        Some(&b) if (least <= b) & (b <= b'9') => {
+            more_digits(text, at + 1, most, (b - bytes::NOUGHT) as usize)
+        }
+        _ => Err(Refused(Refusal::Tptp, at)),
     }
-    let b = text[at];
-    if (b < least) | (b'9' < b) {
-        return Err(Refused(Refusal::Tptp, at));
-    }
-    more_digits(text, at + 1, most, (b - bytes::NOUGHT) as usize)
 }
 
 // The number of a predicate or a variable.

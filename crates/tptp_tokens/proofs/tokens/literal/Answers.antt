@@ -2,7 +2,7 @@
 use native.Mathlib.Omega.{arith}
 use Prim.Native.Nat.{◌+◌, ◌<◌}
 use mathlib.Core.Path.{◌≡◌, ◌∙◌}
-use lib.ListN.{length, get_or}
+use lib.ListN.{length}
 use borrow.Author.Rules.{rules}
 use Rattle.tptp_tokens.proofs.TokenLaws.{literal-more, literal-other, literal_end}
 use Rattle.tptp_tokens.proofs.tokens.literal.Goals as goal
@@ -11,16 +11,14 @@ pub returns-then-ne : goal.returns-then-ne
 returns-then-ne c =
     let l = c.loop-i in
     let a = c.args in
-    let other : a.at + l.i < length a.text.now → get_or a.text.now (a.at + l.i) 0 ≡ get_or a.word.now l.i 0 → ⊥ = search rules in
-    l.invariant.1 ∙ literal-other a.word.now a.text.now l.i (a.at + l.i) c.loop-i-test.true other
+    l.invariant.1 ∙ literal-other a.word.now a.text.now l.i (a.at + l.i) c.loop-i-test.true (search rules)
 
 pub loop-i-preserved : goal.loop-i-preserved
 loop-i-preserved c =
     let l = c.loop-i in
     let a = c.args in
     let there : a.at + l.i < length a.text.now = search rules in
-    let same : get_or a.text.now (a.at + l.i) 0 ≡ get_or a.word.now l.i 0 = search rules in
-    let more = literal-more a.word.now a.text.now l.i (a.at + l.i) c.loop-i-test.true there same in
+    let more = literal-more a.word.now a.text.now l.i (a.at + l.i) c.loop-i-test.true there (search rules) in
     let next : a.at + (l.i + 1) ≡ a.at + l.i + 1 = omega arith in
     (omega (arith, there), rw next (l.invariant.1 ∙ more))
 
