@@ -13,6 +13,7 @@ use Rattle.model.specs.Answer.{passed}
 use Rattle.model.specs.TptpReading.{Reader}
 use Rattle.tptp_tokens.specs.Steps.{Reads}
 
+-- a reader that passes each byte that meets a test, and stops at any other and at the text's end
 module _
     (test : ℕ → Bool) (reader : Reader (Unit {0})) (none : (p : ℕ) → reader [] p ≡ passed (record { what = tt; rest = []; at = p }))
     (some :
