@@ -1,7 +1,8 @@
 -- Laws for the reading of nodes with none below them.
 use Prim.Native.Nat.{ℕ, suc, ◌+◌, ◌*◌, ◌≤◌, ◌<◌}
 use native.Mathlib.Omega.{arith}
-use mathlib.Core.Path.{◌≡◌, refl, ap, ◌∙◌}
+use mathlib.Core.Path.{◌≡◌, refl, sym, ap, ◌∙◌}
+use mathlib.Core.Logic.{⊎_elim}
 use mathlib.Core.Bool.{Bool, true, false, cond}
 use mathlib.Core.List.{List, [], ◌∷◌, ◌++◌}
 use lib.ListN.{length, take, set, get_or, length-append}
@@ -13,9 +14,10 @@ use Rattle.model.specs.Lists.{gather}
 use Rattle.model.specs.Bytes.{Text, bytes, blank}
 use Rattle.model.specs.Answer.{refused}
 use Rattle.model.specs.Tree.{Term, constant, variable, Tree, plain, atom, compare, encode_term, encode}
-use Rattle.model.specs.TptpReading.{stop, peek, look, literal, token, ◌>>=◌}
+use Rattle.model.specs.TptpReading.{stop, blanks, onwards, peek, look, literal, token, ◌>>=◌}
 use Rattle.model.specs.TptpReading.{read_atom, read_compare, read_dollar, read_negated}
 use Rattle.model.specs.declared.Refusal.TheVariants.{Tptp}
+use Rattle.laws.specs.Lists.Span.{side}
 use Rattle.laws.specs.Putting.Modes.{terms-length}
 use Rattle.tptp_tokens.specs.Steps.{Step, from, got, Skips, Valued}
 use Rattle.tptp_leaves.specs.Terms.{TermStands, TermsStand}
@@ -77,10 +79,6 @@ plain-stands b (k ∷ ws) own₁ l t = record { leaf = refl; most = omega arith;
 
 -- behind a dollar
 module _ (text : Text) (at room : ℕ) where
-  pub dollar-over : length text ≤ at → from (behind_dollar room) text at ≡ refused Tptp at
-  unfolding peek
-  dollar-over h = halt peek _ text at Tptp at (ap (λ (t : Text). peek t at) (over text at h))
-
   module _ (h : at < length text) where
     peeked : from peek text at ≡ got text (get_or text at 0) at
     unfolding peek
@@ -93,37 +91,56 @@ module _ (text : Text) (at room : ℕ) where
         (onward peek _ text at (get_or text at 0) at peeked ∙ rw (eq-eqb (get_or text at 0) 116 e))
         (omega arith)
 
-    module _ (n : get_or text at 0 ≡ 116 → ⊥) where
-      pub dollar-false :
-          get_or text at 0 ≡ 102 → (facts : Tree → Type 0) (r : Step) → Valued (read_plain (bytes "false") false) facts text at r → Valued (behind_dollar room) facts text at r
-      dollar-false e facts =
-          valued_from (behind_dollar room) (read_plain (bytes "false") false) facts text at at
-          (onward peek _ text at (get_or text at 0) at peeked ∙ rw (ne_eqb (get_or text at 0) 116 n, eq-eqb (get_or text at 0) 102 e))
-          (omega arith)
+    pub dollar-false :
+        get_or text at 0 ≡ 102 → (facts : Tree → Type 0) (r : Step) → Valued (read_plain (bytes "false") false) facts text at r → Valued (behind_dollar room) facts text at r
+    dollar-false e facts =
+        let n : get_or text at 0 ≡ 116 → ⊥ = λ k. omega (arith, e, k) in
+        valued_from (behind_dollar room) (read_plain (bytes "false") false) facts text at at
+        (onward peek _ text at (get_or text at 0) at peeked ∙ rw (ne_eqb (get_or text at 0) 116 n, eq-eqb (get_or text at 0) 102 e))
+        (omega arith)
 
-      pub dollar-compare :
-          (get_or text at 0 ≡ 102 → ⊥) →
-          from (behind_dollar room) text at ≡ from (literal (bytes "lesseq") >>= λ _. read_compare room true) text at
-      dollar-compare m =
-          onward peek _ text at (get_or text at 0) at peeked ∙ rw (ne_eqb (get_or text at 0) 116 n, ne_eqb (get_or text at 0) 102 m)
+  -- neither: the comparison's name is read, which the end of the text refuses as well
+  pub dollar-compare :
+      (at < length text → get_or text at 0 ≡ 116 → ⊥) →
+      (at < length text → get_or text at 0 ≡ 102 → ⊥) →
+      from (behind_dollar room) text at ≡ from (literal (bytes "lesseq") >>= λ _. read_compare room true) text at
+  unfolding peek literal bytes
+  dollar-compare n m =
+      ⊎_elim
+      (λ (h : at < length text).
+      onward peek _ text at (get_or text at 0) at (peeked h)
+      ∙ rw (ne_eqb (get_or text at 0) 116 (n h), ne_eqb (get_or text at 0) 102 (m h)))
+      (λ (h : length text ≤ at).
+      halt peek _ text at Tptp at (ap (λ (t : Text). peek t at) (over text at h))
+      ∙ sym (halt (literal (bytes "lesseq")) (λ _. read_compare room true) text at Tptp at (ap (λ (t : Text). literal (bytes "lesseq") t at) (over text at h))))
+      (side (length text) at)
 
 -- behind a negation
 module _ (text : Text) (at room i : ℕ) (s : Skips text at i) where
-  pub negation-over : length text ≤ i → from (behind_negation room) text at ≡ refused Tptp i
-  negation-over h = halt look _ text at Tptp i (look-over text at i s h)
+  pub negation-atom :
+      i < length text → get_or text i 0 ≡ 112 → (facts : Tree → Type 0) (r : Step) → Valued (read_atom room false) facts text i r →
+      Valued (behind_negation room) facts text at r
+  negation-atom h e facts =
+      valued_from (behind_negation room) (read_atom room false) facts text at i
+      (onward look _ text at (get_or text i 0) i (look-here text at i s h) ∙ rw (eq-eqb (get_or text i 0) 112 e))
+      s.low
 
-  module _ (h : i < length text) where
-    pub negation-atom :
-        get_or text i 0 ≡ 112 → (facts : Tree → Type 0) (r : Step) → Valued (read_atom room false) facts text i r → Valued (behind_negation room) facts text at r
-    negation-atom e facts =
-        valued_from (behind_negation room) (read_atom room false) facts text at i
-        (onward look _ text at (get_or text i 0) i (look-here text at i s h) ∙ rw (eq-eqb (get_or text i 0) 112 e))
-        s.low
+  name-over : length text ≤ i → from (token (bytes "$lesseq")) text i ≡ refused Tptp i
+  unfolding token blanks literal ◌>>=◌ onwards bytes
+  name-over h = ap (λ (t : Text). token (bytes "$lesseq") t i) (over text i h)
 
-    pub negation-compare :
-        (get_or text i 0 ≡ 112 → ⊥) →
-        from (behind_negation room) text at ≡ from (token (bytes "$lesseq") >>= λ _. read_compare room false) text i
-    negation-compare e = onward look _ text at (get_or text i 0) i (look-here text at i s h) ∙ rw (ne_eqb (get_or text i 0) 112 e)
+  -- no atom: the comparison's name is read, which the end of the text refuses as well
+  pub negation-compare :
+      (i < length text → get_or text i 0 ≡ 112 → ⊥) →
+      from (behind_negation room) text at ≡ from (token (bytes "$lesseq") >>= λ _. read_compare room false) text i
+  unfolding bytes
+  negation-compare e =
+      ⊎_elim
+      (λ (h : i < length text). onward look _ text at (get_or text i 0) i (look-here text at i s h) ∙ rw (ne_eqb (get_or text i 0) 112 (e h)))
+      (λ (h : length text ≤ i).
+      halt look _ text at Tptp i (look-over text at i s h)
+      ∙ sym (halt (token (bytes "$lesseq")) (λ _. read_compare room false) text i Tptp i (name-over h)))
+      (side (length text) i)
 
 -- a node with none below it
 module _ (text : Text) (at room : ℕ) (h : at < length text) (n : blank (get_or text at 0) ≡ false) where

@@ -3,18 +3,20 @@ use Prim.Native.Nat.{ℕ, suc, ◌+◌, ◌*◌, ◌-◌, ◌≤◌, ◌<◌}
 use native.Mathlib.Numerals.{add-one}
 use native.Mathlib.Omega.{arith}
 use mathlib.Core.Path.{◌≡◌, refl, sym, ap, ap₂, ◌∙◌, subst}
+use mathlib.Core.Logic.{⊎_elim}
 use mathlib.Core.Bool.{false}
 use mathlib.Core.List.{List, [], ◌∷◌, ◌++◌, append_assoc, append-nil}
 use lib.ListN.{length, take, set, get_or, length-set, length-append}
 use lib.Seq.{take-suc, take-suc-set, take-set-le, take-set-lt, take-append-le, take-take, set_at, length-take-le}
 use lib.IntN.{ℤ, pos}
 use borrow.Author.Tests.{eq-eqb, ne_eqb}
+use Rattle.laws.specs.Lists.Span.{side}
 use Rattle.model.specs.Words.{Words}
 use Rattle.model.specs.Lists.{gather}
 use Rattle.model.specs.Bytes.{Text, bytes, comma}
 use Rattle.model.specs.Answer.{refused}
 use Rattle.model.specs.Tree.{Term, constant, variable, encode_term}
-use Rattle.model.specs.TptpReading.{give, look, natural, integer, term, terms, token, up_to}
+use Rattle.model.specs.TptpReading.{give, look, blanks, peek, onwards, ◌>>=◌, natural, integer, term, terms, token, up_to}
 use Rattle.model.specs.declared.Refusal.{Refusal}
 use Rattle.model.specs.declared.Refusal.TheVariants.{Tptp}
 use Rattle.text.specs.Reading.{signed}
@@ -24,7 +26,7 @@ use Rattle.tptp_leaves.specs.Terms.{TermStands, TermsStand, read_variable, read_
 use Rattle.std.specs.Prelude.{Ok}
 use Rattle.tptp_tokens.specs.declared.numbers.Digits.{Digits}
 use Rattle.tptp_tokens.specs.declared.numbers.Signed.{Signed}
-use Rattle.tptp_tokens.proofs.TokenLaws.{onward, halt, look-here, look-over, token-here}
+use Rattle.tptp_tokens.proofs.TokenLaws.{over, onward, halt, look-here, look-over, token-here}
 use Rattle.tptp_tokens.proofs.BehindLaws.{valued_from}
 use Rattle.tptp_tokens.proofs.UpTo.{skips_self, attach, attach-attach, attach-give, upto_none, upto_over, upto_stop, upto_more}
 use Rattle.tptp_tokens.proofs.UpTo.{upto_refused}
@@ -62,25 +64,31 @@ module _ (text : Text) (at k : ℕ) (own : Words) where
   }
 
   module _ (i : ℕ) (s : Skips text at i) where
-    pub term-over : length text ≤ i → from term text at ≡ refused Tptp i
-    unfolding term
-    term-over h = halt look _ text at Tptp i (look-over text at i s h)
-
-    module _ (h : i < length text) (own' : Words) where
-      pub term-variable : get_or text i 0 ≡ 88 → (r : Step) → Valued read_variable (TermStands k own own') text (i + 1) r → Valued term (TermStands k own own') text at r
+    module _ (own' : Words) where
+      pub term-variable :
+          i < length text → get_or text i 0 ≡ 88 → (r : Step) → Valued read_variable (TermStands k own own') text (i + 1) r →
+          Valued term (TermStands k own own') text at r
       unfolding term bytes
-      term-variable e =
+      term-variable h e =
           valued_from term read_variable (TermStands k own own') text at (i + 1)
           (onward look _ text at (get_or text i 0) i (look-here text at i s h)
           ∙ rw (eq-eqb (get_or text i 0) 88 e)
           (onward (token (88 ∷ [])) _ text i tt (i + 1) (token-here text i i (skips_self text at i s h) 88 h e).reads))
           (omega (arith, s.low))
 
-      pub term-constant : (get_or text i 0 ≡ 88 → ⊥) → (r : Step) → Valued read_constant (TermStands k own own') text i r → Valued term (TermStands k own own') text at r
-      unfolding term
+      -- no variable: a constant is read, which the end of the text refuses as well
+      pub term-constant :
+          (i < length text → get_or text i 0 ≡ 88 → ⊥) → (r : Step) → Valued read_constant (TermStands k own own') text i r →
+          Valued term (TermStands k own own') text at r
+      unfolding term integer look blanks peek ◌>>=◌ onwards
       term-constant e =
           valued_from term read_constant (TermStands k own own') text at i
-          (onward look _ text at (get_or text i 0) i (look-here text at i s h) ∙ rw (ne_eqb (get_or text i 0) 88 e))
+          (⊎_elim
+          (λ (h : i < length text). onward look _ text at (get_or text i 0) i (look-here text at i s h) ∙ rw (ne_eqb (get_or text i 0) 88 (e h)))
+          (λ (h : length text ≤ i).
+          halt look _ text at Tptp i (look-over text at i s h)
+          ∙ sym (ap (λ (t : Text). read_constant t i) (over text i h)))
+          (side (length text) i))
           s.low
 
 -- the terms of a list one behind another, and one more

@@ -77,14 +77,10 @@ fn dollar(text: &[u8], at: usize, room: usize, own: &mut [i32]) -> Step
     requires { (at ≤ length text.now) × (15 ≤ length own.old) }
     ensures { Valued (L.behind_dollar room) (L.LeafStands own.new) text.now at result }
 {
-    if text.len() <= at {
-        return Err(Refused(Refusal::Tptp, at));
-    }
-    let b = text[at];
-    if b == 116 {
+    if text.get(at) == Some(&116) {
         return plain(text, at, true, b"true", own);
     }
-    if b == 102 {
+    if text.get(at) == Some(&102) {
         return plain(text, at, false, b"false", own);
     }
     let name = literal(text, at, b"lesseq")?;
@@ -97,10 +93,7 @@ fn negated(text: &[u8], at: usize, room: usize, own: &mut [i32]) -> Step
     ensures { Valued (L.behind_negation room) (L.LeafStands own.new) text.now at result }
 {
     let i = skip(text, at);
-    if text.len() <= i {
-        return Err(Refused(Refusal::Tptp, i));
-    }
-    if text[i] == 112 {
+    if text.get(i) == Some(&112) {
         return atom(text, i, room, false, own);
     }
     let name = token(text, i, b"$lesseq")?;

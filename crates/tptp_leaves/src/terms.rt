@@ -46,10 +46,7 @@ pub fn term(text: &[u8], at: usize, own: &mut [i32], k: usize) -> Step
     ensures { Valued R.term (T.TermStands k own.old own.new) text.now at result }
 {
     let i = skip(text, at);
-    if text.len() <= i {
-        return Err(Refused(Refusal::Tptp, i));
-    }
-    if text[i] == 88 {
+    if text.get(i) == Some(&88) {
         return variable(text, i + 1, own, k);
     }
     constant(text, i, own, k)

@@ -1,4 +1,5 @@
 pub mod TokenLaws
+pub mod ScanLaws
 pub mod NumberLaws
 pub mod BehindLaws
 pub mod UpTo

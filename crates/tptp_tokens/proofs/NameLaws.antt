@@ -1,46 +1,33 @@
 -- Laws for the reading of names.
-use Prim.Native.Nat.{ℕ, ◌+◌, ◌≤◌, ◌<◌}
+use Prim.Native.Nat.{ℕ, ◌≤◌, ◌<◌}
 use native.Mathlib.Omega.{arith}
-use native.Mathlib.Numerals.{add-one}
 use mathlib.Core.Path.{◌≡◌, ◌∙◌}
+use mathlib.Core.Logic.{⊎_elim}
 use mathlib.Core.Bool.{true, false}
 use lib.ListN.{length, get_or}
-use Rattle.model.specs.Bytes.{Text, small, word_byte}
+use Rattle.laws.specs.Lists.Span.{side}
+use Rattle.model.specs.Bytes.{Text, small}
 use Rattle.model.specs.Answer.{refused}
 use Rattle.model.specs.TptpReading.{stop, look, word_bytes, name}
 use Rattle.model.specs.declared.Refusal.TheVariants.{Tptp}
-use Rattle.tptp_tokens.specs.Steps.{from, got, Skips, Reads}
-use Rattle.tptp_tokens.proofs.TokenLaws.{here, over, onward, halt, look-here, look-over}
-
--- further bytes of a word: one more, another byte, the end of the text
-pub word_more :
-    (text : Text) (i : ℕ) → i < length text → word_byte (get_or text i 0) ≡ true → from word_bytes text i ≡ from word_bytes text (i + 1)
-unfolding word_bytes
-word_more text i h e = rw (here text i h, e, add-one i)
-
-pub word-stop : (text : Text) (i : ℕ) → i < length text → word_byte (get_or text i 0) ≡ false → from word_bytes text i ≡ got text tt i
-unfolding word_bytes
-word-stop text i h e = rw (here text i h, e)
-
-pub word_over : (text : Text) (i : ℕ) → i ≡ length text → from word_bytes text i ≡ got text tt (length text)
-unfolding word_bytes
-word_over text i e = rw (e, over text (length text) (omega arith))
+use Rattle.tptp_tokens.specs.Steps.{from, Skips, Reads}
+use Rattle.tptp_tokens.proofs.TokenLaws.{onward, halt, look-here, look-over}
 
 -- a name by its first byte
 module _ (text : Text) (at i : ℕ) (s : Skips text at i) where
-  pub name-over : length text ≤ i → from name text at ≡ refused Tptp i
+  pub name-other : (i < length text → small (get_or text i 0) ≡ false) → from name text at ≡ refused Tptp i
+  unfolding name stop
+  name-other e =
+      ⊎_elim
+      (λ (h : i < length text). onward look _ text at (get_or text i 0) i (look-here text at i s h) ∙ rw (e h))
+      (λ (h : length text ≤ i). halt look _ text at Tptp i (look-over text at i s h))
+      (side (length text) i)
+
+  pub name-here :
+      (next : ℕ) → i < length text → small (get_or text i 0) ≡ true → Reads word_bytes text i tt next → Reads name text at tt next
   unfolding name
-  name-over h = halt look _ text at Tptp i (look-over text at i s h)
-
-  module _ (h : i < length text) where
-    pub name-other : small (get_or text i 0) ≡ false → from name text at ≡ refused Tptp i
-    unfolding name stop
-    name-other e = onward look _ text at (get_or text i 0) i (look-here text at i s h) ∙ rw e
-
-    pub name-here : (next : ℕ) → small (get_or text i 0) ≡ true → Reads word_bytes text i tt next → Reads name text at tt next
-    unfolding name
-    name-here next e r = record {
-      low = omega (arith, s.low, r.low);
-      high = r.high;
-      reads = onward look _ text at (get_or text i 0) i (look-here text at i s h) ∙ rw e r.reads;
-    }
+  name-here next h e r = record {
+    low = omega (arith, s.low, r.low);
+    high = r.high;
+    reads = onward look _ text at (get_or text i 0) i (look-here text at i s h) ∙ rw e r.reads;
+  }

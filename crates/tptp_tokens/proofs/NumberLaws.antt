@@ -2,23 +2,24 @@
 use Prim.Native.Nat.{ℕ, ◌+◌, ◌*◌, ◌-◌, ◌≤◌, ◌<◌}
 use native.Mathlib.Numerals.{add-one}
 use native.Mathlib.Omega.{arith}
-use mathlib.Core.Path.{◌≡◌, refl, sym, ap, ap₂, fun_ext, ◌∙◌}
-use mathlib.Core.Bool.{Bool, true, false, not, ◌&&◌, ◌||◌}
+use mathlib.Core.Path.{◌≡◌, refl, sym, ap, fun_ext, ◌∙◌}
+use mathlib.Core.Bool.{Bool, true, false, not, ◌&&◌}
 use mathlib.Core.List.{[], ◌∷◌}
 use lib.ListN.{length, get_or}
-use borrow.Author.Tests.{le-leb, lt-leb, eq-eqb, ne_eqb, ltb-true, ltb-false, leb-true, leb-false}
+use borrow.Author.Tests.{le-leb, lt-leb, eq-eqb, ne_eqb, leb-true, leb-false}
 use Rattle.model.specs.Bytes.{Text, digit, minus}
 use Rattle.model.specs.Answer.{refused}
-use Rattle.model.specs.TptpReading.{give, look, literal, more_digits, number, natural, integer}
+use Rattle.model.specs.TptpReading.{give, ◌>>=◌, look, literal, more_digits, number, natural, integer}
 use Rattle.model.specs.declared.Refusal.TheVariants.{Tptp}
 use Rattle.tptp_tokens.specs.Steps.{from, got, Skips}
-use Rattle.std.specs.Prelude.{Result, Ok, Err}
+use Rattle.std.specs.Prelude.{Result, Ok, Err, pos}
 use Rattle.model.specs.declared.Refused.{Refused}
 use Rattle.tptp_tokens.specs.declared.numbers.Digits.{Digits}
 use Rattle.tptp_tokens.specs.Numbers.{More, digit-from, Numbers, Naturals, behind_minus, Magnitudes, Integers, with_sign}
-use Rattle.laws.specs.Words.Tests.{decide, clash, or_false_left, or_false_right}
+use Rattle.laws.specs.Lists.Span.{side}
+use Rattle.laws.specs.Words.Tests.{decide, and_left}
 use mathlib.Core.Logic.{⊎_elim}
-use lib.Dec.{leb, ltb, eqb}
+use lib.Dec.{leb, eqb}
 use Rattle.tptp_tokens.proofs.TokenLaws.{here, over, onward, halt, look-here, look-over, literal-more, literal_end}
 
 -- one digit more; none behind a 0; too great a number; no digit; the text's end
@@ -63,38 +64,25 @@ module _ (text : Text) (at least most : ℕ) where
   unfolding number
   number-over h = rw (over text at h)
 
-  pub number-other :
-      at < length text → (ltb (get_or text at 0) least || ltb 57 (get_or text at 0)) ≡ true →
-      from (number (digit-from least) most) text at ≡ refused Tptp at
-  unfolding number
-  number-other h e = rw (here text at h, outside (get_or text at 0) e)
-    where
-      outside : (b : ℕ) → (ltb b least || ltb 57 b) ≡ true → digit-from least b ≡ false
-      outside b e =
-          ⊎_elim
-          (λ k. rw (lt-leb least b (ltb-true b least k)))
-          (λ k. ⊎_elim (λ l. rw (lt-leb b 57 (ltb-true 57 b l)) (and_false (leb least b))) (λ l. clash e (ap₂ (λ (x y : Bool). x || y) k l)) (decide (ltb 57 b)))
-          (decide (ltb b least))
-
-  module _ (h : at < length text) (e : (ltb (get_or text at 0) least || ltb 57 (get_or text at 0)) ≡ false) where
-    pub within : (least ≤ get_or text at 0) × (get_or text at 0 ≤ 57)
-    within =
-        (ltb-false (get_or text at 0) least (or_false_left _ _ e), ltb-false 57 (get_or text at 0) (or_false_right (ltb (get_or text at 0) least) _ e))
-
-    pub number-first : (r : Result Digits Refused) → 48 ≤ least → More most (get_or text at 0 - 48) text (at + 1) r → Numbers least most text at r
+  module _ (b : ℕ) (h : at < length text) (q : get_or text at 0 ≡ b) where
+    pub number-other : digit-from least b ≡ false → from (number (digit-from least) most) text at ≡ refused Tptp at
     unfolding number
-    number-first (Ok d) k m = (
+    number-other e = rw (here text at h, q, e)
+
+    pub number-first :
+        digit-from least b ≡ true → (r : Result Digits Refused) → 48 ≤ least → More most (b - 48) text (at + 1) r → Numbers least most text at r
+    unfolding number
+    number-first e (Ok d) k m = (
       record {
         low = omega (arith, m.0.low);
         high = m.0.high;
-        reads = rw (here text at h, le-leb least (get_or text at 0) within.0, le-leb (get_or text at 0) 57 within.1, sym (add-one at)) m.0.reads;
+        reads = rw (here text at h, q, e, sym (add-one at)) m.0.reads;
       },
       omega (arith, m.0.low),
-      omega (arith, m.1, within.0),
+      omega (arith, m.1, leb-true least b (and_left _ (leb b 57) e)),
       m.2,
     )
-    number-first (Err q) k m =
-        rw (here text at h, le-leb least (get_or text at 0) within.0, le-leb (get_or text at 0) 57 within.1, sym (add-one at)) m
+    number-first e (Err r) k m = rw (here text at h, q, e, sym (add-one at)) m
 
 module _ (text : Text) (at : ℕ) where
   -- from 0 on, and from 1 on
@@ -135,10 +123,6 @@ module _ (text : Text) (at : ℕ) where
 
 -- a number with a minus, and one without
 module _ (text : Text) (at i : ℕ) (s : Skips text at i) where
-  pub integer-over : length text ≤ i → from integer text at ≡ refused Tptp i
-  unfolding integer
-  integer-over h = halt look _ text at Tptp i (look-over text at i s h)
-
   module _ (h : i < length text) where
     pub integer-below : get_or text i 0 ≡ 45 → (r : Result Digits Refused) → Magnitudes text (i + 1) r → Integers text at (with_sign r true)
     unfolding integer give
@@ -163,18 +147,26 @@ module _ (text : Text) (at i : ℕ) (s : Skips text at i) where
         ∙ rw (eq-eqb (get_or text i 0) 45 e)
         (onward (literal (minus ∷ [])) _ text i tt (i + 1) sign ∙ halt behind_minus _ text (i + 1) r.0 r.1 m)
 
-    pub integer-above : (get_or text i 0 ≡ 45 → ⊥) → (r : Result Digits Refused) → Naturals text i r → Integers text at (with_sign r false)
-    unfolding integer give
-    integer-above e (Ok r) m =
-        let start = onward look _ text at (get_or text i 0) i (look-here text at i s h) in (
-          record {
-            low = omega (arith, s.low, m.0.low);
-            high = m.0.high;
-            reads = start ∙ rw (ne_eqb (get_or text i 0) 45 e) (onward natural _ text i r.number r.next m.0.reads);
-          },
-          m.2,
-          omega (arith, s.low, m.1),
-        )
-    integer-above e (Err r) m =
-        onward look _ text at (get_or text i 0) i (look-here text at i s h)
-        ∙ rw (ne_eqb (get_or text i 0) 45 e) (halt natural _ text i r.0 r.1 m)
+  above : (i < length text → get_or text i 0 ≡ 45 → ⊥) → from integer text at ≡ from (natural >>= λ n. give (pos n)) text i
+  unfolding integer natural number
+  above e =
+      ⊎_elim
+      (λ (h : i < length text). onward look _ text at (get_or text i 0) i (look-here text at i s h) ∙ rw (ne_eqb (get_or text i 0) 45 (e h)))
+      (λ (h : length text ≤ i).
+      halt look _ text at Tptp i (look-over text at i s h)
+      ∙ sym (halt natural (λ n. give (pos n)) text i Tptp i (ap (λ (t : Text). natural t i) (over text i h))))
+      (side (length text) i)
+
+  pub integer-above :
+      (i < length text → get_or text i 0 ≡ 45 → ⊥) → (r : Result Digits Refused) → Naturals text i r → Integers text at (with_sign r false)
+  unfolding give
+  integer-above e (Ok r) m = (
+    record {
+      low = omega (arith, s.low, m.0.low);
+      high = m.0.high;
+      reads = above e ∙ onward natural (λ n. give (pos n)) text i r.number r.next m.0.reads;
+    },
+    m.2,
+    omega (arith, s.low, m.1),
+  )
+  integer-above e (Err r) m = above e ∙ halt natural (λ n. give (pos n)) text i r.0 r.1 m

@@ -3,11 +3,13 @@ use Prim.Native.Nat.{ℕ, zero, suc, ◌+◌, ◌≤◌, ◌<◌}
 use native.Mathlib.Numerals.{add-one}
 use native.Mathlib.Omega.{arith}
 use mathlib.Core.Path.{◌≡◌, refl, sym, ap, ◌∙◌}
+use mathlib.Core.Logic.{⊎_elim}
 use mathlib.Core.Bool.{true, false}
 use mathlib.Core.List.{[], ◌∷◌}
 use lib.ListN.{length, drop, get_or, drop_of_length-le}
 use lib.Seq.{drop-cons}
 use borrow.Author.Tests.{eq-eqb, ne_eqb}
+use Rattle.laws.specs.Lists.Span.{side}
 use Rattle.model.specs.Bytes.{Text, blank, bytes}
 use Rattle.model.specs.Answer.{Outcome, passed, refused}
 use Rattle.model.specs.TptpReading.{Got, Reader, give, onwards, ◌>>=◌, stop, blanks, peek, literal, look, token, opening}
@@ -91,16 +93,15 @@ literal-more word text i k h l e =
 pub literal-other :
     (word text : Text) (i k : ℕ) →
     i < length word →
-    k < length text →
-    (get_or text k 0 ≡ get_or word i 0 → ⊥) →
+    (k < length text → get_or text k 0 ≡ get_or word i 0 → ⊥) →
     from (literal (drop i word)) text k ≡ refused Tptp k
 unfolding literal
-literal-other word text i k h l e = rw (here word i h, here text k l, ne_eqb (get_or text k 0) (get_or word i 0) e)
-
-pub literal-short :
-    (word text : Text) (i k : ℕ) → i < length word → length text ≤ k → from (literal (drop i word)) text k ≡ refused Tptp k
-unfolding literal
-literal-short word text i k h l = rw (here word i h, over text k l)
+literal-other word text i k h e =
+    rw (here word i h)
+    (⊎_elim
+    (λ (l : k < length text). rw (here text k l, ne_eqb (get_or text k 0) (get_or word i 0) (e l)))
+    (λ (l : length text ≤ k). rw (over text k l))
+    (side (length text) k))
 
 pub literal_end : (word text : Text) (i k : ℕ) → length word ≤ i → from (literal (drop i word)) text k ≡ got text tt k
 unfolding literal
@@ -134,11 +135,11 @@ module _ (text : Text) (at i : ℕ) (s : Skips text at i) where
     reads = token-from (c ∷ []) ∙ literal-more (c ∷ []) text 0 i (omega arith) h e ∙ literal_end (c ∷ []) text 1 (i + 1) (omega arith);
   }
 
-  pub token-other : (c : ℕ) → i < length text → (get_or text i 0 ≡ c → ⊥) → from (token (c ∷ [])) text at ≡ refused Tptp i
-  token-other c h e = token-from (c ∷ []) ∙ literal-other (c ∷ []) text 0 i (omega arith) h e
+  pub token-other : (c : ℕ) → (i < length text → get_or text i 0 ≡ c → ⊥) → from (token (c ∷ [])) text at ≡ refused Tptp i
+  token-other c e = token-from (c ∷ []) ∙ literal-other (c ∷ []) text 0 i (omega arith) e
 
   pub token-over : (c : ℕ) → length text ≤ i → from (token (c ∷ [])) text at ≡ refused Tptp i
-  token-over c h = token-from (c ∷ []) ∙ literal-short (c ∷ []) text 0 i (omega arith) h
+  token-over c h = token-other c (λ k. absurd (omega arith))
 
   -- an opening parenthesis
   pub opening-here : (room : ℕ) → i < length text → get_or text i 0 ≡ 40 → (room ≡ 0 → ⊥) → Reads (opening room) text at tt (i + 1)
@@ -151,12 +152,11 @@ module _ (text : Text) (at i : ℕ) (s : Skips text at i) where
   opening-level zero h e n = onward look _ text at (get_or text i 0) i (look-here h) ∙ rw e
   opening-level (suc room) h e n = absurd (omega arith)
 
-  pub opening-other : (room : ℕ) → i < length text → (get_or text i 0 ≡ 40 → ⊥) → from (opening room) text at ≡ refused Tptp i
+  pub opening-other : (room : ℕ) → (i < length text → get_or text i 0 ≡ 40 → ⊥) → from (opening room) text at ≡ refused Tptp i
   unfolding opening bytes stop
-  opening-other zero h e = onward look _ text at (get_or text i 0) i (look-here h) ∙ rw (ne_eqb (get_or text i 0) 40 e)
-  opening-other (suc room) h e = token-other 40 h e
-
-  pub opening-over : (room : ℕ) → length text ≤ i → from (opening room) text at ≡ refused Tptp i
-  unfolding opening bytes
-  opening-over zero h = halt look _ text at Tptp i (look-over h)
-  opening-over (suc room) h = token-over 40 h
+  opening-other zero e =
+      ⊎_elim
+      (λ (h : i < length text). onward look _ text at (get_or text i 0) i (look-here h) ∙ rw (ne_eqb (get_or text i 0) 40 (e h)))
+      (λ (h : length text ≤ i). halt look _ text at Tptp i (look-over h))
+      (side (length text) i)
+  opening-other (suc room) e = token-other 40 e

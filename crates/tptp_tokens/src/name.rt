@@ -19,12 +19,7 @@ fn word_end(text: &[u8], at: usize) -> usize
     requires { at ≤ length text.now }
     ensures { Reads R.word_bytes text.now at tt result }
 {
-    for i in at..text.len() {
-        if !is_word(text[i]) {
-            return i;
-        }
-    }
-    text.len()
+    at + text[at..].iter().take_while(|b| is_word(**b)).count()
 }
 
 // A name.
@@ -33,11 +28,7 @@ pub fn name(text: &[u8], at: usize) -> Step
     ensures { Steps R.name text.now at result }
 {
     let i = skip(text, at);
-    if text.len() <= i {
-        return Err(Refused(Refusal::Tptp, i));
-    }
-    let b = text[i];
-    if !b.is_ascii_lowercase() {
+    if !text.get(i).is_some_and(u8::is_ascii_lowercase) {
         return Err(Refused(Refusal::Tptp, i));
     }
     Ok(word_end(text, i))

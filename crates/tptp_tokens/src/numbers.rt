@@ -52,14 +52,12 @@ fn number(text: &[u8], at: usize, least: u8, most: usize) -> Result<Digits, Refu
     requires { (at ≤ length text.now) × (48 ≤ least) × (9 ≤ most) × (most < 2 ^ 32) }
     ensures { N.Numbers least most text.now at result }
 {
-    if text.len() <= at {
-        return Err(Refused(Refusal::Tptp, at));
+    match text.get(at) {
+        Some(&b) if (least <= b) & (b <= b'9') => {
+            more_digits(text, at + 1, most, (b - bytes::NOUGHT) as usize)
+        }
+        _ => Err(Refused(Refusal::Tptp, at)),
     }
-    let b = text[at];
-    if (b < least) | (b'9' < b) {
-        return Err(Refused(Refusal::Tptp, at));
-    }
-    more_digits(text, at + 1, most, (b - bytes::NOUGHT) as usize)
 }
 
 // The number of a predicate or a variable.
@@ -96,10 +94,7 @@ pub fn integer(text: &[u8], at: usize) -> Result<Signed, Refused>
     ensures { N.Integers text.now at result }
 {
     let i = skip(text, at);
-    if text.len() <= i {
-        return Err(Refused(Refusal::Tptp, i));
-    }
-    if text[i] == bytes::MINUS {
+    if text.get(i) == Some(&bytes::MINUS) {
         return with_sign(magnitude(text, i + 1), true);
     }
     with_sign(natural(text, i), false)

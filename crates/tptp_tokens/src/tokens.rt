@@ -22,12 +22,7 @@ pub fn skip(text: &[u8], at: usize) -> usize
     requires { at ≤ length text.now }
     ensures { Skips text.now at result }
 {
-    for i in at..text.len() {
-        if !is_blank(text[i]) {
-            return i;
-        }
-    }
-    text.len()
+    at + text[at..].iter().take_while(|b| is_blank(**b)).count()
 }
 
 // A token of one byte.
@@ -36,10 +31,7 @@ pub fn expect(text: &[u8], at: usize, c: u8) -> Step
     ensures { Steps (R.token (c ∷ [])) text.now at result }
 {
     let i = skip(text, at);
-    if text.len() <= i {
-        return Err(Refused(Refusal::Tptp, i));
-    }
-    if text[i] != c {
+    if text.get(i) != Some(&c) {
         return Err(Refused(Refusal::Tptp, i));
     }
     Ok(i + 1)
@@ -52,10 +44,7 @@ pub fn literal(text: &[u8], at: usize, word: &[u8]) -> Step
 {
     for i in 0..word.len() {
         let next = at + i;
-        if text.len() <= next {
-            return Err(Refused(Refusal::Tptp, next));
-        }
-        if text[next] != word[i] {
+        if text.get(next) != Some(&word[i]) {
             return Err(Refused(Refusal::Tptp, next));
         }
     }
@@ -76,10 +65,7 @@ pub fn opening(text: &[u8], at: usize, room: usize) -> Step
     ensures { Steps (R.opening room) text.now at result }
 {
     let i = skip(text, at);
-    if text.len() <= i {
-        return Err(Refused(Refusal::Tptp, i));
-    }
-    if text[i] != 40 {
+    if text.get(i) != Some(&40) {
         return Err(Refused(Refusal::Tptp, i));
     }
     if room == 0 {

@@ -1,24 +1,26 @@
--- `tptp_tokens::name::word_end` meets its contract. The loop's invariant: the bytes passed lead from the start to here.
-use native.Mathlib.Omega.{arith}
-use mathlib.Core.Path.{sym, ◌∙◌}
-use Rattle.tptp_tokens.proofs.NameLaws.{word_more, word-stop, word_over}
+-- `tptp_tokens::name::word_end` meets its contract: the bytes of a word are counted.
+use Prim.Native.Nat.{◌-◌}
+use mathlib.Core.Path.{refl, ◌∙◌}
+use lib.ListN.{length, take, drop}
+use Rattle.std.proofs.Common.{rules, tests}
+use Rattle.std.proofs.lemmas.Iterator.{YieldsList-from_slice}
+use Rattle.std.proofs.lemmas.Iterator.Consumers.{count_from_yields_List}
+use Rattle.std.proofs.lemmas.Iterator.Search.{YieldsList-from_take_while}
+use Rattle.std.proofs.lemmas.List.Folds.{length-prefix_len}
+use Rattle.model.specs.Bytes.{word_byte}
+use Rattle.model.specs.TptpReading.{word_bytes}
+use Rattle.tptp_tokens.proofs.ScanLaws.{first}
 use Rattle.tptp_tokens.proofs.name.word_end.Goals as goal
 
-pub returns-then-not-is_word : goal.returns-then-not-is_word
-returns-then-not-is_word c =
-    let l = c.loop-i in
-    let text = c.args.text.now in
-    let stop = sym c.is_word.ensures ∙ c.if-not-is_word.true in
-    record { low = omega arith; high = omega arith; reads = l.invariant ∙ word-stop text l.i c.loop-i-test.true stop }
-
-pub loop-i-preserved : goal.loop-i-preserved
-loop-i-preserved c =
-    let l = c.loop-i in
-    let text = c.args.text.now in
-    l.invariant ∙ word_more text l.i c.loop-i-test.true (sym c.is_word.ensures ∙ c.if-not-is_word.false)
-
 pub returns : goal.returns
+unfolding word_bytes
 returns c =
-    let l = c.loop-i in
-    let text = c.args.text.now in
-    record { low = c.requires; high = omega arith; reads = l.invariant ∙ word_over text l.i (omega (arith, l.auto.i-end, c.loop-i-test.false)) }
+    let a = c.args in
+    let t = c.take_while in
+    let rest = take (length a.text.now - a.at) (drop a.at a.text.now) in
+    let counted =
+    count_from_yields_List t.result _ c.count.ensures.ran
+    (YieldsList-from_take_while _ word_byte (YieldsList-from_slice rest (search rules)) t.ensures.closure t.ensures.done
+    (λ x b q k. search (rules, tests)))
+    ∙ length-prefix_len word_byte rest in
+    (first word_byte word_bytes (λ p. refl) (λ b t p. refl) a.text.now a.at _ c.requires counted).0

@@ -1,19 +1,14 @@
 -- `tptp_tokens::tokens::expect` meets its contract.
-use native.Mathlib.Omega.{arith}
-use Rattle.tptp_tokens.proofs.TokenLaws.{token-here, token-other, token-over}
+use borrow.Author.Rules.{rules}
+use Rattle.tptp_tokens.proofs.TokenLaws.{token-here, token-other}
 use Rattle.tptp_tokens.proofs.tokens.expect.Goals as goal
 
-pub returns-then-text-i : goal.returns-then-text-i
-returns-then-text-i c =
+pub returns-then-ne : goal.returns-then-ne
+returns-then-ne c =
     let a = c.args in
-    token-over a.text.now a.at _ c.skip-i.ensures a.c c.if-text-i.true
-
-pub returns-then-text-i-2 : goal.returns-then-text-i-2
-returns-then-text-i-2 c =
-    let a = c.args in
-    token-other a.text.now a.at _ c.skip-i.ensures a.c (omega (arith, c.if-text-i.false)) c.if-text-i-2.true
+    token-other a.text.now a.at c.skip-i.result c.skip-i.ensures a.c (search rules)
 
 pub returns : goal.returns
 returns c =
     let a = c.args in
-    token-here a.text.now a.at _ c.skip-i.ensures a.c (omega (arith, c.if-text-i.false)) c.if-text-i-2.false
+    token-here a.text.now a.at c.skip-i.result c.skip-i.ensures a.c (search rules) (search rules)

@@ -1,33 +1,26 @@
 -- `tptp_tokens::tokens::literal` meets its contract. The loop's invariant: the bytes passed lead from the start to here.
 use native.Mathlib.Omega.{arith}
-use Prim.Native.Nat.{◌+◌}
+use Prim.Native.Nat.{◌+◌, ◌<◌}
 use mathlib.Core.Path.{◌≡◌, ◌∙◌}
 use lib.ListN.{length}
-use Rattle.tptp_tokens.proofs.TokenLaws.{literal-more, literal-other, literal-short, literal_end}
+use borrow.Author.Rules.{rules}
+use Rattle.tptp_tokens.proofs.TokenLaws.{literal-more, literal-other, literal_end}
 use Rattle.tptp_tokens.proofs.tokens.literal.Goals as goal
 
-pub returns-then-text-next : goal.returns-then-text-next
-returns-then-text-next c =
+pub returns-then-ne : goal.returns-then-ne
+returns-then-ne c =
     let l = c.loop-i in
     let a = c.args in
-    l.invariant.1 ∙ literal-short a.word.now a.text.now l.i (a.at + l.i) c.loop-i-test.true c.if-text-next.true
-
-pub returns-then-text-next-2 : goal.returns-then-text-next-2
-returns-then-text-next-2 c =
-    let l = c.loop-i in
-    let a = c.args in
-    l.invariant.1 ∙ literal-other a.word.now a.text.now l.i (a.at + l.i) c.loop-i-test.true
-    (omega (arith, c.if-text-next.false)) c.if-text-next-2.true
+    l.invariant.1 ∙ literal-other a.word.now a.text.now l.i (a.at + l.i) c.loop-i-test.true (search rules)
 
 pub loop-i-preserved : goal.loop-i-preserved
 loop-i-preserved c =
     let l = c.loop-i in
     let a = c.args in
-    let more =
-    literal-more a.word.now a.text.now l.i (a.at + l.i) c.loop-i-test.true
-    (omega (arith, c.if-text-next.false)) c.if-text-next-2.false in
+    let there : a.at + l.i < length a.text.now = search rules in
+    let more = literal-more a.word.now a.text.now l.i (a.at + l.i) c.loop-i-test.true there (search rules) in
     let next : a.at + (l.i + 1) ≡ a.at + l.i + 1 = omega arith in
-    (omega (arith, c.if-text-next.false), rw next (l.invariant.1 ∙ more))
+    (omega (arith, there), rw next (l.invariant.1 ∙ more))
 
 pub returns : goal.returns
 returns c =

@@ -1,34 +1,27 @@
--- `tptp_tokens::tokens::skip` meets its contract. The loop's invariant: the blanks passed lead from the start to here.
-use native.Mathlib.Omega.{arith}
-use mathlib.Core.Path.{sym, ◌∙◌}
-use Rattle.tptp_tokens.proofs.TokenLaws.{skip_more, skip_stop, skip_end}
+-- `tptp_tokens::tokens::skip` meets its contract: the blanks are counted.
+use Prim.Native.Nat.{◌-◌}
+use mathlib.Core.Path.{refl, ◌∙◌}
+use lib.ListN.{length, take, drop}
+use Rattle.std.proofs.Common.{rules, tests}
+use Rattle.std.proofs.lemmas.Iterator.{YieldsList-from_slice}
+use Rattle.std.proofs.lemmas.Iterator.Consumers.{count_from_yields_List}
+use Rattle.std.proofs.lemmas.Iterator.Search.{YieldsList-from_take_while}
+use Rattle.std.proofs.lemmas.List.Folds.{length-prefix_len}
+use Rattle.model.specs.Bytes.{blank}
+use Rattle.model.specs.TptpReading.{blanks}
+use Rattle.tptp_tokens.proofs.ScanLaws.{first}
 use Rattle.tptp_tokens.proofs.tokens.skip.Goals as goal
 
-pub returns-then-not-is_blank : goal.returns-then-not-is_blank
-returns-then-not-is_blank c =
-    let l = c.loop-i in
-    let text = c.args.text.now in
-    let stop = sym c.is_blank.ensures ∙ c.if-not-is_blank.true in
-    record {
-      low = omega arith;
-      high = omega arith;
-      reads = l.invariant ∙ skip_stop text l.i c.loop-i-test.true stop;
-      stop = λ h. stop;
-    }
-
-pub loop-i-preserved : goal.loop-i-preserved
-loop-i-preserved c =
-    let l = c.loop-i in
-    let text = c.args.text.now in
-    l.invariant ∙ skip_more text l.i c.loop-i-test.true (sym c.is_blank.ensures ∙ c.if-not-is_blank.false)
-
 pub returns : goal.returns
+unfolding blanks
 returns c =
-    let l = c.loop-i in
-    let text = c.args.text.now in
-    record {
-      low = c.requires;
-      high = omega arith;
-      reads = l.invariant ∙ skip_end text l.i (omega (arith, l.auto.i-end, c.loop-i-test.false));
-      stop = λ h. absurd (omega (arith, h));
-    }
+    let a = c.args in
+    let t = c.take_while in
+    let rest = take (length a.text.now - a.at) (drop a.at a.text.now) in
+    let counted =
+    count_from_yields_List t.result _ c.count.ensures.ran
+    (YieldsList-from_take_while _ blank (YieldsList-from_slice rest (search rules)) t.ensures.closure t.ensures.done
+    (λ x b q k. search (rules, tests)))
+    ∙ length-prefix_len blank rest in
+    let to = first blank blanks (λ p. refl) (λ b t p. refl) a.text.now a.at _ c.requires counted in
+    record { low = to.0.low; high = to.0.high; reads = to.0.reads; stop = to.1 }
