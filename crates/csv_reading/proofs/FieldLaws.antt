@@ -1,15 +1,14 @@
 -- Laws for the reading of fields: bytes passed one after another, in a bare field and in quotes, and what stands behind them.
-use Prim.Native.Nat.{ℕ, zero, suc, ◌+◌, ◌-◌, ◌≤◌, ◌<◌}
+use Prim.Native.Nat.{ℕ, zero, suc, ◌+◌, ◌≤◌, ◌<◌}
 use native.Mathlib.Numerals.{add-one}
 use native.Mathlib.Nat.{eq-or-lt_of_le}
 use native.Mathlib.Omega.{arith}
 use mathlib.Core.Path.{◌≡◌, refl, sym, ap, ap₂, ◌∙◌, subst}
 use mathlib.Core.Logic.{⊎_elim}
-use mathlib.Core.Bool.{Bool, true, false, cond}
-use Rattle.std.specs.List.{prefix_len}
+use mathlib.Core.Bool.{true, false}
 use mathlib.Core.List.{[], ◌∷◌, ◌++◌}
-use lib.ListN.{length, get_or, take, drop, length-drop, drop_of_length-le, get_or-eq_default}
-use lib.Seq.{drop-cons, get_or-drop, take-length}
+use lib.ListN.{length, get_or, drop, drop_of_length-le, get_or-eq_default}
+use lib.Seq.{slice, slice_empty, drop-cons}
 use lib.Dec.{eqb}
 use borrow.Author.Tests.{eqb-true, ne_eqb}
 use Rattle.model.specs.declared.Refusal.TheVariants.{Csv}
@@ -19,13 +18,13 @@ use Rattle.model.specs.Lists.{all}
 use Rattle.model.specs.Csv.{text_data, quotable}
 use Rattle.model.specs.CsvReading.{Records, State, start, field, inside, quoting, closing, ending, move_behind, move_bare, move_first, move}
 use Rattle.model.specs.CsvReading.{add_byte, add_record, at_end, follow, read_from}
-use Rattle.laws.specs.Words.Tests.{clash, and_left, and_right, and-true, or_left}
-use Rattle.laws.specs.Lists.Span.{side, drop-take}
-use Rattle.std.proofs.lemmas.List.Sums.{prefix_len_stops}
+use Rattle.laws.specs.Words.Tests.{clash, and_left, and_right, or_left}
+use Rattle.laws.specs.Lists.Span.{side}
 use Rattle.laws.specs.Csv.Complete.{data_quote}
 use Rattle.csv_reading.specs.declared.field.End.TheVariants.{Comma, Line}
 use Rattle.std.specs.Prelude.{Ok, Err}
-use Rattle.csv_reading.specs.Field.{bad_at, BareTo, is_quote, add_all, attach, behind, reading, goes_on, Rest, EndsAt}
+use Rattle.csv_reading.specs.Field.{bad_at, is_quote, add_all, attach, behind, reading, goes_on, Rest, EndsAt}
+use Rattle.text.proofs.Slices.{slice-more, all_more}
 
 -- bytes put in front one part after another
 add_all-append : (s t : Text) (rs : Records) → add_all (s ++ t) rs ≡ add_all s (add_all t rs)
@@ -180,44 +179,19 @@ module _ (text : Text) (i : ℕ) where
         subst (λ (n : ℕ). EndsAt text i (Ok (Line n))) same
         (record { reads = behind_return e ∙ read_at text ending (i + 1) k ∙ rw f; onward = omega arith })
 
--- the bytes of a text that pass a test, up to the first that does not
-all-prefix : (test : ℕ → Bool) (t : Text) → all test (take (prefix_len test t) t) ≡ true
+-- bare bytes, one more
+pub bare-none : (text : Text) (i : ℕ) → all text_data (slice i i text) ≡ true
 unfolding all
-all-prefix test [] = refl
-all-prefix test (b ∷ t) = go (test b) refl (all-prefix test t)
-  where
-    go :
-        (x : Bool) → test b ≡ x → all test (take (prefix_len test t) t) ≡ true →
-        all test (take (cond x (1 + prefix_len test t) 0) (b ∷ t)) ≡ true
-    go true e h = let count : 1 + prefix_len test t ≡ suc (prefix_len test t) = omega arith in rw count (and-true e h)
-    go false e h = refl
+bare-none text i = rw (slice_empty i text)
 
-prefix-few : (test : ℕ → Bool) (t : Text) → prefix_len test t ≤ length t
-prefix-few test [] = omega arith
-prefix-few test (b ∷ t) = go (test b) (prefix-few test t)
-  where
-    go : (x : Bool) → prefix_len test t ≤ length t → cond x (1 + prefix_len test t) 0 ≤ length (b ∷ t)
-    go true h = omega arith
-    go false h = omega arith
-
--- bare bytes up to the first that can't be one
-pub bare-to :
-    (text : Text) (i n : ℕ) → i ≤ length text → n ≡ prefix_len text_data (take (length text - i) (drop i text)) → BareTo text i (i + n)
-bare-to text i n h e =
-    let rest = drop i text in
-    let long = length-drop i text in
-    let few = prefix-few text_data rest in
-    let whole : take (length text - i) rest ≡ rest = ap (λ (k : ℕ). take k rest) (sym long) ∙ take-length rest in
-    let count : prefix_len text_data rest ≡ n = sym (e ∙ ap (prefix_len text_data) whole) in
-    subst (λ (k : ℕ). BareTo text i (i + k)) count
-    (record {
-      from = omega arith;
-      to = omega (arith, few, long);
-      bare = ap (all text_data) (drop-take i (prefix_len text_data rest) text) ∙ all-prefix text_data rest;
-      stop = λ k.
-          ap text_data (sym (get_or-drop i text (prefix_len text_data rest) 0))
-          ∙ prefix_len_stops text_data rest 0 (omega (arith, long, k));
-    })
+pub bare-more :
+    (text : Text) (i j : ℕ) →
+    i ≤ j →
+    j < length text →
+    all text_data (slice i j text) ≡ true →
+    text_data (get_or text j 0) ≡ true →
+    all text_data (slice i (j + 1) text) ≡ true
+bare-more text i j h k e f = rw (slice-more i j text 0 h k) (all_more text_data _ _ e f)
 
 -- past the end of the text stands no quote
 pub quote-there : (text : Text) (i : ℕ) → is_quote text i ≡ true → i < length text

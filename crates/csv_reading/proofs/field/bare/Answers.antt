@@ -1,23 +1,17 @@
--- `csv_reading::field::bare` meets its contract: the bytes that can stand in a bare field are counted.
-use Prim.Native.Nat.{◌-◌}
-use mathlib.Core.Path.{◌∙◌}
-use lib.ListN.{length, take, drop}
-use Rattle.std.proofs.Common.{rules, tests}
-use Rattle.std.proofs.lemmas.Iterator.{YieldsList-from_slice}
-use Rattle.std.proofs.lemmas.Iterator.Consumers.{count_from_yields_List}
-use Rattle.std.proofs.lemmas.Iterator.Search.{YieldsList-from_take_while}
-use Rattle.std.proofs.lemmas.List.Folds.{length-prefix_len}
-use Rattle.model.specs.Csv.{text_data}
-use Rattle.csv_reading.proofs.FieldLaws.{bare-to}
+-- `csv_reading::field::bare` meets its contract. The loop's invariant: all bytes passed can stand in a bare field.
+use native.Mathlib.Omega.{arith}
+use mathlib.Core.Path.{sym, ◌∙◌}
+use Rattle.csv_reading.proofs.FieldLaws.{bare-none, bare-more}
 use Rattle.csv_reading.proofs.field.bare.Goals as goal
 
-pub returns : goal.returns
-returns c =
-    let a = c.args in
-    let t = c.take_while in
-    let rest = take (length a.text.now - a.from) (drop a.from a.text.now) in
-    bare-to a.text.now a.from _ c.requires
-    (count_from_yields_List t.result _ c.count.ensures.ran
-    (YieldsList-from_take_while _ text_data (YieldsList-from_slice rest (search rules)) t.ensures.closure t.ensures.done
-    (λ x b q k. search (rules, tests)))
-    ∙ length-prefix_len text_data rest)
+pub loop-i-init : goal.loop-i-init
+loop-i-init c = (omega arith, omega arith, bare-none c.args.text.now c.args.from)
+
+pub loop-i-preserved : goal.loop-i-preserved
+loop-i-preserved c =
+    let a = c.args in (
+      omega arith,
+      omega arith,
+      bare-more a.text.now a.from c.loop-i.i c.loop-i.invariant.0 c.loop-i-test.true
+          c.loop-i.invariant.2 (sym c.text_data.ensures ∙ c.if-not-text_data.false),
+    )
