@@ -13,7 +13,8 @@ import sys
 import tempfile
 from pathlib import Path
 
-KIT = "/opt/rattle/port/contracts.py"
+# The kit's script lies beside its first guide.
+KIT = Path(subprocess.run(["rt", "doc"], check=True, capture_output=True, text=True).stdout.split()[-1]).parent / "port" / "contracts.py"
 
 
 def one_line(text):
@@ -76,7 +77,7 @@ def main(commit):
         old = Path(folder)
         archive = subprocess.run(["git", "archive", commit, "crates", "crates.txt", "docs", "README.md"], check=True, capture_output=True)
         subprocess.run(["tar", "-x", "-C", folder], input=archive.stdout, check=True)
-        run = subprocess.run([sys.executable, KIT, folder, str(new), "--json"], check=True, capture_output=True, text=True)
+        run = subprocess.run([sys.executable, str(KIT), folder, str(new), "--json"], check=True, capture_output=True, text=True)
         d = json.loads(run.stdout)
 
         print("### Types\n\n```diff")

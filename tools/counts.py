@@ -3,7 +3,7 @@
 
 usage: tools/counts.py [FOLDER] [--list]        FOLDER is the top of a repository, by default this one; --list names each place
 
-Of a commit: mkdir /tmp/then && git archive COMMIT crates | tar -x -C /tmp/then && tools/counts.py /tmp/then
+Of a commit: then=$(mktemp -d) && git archive COMMIT crates | tar -x -C $then && tools/counts.py $then
 """
 import re
 import sys
