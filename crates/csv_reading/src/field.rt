@@ -34,8 +34,7 @@ pub struct Field {
     pub end: End,
 }
 
-// The first index from one on whose byte can't stand in a bare field. A loop: with `take_while` and `count` a text of bare fields is read a
-// tenth more slowly.
+// The first index from one on whose byte can't stand in a bare field.
 fn bare(text: &[u8], from: usize) -> usize
     requires { from ≤ length text.now }
     ensures { F.BareTo text.now from result }
