@@ -10,6 +10,7 @@ ghost use Rattle.nodes.specs.Prepare as P;
 
 use environments::environment::Environment;
 use instances::choosing;
+use instances::excluded::Excluded;
 use listing::restriction;
 use listing::restriction::{Made, Room};
 use logs::accepted::AcceptedLog;
@@ -88,7 +89,13 @@ pub fn prepare(
         scope + v,
         at + 3 + v * m,
     )?;
-    let count = choosing::instances(words, at + 3, m, v, scope, scratch, to.from, to.count);
+    let excluded = Excluded {
+        words,
+        from: at + 3,
+        m,
+        v,
+    };
+    let count = choosing::instances(excluded, scope, scratch, to.from, to.count);
     Some(Placed {
         from: to.from,
         count,

@@ -46,11 +46,8 @@ instances-count-requires c =
     prepare_inside a.environment a.scope places a.scratch.now _ _ c.if-places-lt1.false (omega arith) c.room.ensures c.store.ensures
     a.log.now.table.now a.words.now a.log.now.rows.now a.level a.v a.at _ c.value-m.ensures _ _ c.list.ensures _ c.in_ok-to.was c.requires.4 c.requires.3 in
     let long = c.list.auto.scratch in
-    let longer = c.store.auto.scratch in (
-      c.requires.1,
-      omega arith,
-      subst (λ (k : ℕ). a.at + 3 + a.v * k ≤ length a.words.now) (sym c.value-m.ensures) c.requires.2,
-    )
+    let longer = c.store.auto.scratch in
+    (c.requires.1, omega arith)
 
 pub returns : goal.returns
 returns c =
