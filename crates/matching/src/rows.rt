@@ -29,7 +29,6 @@ pub struct Way {
 // The chain of the true rows of a predicate that can fit an environment: by their first argument too, if its term has a number.
 fn lead(environment: Environment, terms: Terms<'_>, predicate: usize) -> Way
     requires { (predicate < 256)
-        × ((e : M.Environment) × Holds environment e)
         × (1 ≤ terms.n)
         × (terms.first + 2 * terms.n ≤ length terms.words.now) }
     ensures { (log : W.Words) (links : List ℕ) →
@@ -75,8 +74,7 @@ fn walk_rows(
     left: usize,
 ) -> Option<usize>
     requires { Leads terms.words.now log.now links.now keys key predicate terms.first terms.n environment
-        × (17 * (base + left) ≤ length scratch.old)
-        × ((e : M.Environment) × Holds environment e) }
+        × (17 * (base + left) ≤ length scratch.old) }
     ensures { (e : M.Environment) →
         Holds environment e →
         Adds
@@ -124,7 +122,6 @@ pub fn match_rows(
     requires { Linked log.now links.now
         × (predicate < 256)
         × (17 * (base + left) ≤ length scratch.old)
-        × ((e : M.Environment) × Holds environment e)
         × (1 ≤ terms.n)
         × (terms.first + 2 * terms.n ≤ length terms.words.now) }
     ensures { (e : M.Environment) →

@@ -8,7 +8,7 @@ use Rattle.matching.proofs.rows.lead.Goals as goal
 pub returns-then-is : goal.returns-then-is
 returns-then-is c =
     let a = c.args in
-    λ log links t. leads-constant a.terms.words.now log links t a.predicate a.terms.first a.terms.n a.environment c.requires.2
+    λ log links t. leads-constant a.terms.words.now log links t a.predicate a.terms.first a.terms.n a.environment c.requires.1
     (sym c.is.ensures ∙ c.if-is.true) _ c.of_first.ensures
 
 pub bounds-environment-x : goal.bounds-environment-x
@@ -17,7 +17,7 @@ bounds-environment-x c =
     omega (
       arith,
       c.value-x.ensures,
-      small-first a.terms.words.now a.terms.first a.terms.n c.requires.2 a.terms.known
+      small-first a.terms.words.now a.terms.first a.terms.n c.requires.1 a.terms.known
           (sym c.is.ensures ∙ c.if-is.false),
     )
 
@@ -32,8 +32,8 @@ returns c =
     λ log links t. let small : c.value-x.result < 16 = omega (
       arith,
       c.value-x.ensures,
-      small-first a.terms.words.now a.terms.first a.terms.n c.requires.2 a.terms.known
+      small-first a.terms.words.now a.terms.first a.terms.n c.requires.1 a.terms.known
           (sym c.is.ensures ∙ c.if-is.false),
     ) in leads-variable a.terms.words.now log links t a.predicate a.terms.first a.terms.n
-    a.environment c.value-x.result c.requires.2 (sym c.is.ensures ∙ c.if-is.false) c.value-x.ensures small
+    a.environment c.value-x.result c.requires.1 (sym c.is.ensures ∙ c.if-is.false) c.value-x.ensures small
     (c.if-not-environment-x.false) _ c.of_first-2.ensures

@@ -22,5 +22,4 @@ walk_rows-requires c =
       leads_lent a.links.now c.lead-way.result.from
           (c.lead-way.ensures a.log.now a.links.now c.requires.0).0,
       c.requires.2,
-      c.requires.3,
     )
