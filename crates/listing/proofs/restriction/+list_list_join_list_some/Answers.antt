@@ -30,6 +30,11 @@ other (Quantifier b) k = tt
 other Some k = absurd (k.2 refl)
 other Unused k = tt
 
+pub list-invariant_of-below-clause-levels : goal.list-invariant_of-below-clause-levels
+list-invariant_of-below-clause-levels t c =
+    let a = c.args in
+    low a.log.now.table.now a.words.now restriction a.depth.level a.depth.scope a.at c.requires.0
+
 pub list-list_join-requires : goal.list-list_join-requires
 list-list_join-requires t c =
     let a = c.args in
