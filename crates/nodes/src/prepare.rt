@@ -13,6 +13,7 @@ use instances::choosing;
 use listing::restriction;
 use listing::restriction::{Made, Room};
 use logs::accepted::AcceptedLog;
+use policies::depth::Depth;
 
 // The instances of a quantifier: the first place where their tuples stand, how many they are, the places counted so far, and the
 // index of the body.
@@ -76,18 +77,14 @@ pub fn prepare(
     }
     environment.store(scratch, 0);
     let m = words::value(words, at + 2);
+    let depth = Depth {
+        level,
+        scope: scope + v,
+    };
     let Made {
         room: to,
         next: body,
-    } = restriction::list(
-        log,
-        words,
-        scratch,
-        room(places),
-        level,
-        scope + v,
-        at + 3 + v * m,
-    )?;
+    } = restriction::list(log, words, scratch, room(places), depth, at + 3 + v * m)?;
     let count = choosing::instances(words, at + 3, m, v, scope, scratch, to.from, to.count);
     Some(Placed {
         from: to.from,
