@@ -9,6 +9,7 @@ ghost use Rattle.policies.specs.Standing.{terms_at};
 ghost use Rattle.environments.specs.Environment.{Holds, numbers_of};
 
 use crate::environment::Environment;
+use policies::terms::Terms;
 
 // The word at an index; past the end of a slice stands 0.
 #[tactic(auto, unfolding(model::specs::Words::word))]
@@ -58,18 +59,14 @@ pub fn compare(environment: Environment, words: &[i32], at: usize) -> bool
     at_most(d, x, y)
 }
 
-// The numbers of the n terms from an index on, and then zeros: they go into six words, all zero before.
-pub fn arguments(numbers: &[i32], words: &[i32], first: usize, n: usize, arguments: &mut [i32])
-    requires { (length numbers.now ≡ 16)
-        × (n ≤ 6)
-        × (first + 2 * n < 2 ^ 64)
-        × (all (in_scope words.now 16) (places first n) ≡ true)
-        × (arguments.old ≡ replicate 6 (pos 0)) }
+// The numbers of terms, and then zeros: they go into six words, all zero before.
+pub fn arguments(numbers: &[i32], terms: Terms<'_>, arguments: &mut [i32])
+    requires { (length numbers.now ≡ 16) × (arguments.old ≡ replicate 6 (pos 0)) }
     ensures { (e : M.Environment) →
         numbers.now ≡ numbers_of e →
-        arguments.new ≡ M.numbers_in e (terms_at words.now first n) ++ replicate (6 - n) (pos 0) }
+        arguments.new ≡ M.numbers_in e (terms_at terms.entry.words.now terms.entry.first terms.entry.n) ++ replicate (6 - terms.entry.n) (pos 0) }
 {
-    for i in 0..n {
-        arguments[i] = number(numbers, words, first + 2 * i);
+    for i in 0..terms.n {
+        arguments[i] = number(numbers, terms.words, terms.first + 2 * i);
     }
 }

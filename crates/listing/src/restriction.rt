@@ -14,8 +14,10 @@ use environments::environment::Environment;
 use environments::lists;
 use logs::accepted::AcceptedLog;
 use matching::rows;
+use policies::depth::Depth;
 use policies::node;
 use policies::node::Tag;
+use policies::terms::Terms;
 
 // The list handed to a node, the first place behind all lists that are still read, the places counted so far, and how many
 // there are. Document 01 counts a place for each entry of each list; a list that is read no more makes room for the next.
@@ -107,14 +109,17 @@ fn list_atom(
     let n = words::value(words, at + 2);
     let base = room.base;
     let left = room.limit - room.used;
+    let terms = Terms {
+        words,
+        first: at + 3,
+        n,
+    };
     let mut made = 0;
     for i in 0..room.count {
         let environment = Environment::read(scratch, room.from + i);
         made += rows::match_rows(
             environment,
-            words,
-            at + 3,
-            n,
+            terms,
             log.rows,
             log.links,
             predicate,
@@ -213,26 +218,23 @@ fn list_join(
     words: &[i32],
     scratch: &mut [i32],
     room: Room,
-    above: usize,
-    scope: usize,
+    depth: Depth,
     every: bool,
     n: usize,
     at: usize,
 ) -> Option<Made>
-    requires { (above ≤ 64)
-        × (scope ≤ 16)
-        × (1 ≤ n)
-        × HereAll log.now.table.now words.now L.Role.restriction above scope n at
+    requires { (1 ≤ n)
+        × HereAll log.now.table.now words.now L.Role.restriction depth.level depth.scope n at
         × R.Roomy room scratch.old
         × ((es : List M.Environment) × R.Holding room scratch.old es) }
     ensures { (es : List M.Environment) →
         R.Holding room scratch.old es →
-        R.MakesJoin every log.now.table.now words.now log.now.rows.now above scope n at es room scratch.old scratch.new result }
+        R.MakesJoin every log.now.table.now words.now log.now.rows.now depth.level depth.scope n at es room scratch.old scratch.new result }
 {
     let mut handed = room;
     let mut next = at;
     for _ in 0..n {
-        let child = list(log, words, scratch, handed, above, scope, next)?;
+        let child = list(log, words, scratch, handed, depth, next)?;
         handed = pass_on(every, scratch, handed, child.room);
         next = child.next;
     }
@@ -246,21 +248,24 @@ fn list_some(
     words: &[i32],
     scratch: &mut [i32],
     room: Room,
-    above: usize,
-    scope: usize,
+    depth: Depth,
     at: usize,
 ) -> Option<Made>
-    requires { (above < 64)
-        × (scope < 16)
-        × Here log.now.table.now words.now L.Role.restriction (above + 1) (scope + 1) (at + 1)
+    requires { (depth.level < 64)
+        × (depth.scope < 16)
+        × Here log.now.table.now words.now L.Role.restriction (depth.level + 1) (depth.scope + 1) (at + 1)
         × R.Roomy room scratch.old
         × ((es : List M.Environment) × R.Holding room scratch.old es) }
     ensures { (es : List M.Environment) →
         R.Holding room scratch.old es →
-        R.MakesSome log.now.table.now words.now log.now.rows.now above scope at es room scratch.old scratch.new result }
+        R.MakesSome log.now.table.now words.now log.now.rows.now depth.level depth.scope at es room scratch.old scratch.new result }
 {
-    let Made { room: to, next } = list(log, words, scratch, room, above + 1, scope + 1, at + 1)?;
-    lists::release_all(scratch, to.from, to.count, scope);
+    let below = Depth {
+        level: depth.level + 1,
+        scope: depth.scope + 1,
+    };
+    let Made { room: to, next } = list(log, words, scratch, room, below, at + 1)?;
+    lists::release_all(scratch, to.from, to.count, depth.scope);
     if to.limit - to.used < to.count {
         return None;
     }
@@ -277,36 +282,27 @@ pub fn list(
     words: &[i32],
     scratch: &mut [i32],
     room: Room,
-    above: usize,
-    scope: usize,
+    depth: Depth,
     at: usize,
 ) -> Option<Made>
-    requires { (above ≤ 64)
-        × (scope ≤ 16)
-        × Here log.now.table.now words.now L.Role.restriction above scope at
+    requires { Here log.now.table.now words.now L.Role.restriction depth.level depth.scope at
         × R.Roomy room scratch.old
         × ((es : List M.Environment) × R.Holding room scratch.old es) }
     ensures { (es : List M.Environment) →
         R.Holding room scratch.old es →
-        R.MakesNode log.now.table.now words.now log.now.rows.now above scope at es room scratch.old scratch.new result }
+        R.MakesNode log.now.table.now words.now log.now.rows.now depth.level depth.scope at es room scratch.old scratch.new result }
 {
     let tag = node::tag_at(words, at);
     match tag {
         Tag::Join(every) => {
             let n = words::value(words, at + 1);
-            list_join(
-                log,
-                words,
-                scratch,
-                room,
-                above + 1,
-                scope,
-                every,
-                n,
-                at + 2,
-            )
+            let below = Depth {
+                level: depth.level + 1,
+                scope: depth.scope,
+            };
+            list_join(log, words, scratch, room, below, every, n, at + 2)
         }
-        Tag::Some => list_some(log, words, scratch, room, above, scope, at),
+        Tag::Some => list_some(log, words, scratch, room, depth, at),
         Tag::Atom(holds) => {
             if holds {
                 list_atom(log, words, scratch, room, at)

@@ -11,31 +11,31 @@ ghost use Rattle.matching.specs.Fitting.{Fitted};
 use environments::environment::Environment;
 use environments::terms;
 use model::{ARGUMENTS_FROM, ROW_WORDS};
+use policies::terms::Terms;
 
-// The environment that the arguments of a row make, set against the n terms from an index on: None, where one of them is unequal. The
-// row is left at the first.
+// The environment that the arguments of a row make, set against terms: None, where one of them is unequal. The row is left at the first.
 pub fn fit_row(
     environment: Environment,
-    words: &[i32],
-    first: usize,
-    n: usize,
+    terms: Terms<'_>,
     log: &[i32],
     row: usize,
 ) -> Option<Environment>
-    requires { (n ≤ 6) × (first + 2 * n < 2 ^ 64) × (8 * row + 8 ≤ length log.now) × (all (in_scope words.now 16) (places first n) ≡ true) }
-    ensures { (e : M.Environment) → Holds environment e → Fitted (M.fit (terms_at words.now first n) (arguments (row_at log.now row)) e) result }
+    requires { 8 * row + 8 ≤ length log.now }
+    ensures { (e : M.Environment) →
+        Holds environment e →
+        Fitted (M.fit (terms_at terms.entry.words.now terms.entry.first terms.entry.n) (arguments (row_at log.now row)) e) result }
 {
     let mut bound = environment;
-    for i in 0..n {
-        let at = first + 2 * i;
+    for i in 0..terms.n {
+        let at = terms.first + 2 * i;
         let argument = log[ROW_WORDS * row + ARGUMENTS_FROM + i];
-        if words::is(words, at, 0) {
-            if terms::word(words, at + 1) == argument {
+        if words::is(terms.words, at, 0) {
+            if terms::word(terms.words, at + 1) == argument {
                 continue;
             }
             return None;
         }
-        let x = words::value(words, at + 1);
+        let x = words::value(terms.words, at + 1);
         if !bound.marks[x] {
             bound = bound.bind(x, argument);
             continue;

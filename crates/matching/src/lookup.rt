@@ -10,6 +10,7 @@ ghost use Rattle.matching.specs.Lookup.{Values};
 use environments::environment::Environment;
 use environments::terms;
 use logs::value;
+use policies::terms::Terms;
 
 // The value of the ground atom at an index, if the log knows it.
 pub fn value_at(
@@ -30,6 +31,11 @@ pub fn value_at(
     let numbers = environment.numbers;
     // An array, since no call takes memory.
     let mut arguments = [0; 6];
-    terms::arguments(&numbers, words, at + 3, n, &mut arguments);
+    let terms = Terms {
+        words,
+        first: at + 3,
+        n,
+    };
+    terms::arguments(&numbers, terms, &mut arguments);
     value::value_of(table, log, atoms, predicate, &arguments)
 }

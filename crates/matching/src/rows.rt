@@ -16,6 +16,7 @@ use chains::key;
 use environments::environment::Environment;
 use logs::links;
 use model::ROW_WORDS;
+use policies::terms::Terms;
 
 // A chain of true rows: where its links begin, how many keys they have, and its key.
 #[derive(Clone, Copy)]
@@ -26,26 +27,23 @@ pub struct Way {
 }
 
 // The chain of the true rows of a predicate that can fit an environment: by their first argument too, if its term has a number.
-fn lead(environment: Environment, words: &[i32], first: usize, n: usize, predicate: usize) -> Way
-    requires { (first + 2 * n < 2 ^ 64)
-        × (all (in_scope words.now 16) (places first n) ≡ true)
-        × (predicate < 256)
-        × ((e : M.Environment) × Holds environment e)
-        × (1 ≤ n)
-        × (first + 2 * n ≤ length words.now) }
+fn lead(environment: Environment, terms: Terms<'_>, predicate: usize) -> Way
+    requires { (predicate < 256)
+        × (1 ≤ terms.n)
+        × (terms.first + 2 * terms.n ≤ length terms.words.now) }
     ensures { (log : W.Words) (links : List ℕ) →
         Linked log links →
-        Leads words.now log (behind result.from links) result.keys result.key predicate first n environment
+        Leads terms.entry.words.now log (behind result.from links) result.keys result.key predicate terms.entry.first terms.entry.n environment
         × (result.from ≤ length links) }
 {
-    if words::is(words, first, 0) {
+    if words::is(terms.words, terms.first, 0) {
         return Way {
             from: links::FIRST_FROM,
             keys: key::FIRST_KEYS,
-            key: key::of_first(predicate, words, first + 1),
+            key: key::of_first(predicate, terms.words, terms.first + 1),
         };
     }
-    let x = words::value(words, first + 1);
+    let x = words::value(terms.words, terms.first + 1);
     if !environment.marks[x] {
         return Way {
             from: links::PREDICATE_FROM,
@@ -65,9 +63,7 @@ fn lead(environment: Environment, words: &[i32], first: usize, n: usize, predica
 // of other predicates are passed over. Tells how many there are, or None if the places ran out.
 fn walk_rows(
     environment: Environment,
-    words: &[i32],
-    first: usize,
-    n: usize,
+    terms: Terms<'_>,
     log: &[i32],
     links: &[u16],
     keys: usize,
@@ -77,16 +73,12 @@ fn walk_rows(
     base: usize,
     left: usize,
 ) -> Option<usize>
-    requires { (n ≤ 6)
-        × (first + 2 * n < 2 ^ 64)
-        × (all (in_scope words.now 16) (places first n) ≡ true)
-        × Leads words.now log.now links.now keys key predicate first n environment
-        × (17 * (base + left) ≤ length scratch.old)
-        × ((e : M.Environment) × Holds environment e) }
+    requires { Leads terms.words.now log.now links.now keys key predicate terms.first terms.n environment
+        × (17 * (base + left) ≤ length scratch.old) }
     ensures { (e : M.Environment) →
         Holds environment e →
         Adds
-        (M.matches (rows log.now) predicate (terms_at words.now first n) e)
+        (M.matches (rows log.now) predicate (terms_at terms.entry.words.now terms.entry.first terms.entry.n) e)
         base
         left
         scratch.old
@@ -103,7 +95,7 @@ fn walk_rows(
         if !words::is(log, ROW_WORDS * row, predicate) {
             continue;
         }
-        let Some(next) = fitting::fit_row(environment, words, first, n, log, row) else {
+        let Some(next) = fitting::fit_row(environment, terms, log, row) else {
             continue;
         };
         if left <= made {
@@ -119,9 +111,7 @@ fn walk_rows(
 // how many there are, or None if the places ran out.
 pub fn match_rows(
     environment: Environment,
-    words: &[i32],
-    first: usize,
-    n: usize,
+    terms: Terms<'_>,
     log: &[i32],
     links: &[u16],
     predicate: usize,
@@ -129,32 +119,26 @@ pub fn match_rows(
     base: usize,
     left: usize,
 ) -> Option<usize>
-    requires { (n ≤ 6)
-        × (first + 2 * n < 2 ^ 64)
-        × (all (in_scope words.now 16) (places first n) ≡ true)
-        × Linked log.now links.now
+    requires { Linked log.now links.now
         × (predicate < 256)
         × (17 * (base + left) ≤ length scratch.old)
-        × ((e : M.Environment) × Holds environment e)
-        × (1 ≤ n)
-        × (first + 2 * n ≤ length words.now) }
+        × (1 ≤ terms.n)
+        × (terms.first + 2 * terms.n ≤ length terms.words.now) }
     ensures { (e : M.Environment) →
         Holds environment e →
         Adds
-        (M.matches (rows log.now) predicate (terms_at words.now first n) e)
+        (M.matches (rows log.now) predicate (terms_at terms.entry.words.now terms.entry.first terms.entry.n) e)
         base
         left
         scratch.old
         scratch.new
         result }
 {
-    let way = lead(environment, words, first, n, predicate);
+    let way = lead(environment, terms, predicate);
     let from = way.from;
     walk_rows(
         environment,
-        words,
-        first,
-        n,
+        terms,
         log,
         &links[from..],
         way.keys,

@@ -14,6 +14,7 @@ use instances::excluded::Excluded;
 use listing::restriction;
 use listing::restriction::{Made, Room};
 use logs::accepted::AcceptedLog;
+use policies::depth::Depth;
 
 // The instances of a quantifier: the first place where their tuples stand, how many they are, the places counted so far, and the
 // index of the body.
@@ -77,18 +78,14 @@ pub fn prepare(
     }
     environment.store(scratch, 0);
     let m = words::value(words, at + 2);
+    let depth = Depth {
+        level,
+        scope: scope + v,
+    };
     let Made {
         room: to,
         next: body,
-    } = restriction::list(
-        log,
-        words,
-        scratch,
-        room(places),
-        level,
-        scope + v,
-        at + 3 + v * m,
-    )?;
+    } = restriction::list(log, words, scratch, room(places), depth, at + 3 + v * m)?;
     let excluded = Excluded {
         words,
         from: at + 3,

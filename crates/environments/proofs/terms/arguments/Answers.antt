@@ -15,38 +15,39 @@ use Rattle.environments.proofs.TermLaws.{numbers-first, numbers-next, numbers-la
 use Rattle.environments.proofs.terms.arguments.Goals as goal
 
 pub loop-i-init : goal.loop-i-init
-loop-i-init c = (
-  ap length c.requires.4,
-  c.requires.4,
-  λ e h. numbers-first e c.args.words.now c.args.first c.args.n,
-)
+loop-i-init c =
+    let t = c.args.terms in (
+      ap length c.requires.1,
+      c.requires.1,
+      λ e h. numbers-first e t.words.now t.first t.n,
+    )
 
 pub number-requires : goal.number-requires
-number-requires c = (
-  c.requires.0,
-  omega (arith, c.requires.2),
-  place-holds (in_scope c.args.words.now 16) c.args.first
-      c.args.n c.loop-i.i c.requires.3 c.loop-i-test.true,
-)
+number-requires c =
+    let t = c.args.terms in (
+      c.requires.0,
+      omega (arith, t.near),
+      place-holds (in_scope t.words.now 16) t.first t.n c.loop-i.i t.known c.loop-i-test.true,
+    )
 
 pub loop-i-preserved : goal.loop-i-preserved
 loop-i-preserved c =
-    let a = c.args in
+    let t = c.args.terms in
     let i = c.loop-i.i in
     let v = to_z w32 (of_z w32 c.number.result) in
     let back : v ≡ c.number.result = search rules in (
       length-set c.loop-i.arguments i v ∙ c.loop-i.invariant.0,
-      zeros-next c.loop-i.arguments 6 i v (omega (arith, c.requires.1)) c.loop-i.invariant.1,
+      zeros-next c.loop-i.arguments 6 i v (omega (arith, t.few)) c.loop-i.invariant.1,
       λ e h.
           c.loop-i.invariant.2 e h
-          ∙ numbers-next e a.words.now a.first a.n c.loop-i.arguments i v
-          c.loop-i-test.true (omega (arith, c.requires.1, c.loop-i.invariant.0)) (back ∙ c.number.ensures e h),
+          ∙ numbers-next e t.words.now t.first t.n c.loop-i.arguments i v
+          c.loop-i-test.true (omega (arith, t.few, c.loop-i.invariant.0)) (back ∙ c.number.ensures e h),
     )
 
 pub returns : goal.returns
 returns c =
-    λ e h. let a = c.args in let all : c.loop-i.i ≡ a.n = omega arith in sym
+    λ e h. let t = c.args.terms in let all : c.loop-i.i ≡ t.n = omega arith in sym
     (take-append-drop c.loop-i.i c.loop-i.arguments) ∙ ap₂ (λ (p q : List ℤ). p ++ q)
     (sym
-    (c.loop-i.invariant.2 e h ∙ numbers-last e a.words.now a.first a.n c.loop-i.arguments c.loop-i.i
+    (c.loop-i.invariant.2 e h ∙ numbers-last e t.words.now t.first t.n c.loop-i.arguments c.loop-i.i
     c.loop-i-test.false)) (c.loop-i.invariant.1 ∙ ap (λ (k : ℕ). replicate (6 - k) (pos 0)) all)

@@ -17,4 +17,4 @@ invariant-loop-i l =
     × (drop l.i l.arguments ≡ replicate (6 - l.i) (pos 0))
     × ((e : Environment) →
     l.numbers ≡ numbers_of e →
-    numbers_in e (terms_at l.words l.first l.n) ≡ take l.i l.arguments ++ numbers_from e l.words l.first l.n l.i)
+    numbers_in e (terms_at l.terms.words.now l.terms.first l.terms.n) ≡ take l.i l.arguments ++ numbers_from e l.terms.words.now l.terms.first l.terms.n l.i)

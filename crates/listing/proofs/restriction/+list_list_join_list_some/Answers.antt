@@ -30,70 +30,68 @@ other (Quantifier b) k = tt
 other Some k = absurd (k.2 refl)
 other Unused k = tt
 
+pub list-invariant_of-below-clause-levels : goal.list-invariant_of-below-clause-levels
+list-invariant_of-below-clause-levels t c =
+    let a = c.args in
+    low a.log.now.table.now a.words.now restriction a.depth.level a.depth.scope a.at c.requires.0
+
 pub list-list_join-requires : goal.list-list_join-requires
 list-list_join-requires t c =
     let a = c.args in
     let j =
-    here-join a.log.now.table.now a.words.now a.above a.scope a.at
-    _ (ap as_tag (sym c.in-Join.is) ∙ c.tag_at-tag.ensures) c.requires.2 in
-    let l = low a.log.now.table.now a.words.now restriction a.above a.scope a.at c.requires.2 in
+    here-join a.log.now.table.now a.words.now a.depth.level a.depth.scope a.at
+    _ (ap as_tag (sym c.in-Join.is) ∙ c.tag_at-tag.ensures) c.requires.0 in
+    let l = low a.log.now.table.now a.words.now restriction a.depth.level a.depth.scope a.at c.requires.0 in
     let here =
-    subst (λ (n : ℕ). HereAll a.log.now.table.now a.words.now restriction (a.above + 1) a.scope n (a.at + 2))
+    subst (λ (n : ℕ). HereAll a.log.now.table.now a.words.now restriction (a.depth.level + 1) a.depth.scope n (a.at + 2))
     (sym c.value-n.ensures) j.0 in (
       omega (arith, l, c.decreases),
-      (
-        l,
-        c.requires.1,
-        omega (arith, j.1, c.value-n.ensures),
-        here,
-        c.requires.3,
-        c.requires.4,
-      ),
+      (omega (arith, j.1, c.value-n.ensures), here, c.requires.1, c.requires.2),
     )
 
 pub list-list_some-requires : goal.list-list_some-requires
 list-list_some-requires t c =
     let a = c.args in
     let k =
-    here-some a.log.now.table.now a.words.now a.above a.scope a.at
+    here-some a.log.now.table.now a.words.now a.depth.level a.depth.scope a.at
     (ap as_tag (sym c.in-Some.is) ∙ c.tag_at-tag.ensures)
-    c.requires.2 in
-    let l = low a.log.now.table.now a.words.now restriction a.above a.scope a.at c.requires.2 in (
+    c.requires.0 in
+    let l = low a.log.now.table.now a.words.now restriction a.depth.level a.depth.scope a.at c.requires.0 in (
       omega (arith, l, c.decreases),
-      (omega (arith, l), omega (arith, k.0), k.1, c.requires.3, c.requires.4),
+      (omega (arith, l), omega (arith, k.0), k.1, c.requires.1, c.requires.2),
     )
 
 pub list-list_atom-requires : goal.list-list_atom-requires
 list-list_atom-requires t c =
     let a = c.args in (
-      here-atom a.log.now.table.now a.words.now a.above a.scope a.at
-          c.args.log.now.few c.requires.1 _ (ap as_tag (sym c.in-Atom.is) ∙ c.tag_at-tag.ensures)
-          c.requires.2 (omega (arith)),
-      c.requires.3,
-      c.requires.4,
+      here-atom a.log.now.table.now a.words.now a.depth.level a.depth.scope a.at
+          c.args.log.now.few a.depth.scopes _ (ap as_tag (sym c.in-Atom.is) ∙ c.tag_at-tag.ensures)
+          c.requires.0 (omega (arith)),
+      c.requires.1,
+      c.requires.2,
       terms-there
-          a.log.now.table.now a.words.now a.above a.scope a.at _
-          (ap as_tag (sym c.in-Atom.is) ∙ c.tag_at-tag.ensures) c.requires.2,
+          a.log.now.table.now a.words.now a.depth.level a.depth.scope a.at _
+          (ap as_tag (sym c.in-Atom.is) ∙ c.tag_at-tag.ensures) c.requires.0,
     )
 
 pub list-returns-in-Join : goal.list-returns-in-Join
 list-returns-in-Join t c =
     let a = c.args in
-    λ es h. from-join a.log.now.table.now a.words.now a.log.now.rows.now a.above a.scope a.at es a.room
+    λ es h. from-join a.log.now.table.now a.words.now a.log.now.rows.now a.depth.level a.depth.scope a.at es a.room
     a.scratch.now _ _ _ (ap as_tag (sym c.in-Join.is) ∙ c.tag_at-tag.ensures)
     (λ ts next nodes n. c.list_join.ensures es h ts next nodes (n ∙ sym c.value-n.ensures))
 
 pub list-returns-in-Some : goal.list-returns-in-Some
 list-returns-in-Some t c =
     let a = c.args in
-    λ es h. from_some a.log.now.table.now a.words.now a.log.now.rows.now a.above a.scope a.at es a.room
+    λ es h. from_some a.log.now.table.now a.words.now a.log.now.rows.now a.depth.level a.depth.scope a.at es a.room
     a.scratch.now _ _ (ap as_tag (sym c.in-Some.is) ∙ c.tag_at-tag.ensures)
     (c.list_some.ensures es h)
 
 pub list-returns-then-holds : goal.list-returns-then-holds
 list-returns-then-holds t c =
     let a = c.args in
-    λ es h. from-atom a.log.now.table.now a.words.now a.log.now.rows.now a.above a.scope a.at es a.room
+    λ es h. from-atom a.log.now.table.now a.words.now a.log.now.rows.now a.depth.level a.depth.scope a.at es a.room
     a.scratch.now _ _
     (ap T.Tag.atom (sym c.if-holds.true)
     ∙ (ap as_tag (sym c.in-Atom.is) ∙ c.tag_at-tag.ensures))
@@ -102,7 +100,7 @@ list-returns-then-holds t c =
 pub list-returns-else-holds : goal.list-returns-else-holds
 list-returns-else-holds t c =
     let a = c.args in
-    λ es h. from-kept a.log.now.table.now a.words.now a.log.now.rows.now a.above a.scope a.at es a.room
+    λ es h. from-kept a.log.now.table.now a.words.now a.log.now.rows.now a.depth.level a.depth.scope a.at es a.room
     a.scratch.now _ _ (T.Tag.atom false)
     (ap T.Tag.atom (sym c.if-holds.false) ∙ (ap as_tag (sym c.in-Atom.is) ∙ c.tag_at-tag.ensures))
     tt (c.list_kept.ensures es h)
@@ -110,75 +108,75 @@ list-returns-else-holds t c =
 pub list-returns-in_default : goal.list-returns-in_default
 list-returns-in_default t c =
     let a = c.args in
-    λ es h. from-kept a.log.now.table.now a.words.now a.log.now.rows.now a.above a.scope a.at es a.room
+    λ es h. from-kept a.log.now.table.now a.words.now a.log.now.rows.now a.depth.level a.depth.scope a.at es a.room
     a.scratch.now _ _ (as_tag c.tag_at-tag.result) c.tag_at-tag.ensures (other c.tag_at-tag.result (c.in_default.not-Atom, c.in_default.not-Join, c.in_default.not-Some))
     (c.list_kept-in_default.ensures es h)
 
 pub list_join-loop-init : goal.list_join-loop-init
 list_join-loop-init t c =
     let a = c.args in
-    join_first a.log.now.table.now a.words.now a.log.now.rows.now a.above a.scope a.n a.at a.room a.scratch.now c.requires.4 a.every
+    join_first a.log.now.table.now a.words.now a.log.now.rows.now a.depth.level a.depth.scope a.n a.at a.room a.scratch.now c.requires.2 a.every
 
 pub list_join-list-requires : goal.list_join-list-requires
 list_join-list-requires t c =
     let a = c.args in
     let l = c.loop in
     let (here, roomy, holds) =
-    join_asks a.log.now.table.now a.words.now a.log.now.rows.now a.above a.scope a.n a.at a.room
-    a.scratch.now c.requires.4 c.requires.3 c.requires.5 l.counter l.next l.handed l.scratch
+    join_asks a.log.now.table.now a.words.now a.log.now.rows.now a.depth.level a.depth.scope a.n a.at a.room
+    a.scratch.now c.requires.2 c.requires.1 c.requires.3 l.counter l.next l.handed l.scratch
     l.auto.scratch a.every l.invariant c.loop-test.true in (
-      omega (arith, c.decreases, c.requires.0),
-      (c.requires.0, c.requires.1, here, roomy, holds),
+      omega (arith, c.decreases, a.depth.levels),
+      (here, roomy, holds),
     )
 
 pub list_join-returns-in_err-child : goal.list_join-returns-in_err-child
 list_join-returns-in_err-child t c =
     let a = c.args in
     let l = c.loop in
-    join-stop a.log.now.table.now a.words.now a.log.now.rows.now a.above a.scope a.n a.at a.room
-    a.scratch.now c.requires.4 c.requires.3 c.requires.5 l.counter l.next l.handed l.scratch
+    join-stop a.log.now.table.now a.words.now a.log.now.rows.now a.depth.level a.depth.scope a.n a.at a.room
+    a.scratch.now c.requires.2 c.requires.1 c.requires.3 l.counter l.next l.handed l.scratch
     l.auto.scratch a.every l.invariant c.loop-test.true _ c.in_err-child.ensures _ c.from_residual.ensures
 
 pub list_join-pass_on-handed-requires : goal.list_join-pass_on-handed-requires
 list_join-pass_on-handed-requires t c =
     let a = c.args in
     let l = c.loop in
-    join_passing a.log.now.table.now a.words.now a.log.now.rows.now a.above a.scope a.n a.at a.room
-    a.scratch.now c.requires.4 c.requires.3 c.requires.5 l.counter l.next l.handed l.scratch
+    join_passing a.log.now.table.now a.words.now a.log.now.rows.now a.depth.level a.depth.scope a.n a.at a.room
+    a.scratch.now c.requires.2 c.requires.1 c.requires.3 l.counter l.next l.handed l.scratch
     l.auto.scratch a.every l.invariant c.loop-test.true _ _ c.in_ok-child.ensures c.list.auto.scratch
 
 pub list_join-loop-preserved : goal.list_join-loop-preserved
 list_join-loop-preserved t c =
     let a = c.args in
     let l = c.loop in
-    join-next a.log.now.table.now a.words.now a.log.now.rows.now a.above a.scope a.n a.at a.room
-    a.scratch.now c.requires.4 c.requires.3 c.requires.5 l.counter l.next l.handed l.scratch
+    join-next a.log.now.table.now a.words.now a.log.now.rows.now a.depth.level a.depth.scope a.n a.at a.room
+    a.scratch.now c.requires.2 c.requires.1 c.requires.3 l.counter l.next l.handed l.scratch
     l.auto.scratch a.every l.invariant c.loop-test.true _ _ c.in_ok-child.ensures _ _ c.pass_on-handed.ensures
 
 pub list_join-returns : goal.list_join-returns
 list_join-returns t c =
     let a = c.args in
     let l = c.loop in
-    join_close a.log.now.table.now a.words.now a.log.now.rows.now a.above a.scope a.n a.at a.room
-    a.scratch.now c.requires.4 c.requires.3 c.requires.5 l.counter l.next l.handed l.scratch
-    l.auto.scratch a.every l.invariant c.loop-test.false c.requires.2 (omega arith) _ c.close.ensures
+    join_close a.log.now.table.now a.words.now a.log.now.rows.now a.depth.level a.depth.scope a.n a.at a.room
+    a.scratch.now c.requires.2 c.requires.1 c.requires.3 l.counter l.next l.handed l.scratch
+    l.auto.scratch a.every l.invariant c.loop-test.false c.requires.0 (omega arith) _ c.close.ensures
 
 pub list_some-returns-in_err-to : goal.list_some-returns-in_err-to
 list_some-returns-in_err-to t c = λ es h d next node.
     let a = c.args in
-    some-short a.log.now.table.now a.log.now.rows.now a.scope d es a.room a.scratch.now _ next (c.in_err-to.ensures es h d next node) c.from_residual.ensures
+    some-short a.log.now.table.now a.log.now.rows.now a.depth.scope d es a.room a.scratch.now _ next (c.in_err-to.ensures es h d next node) c.from_residual.ensures
 
 pub list_some-returns-then-to : goal.list_some-returns-then-to
 list_some-returns-then-to t c = λ es h d next node.
     let a = c.args in
     let m = c.in_ok-to.ensures es h d next node in
-    let made = some_holds a.log.now.table.now a.log.now.rows.now a.scope d es a.room a.scratch.now _ next _ _ m in
-    some-full a.log.now.table.now a.log.now.rows.now a.scope d es a.room a.scratch.now _ next _ _ m _ (c.release_all.ensures _ made.listed made.long) c.if-to.true
+    let made = some_holds a.log.now.table.now a.log.now.rows.now a.depth.scope d es a.room a.scratch.now _ next _ _ m in
+    some-full a.log.now.table.now a.log.now.rows.now a.depth.scope d es a.room a.scratch.now _ next _ _ m _ (c.release_all.ensures _ made.listed made.long) c.if-to.true
 
 pub list_some-returns : goal.list_some-returns
 list_some-returns t c = λ es h d next node.
     let a = c.args in
     let m = c.in_ok-to.ensures es h d next node in
-    let made = some_holds a.log.now.table.now a.log.now.rows.now a.scope d es a.room a.scratch.now _ next _ _ m in
-    some_end a.log.now.table.now a.log.now.rows.now a.scope d es a.room a.scratch.now _ next _ _ m _ (c.release_all.ensures _ made.listed made.long)
+    let made = some_holds a.log.now.table.now a.log.now.rows.now a.depth.scope d es a.room a.scratch.now _ next _ _ m in
+    some_end a.log.now.table.now a.log.now.rows.now a.depth.scope d es a.room a.scratch.now _ next _ _ m _ (c.release_all.ensures _ made.listed made.long)
     c.if-to.false c.counted.ensures

@@ -6,14 +6,14 @@ use Rattle.listing.proofs.JoinLaws.{SoFar}
 use Rattle.listing.proofs.restriction.+list_list_join_list_some.Given as goal
 
 abbrev pub decreases-list : goal.decreases-list
-decreases-list l = 130 - 2 * l.above
+decreases-list l = 130 - 2 * l.depth.level
 
 abbrev pub decreases-list_join : goal.decreases-list_join
-decreases-list_join l = 131 - 2 * l.above
+decreases-list_join l = 131 - 2 * l.depth.level
 
 abbrev pub decreases-list_some : goal.decreases-list_some
-decreases-list_some l = 129 - 2 * l.above
+decreases-list_some l = 129 - 2 * l.depth.level
 
 abbrev pub invariant-list_join-loop : goal.invariant-list_join-loop
 invariant-list_join-loop l =
-    SoFar l.every l.log.table.now l.words l.log.rows.now l.above l.scope l.n l.at l.room l.initial.scratch l.counter l.next l.handed l.scratch
+    SoFar l.every l.log.table.now l.words l.log.rows.now l.depth.level l.depth.scope l.n l.at l.room l.initial.scratch l.counter l.next l.handed l.scratch

@@ -2,14 +2,11 @@
 -- first free place on.
 use Prim.Native.Nat.{ℕ, ◌+◌}
 use native.Mathlib.Omega.{arith}
-use mathlib.Core.Path.{◌≡◌, sym, ap₂, ◌∙◌, subst}
-use mathlib.Core.Bool.{true}
-use Rattle.model.specs.Lists.{all, gather}
-use Rattle.model.specs.Reading.{places, in_scope}
+use mathlib.Core.Path.{ap₂, ◌∙◌}
+use Rattle.model.specs.Lists.{gather}
 use Rattle.model.specs.Log.{rows}
 use Rattle.model.specs.Listing.{matches}
 use Rattle.policies.specs.Standing.{terms_at}
-use Rattle.environments.proofs.ListedLaws.{environment_of}
 use Rattle.listing.proofs.MapLaws.{map-start, map_read, map-step}
 use Rattle.listing.proofs.MapRoom.{map_ran_out, at-list}
 use Rattle.listing.proofs.restriction.list_atom.Goals as goal
@@ -25,20 +22,11 @@ loop-i-init c =
 
 pub match_rows-requires : goal.match_rows-requires
 match_rows-requires c =
-    let a = c.args in
     let (made, far) = c.loop-i.invariant in
-    let roomy = c.requires.1 in
-    let (es, h) = c.requires.2 in
-    let p = c.value-predicate.ensures in
-    let n = c.value-n.ensures in
-    let held = c.read-environment.ensures _ (map_read (far es h) a.room.from (omega arith) h.listed (omega arith)) in (
-      omega (arith, c.requires.0.1),
-      omega (arith, c.requires.0.2),
-      subst (λ (k : ℕ). all (in_scope a.words.now 16) (places (a.at + 3) k) ≡ true) (sym n) c.requires.0.3,
+    let roomy = c.requires.1 in (
       c.args.log.now.linked,
       omega (arith, c.requires.0.0),
       omega arith,
-      (environment_of es c.loop-i.i, held),
       omega (arith, c.requires.3.0),
       omega (arith, c.requires.3.1),
     )

@@ -8,7 +8,7 @@ use Rattle.matching.proofs.rows.lead.Goals as goal
 pub returns-then-is : goal.returns-then-is
 returns-then-is c =
     let a = c.args in
-    λ log links t. leads-constant a.words.now log links t a.predicate a.first a.n a.environment c.requires.4
+    λ log links t. leads-constant a.terms.words.now log links t a.predicate a.terms.first a.terms.n a.environment c.requires.1
     (sym c.is.ensures ∙ c.if-is.true) _ c.of_first.ensures
 
 pub bounds-environment-x : goal.bounds-environment-x
@@ -17,14 +17,14 @@ bounds-environment-x c =
     omega (
       arith,
       c.value-x.ensures,
-      small-first a.words.now a.first a.n c.requires.4 c.requires.1
+      small-first a.terms.words.now a.terms.first a.terms.n c.requires.1 a.terms.known
           (sym c.is.ensures ∙ c.if-is.false),
     )
 
 pub returns-then-not-environment-x : goal.returns-then-not-environment-x
 returns-then-not-environment-x c =
     let a = c.args in
-    λ log links t. leads-wide a.words.now log links t a.predicate a.first a.n _ c.requires.2
+    λ log links t. leads-wide a.terms.words.now log links t a.predicate a.terms.first a.terms.n _ c.requires.0
 
 pub returns : goal.returns
 returns c =
@@ -32,8 +32,8 @@ returns c =
     λ log links t. let small : c.value-x.result < 16 = omega (
       arith,
       c.value-x.ensures,
-      small-first a.words.now a.first a.n c.requires.4 c.requires.1
+      small-first a.terms.words.now a.terms.first a.terms.n c.requires.1 a.terms.known
           (sym c.is.ensures ∙ c.if-is.false),
-    ) in leads-variable a.words.now log links t a.predicate a.first a.n
-    a.environment c.value-x.result c.requires.4 (sym c.is.ensures ∙ c.if-is.false) c.value-x.ensures small
+    ) in leads-variable a.terms.words.now log links t a.predicate a.terms.first a.terms.n
+    a.environment c.value-x.result c.requires.1 (sym c.is.ensures ∙ c.if-is.false) c.value-x.ensures small
     (c.if-not-environment-x.false) _ c.of_first-2.ensures

@@ -6,24 +6,20 @@ use Rattle.matching.proofs.rows.match_rows.Goals as goal
 pub offset_bounds-links-from : goal.offset_bounds-links-from
 offset_bounds-links-from c =
     let a = c.args in
-    omega (arith, (c.lead-way.ensures a.log.now a.links.now c.requires.3).1, c.ranges)
+    omega (arith, (c.lead-way.ensures a.log.now a.links.now c.requires.0).1, c.ranges)
 
 pub slice_bounds-walk_rows-count : goal.slice_bounds-walk_rows-count
-slice_bounds-walk_rows-count c = (c.lead-way.ensures c.args.log.now c.args.links.now c.requires.3).1
+slice_bounds-walk_rows-count c = (c.lead-way.ensures c.args.log.now c.args.links.now c.requires.0).1
 
 pub slice_bounds-walk_rows-start : goal.slice_bounds-walk_rows-start
 slice_bounds-walk_rows-start c =
     let a = c.args in
-    (c.lead-way.ensures a.log.now a.links.now c.requires.3).1
+    (c.lead-way.ensures a.log.now a.links.now c.requires.0).1
 
 pub walk_rows-requires : goal.walk_rows-requires
 walk_rows-requires c =
     let a = c.args in (
-      c.requires.0,
-      c.requires.1,
-      c.requires.2,
       leads_lent a.links.now c.lead-way.result.from
-          (c.lead-way.ensures a.log.now a.links.now c.requires.3).0,
-      c.requires.5,
-      c.requires.6,
+          (c.lead-way.ensures a.log.now a.links.now c.requires.0).0,
+      c.requires.2,
     )

@@ -10,10 +10,10 @@ use Rattle.matching.proofs.rows.walk_rows.Goals as goal
 pub loop-link-init : goal.loop-link-init
 loop-link-init c =
     let a = c.args in
-    let lead = c.requires.3 in (
+    let lead = c.requires.0 in (
       record { key = lead.key; chained = lead.chained; from = 0; linked = lead.chained.heads a.key lead.inside },
       omega arith,
-      λ e h. far_start a.log.now a.predicate (terms_at a.words.now a.first a.n) e lead.key a.key (lead.whole e h) a.base a.scratch.now,
+      λ e h. far_start a.log.now a.predicate (terms_at a.terms.words.now a.terms.first a.terms.n) e lead.key a.key (lead.whole e h) a.base a.scratch.now,
     )
 
 pub overflow_sub-row : goal.overflow_sub-row
@@ -38,14 +38,14 @@ loop-link-preserved-then-not-is c =
       walk_on w c.loop-link-test.true,
       few,
       λ e h. far_none w (far e h) c.loop-link-test.true
-          (found-not a.log.now a.predicate (terms_at a.words.now a.first a.n) e _ (sym c.is.ensures ∙ c.if-not-is.true)),
+          (found-not a.log.now a.predicate (terms_at a.terms.words.now a.terms.first a.terms.n) e _ (sym c.is.ensures ∙ c.if-not-is.true)),
     )
 
 pub fit_row-requires : goal.fit_row-requires
 unfolding row_count
 fit_row-requires c =
     let found = first-row c.loop-link.invariant.0 c.loop-link-test.true in
-    (c.requires.0, c.requires.1, omega (arith, found.0.inside), c.requires.2)
+    omega (arith, found.0.inside)
 
 pub loop-link-smaller-in_default : goal.loop-link-smaller-in_default
 unfolding row_count
@@ -59,7 +59,7 @@ loop-link-preserved-in_default c =
       walk_on w c.loop-link-test.true,
       few,
       λ e h. far_none w (far e h) c.loop-link-test.true
-          (found_here a.log.now a.predicate (terms_at a.words.now a.first a.n) e _ (sym c.is.ensures ∙ c.if-not-is.false) ∙ c.in_default.ensures e h),
+          (found_here a.log.now a.predicate (terms_at a.terms.words.now a.terms.first a.terms.n) e _ (sym c.is.ensures ∙ c.if-not-is.false) ∙ c.in_default.ensures e h),
     )
 
 pub returns-then-left-made : goal.returns-then-left-made
@@ -69,7 +69,7 @@ returns-then-left-made c = λ e h.
     let (w, few, far) = c.loop-link.invariant in
     let (g, one, holds) = c.in-Some.ensures e h in record {
       came = far_short w (far e h) c.loop-link-test.true g
-          (found_here a.log.now a.predicate (terms_at a.words.now a.first a.n) e _ (sym c.is.ensures ∙ c.if-not-is.false) ∙ one) c.if-left-made.true;
+          (found_here a.log.now a.predicate (terms_at a.terms.words.now a.terms.first a.terms.n) e _ (sym c.is.ensures ∙ c.if-not-is.false) ∙ one) c.if-left-made.true;
       long = c.loop-link.auto.scratch;
       front = (far e h).front;
     }
@@ -83,12 +83,12 @@ unfolding row_count
 loop-link-preserved c =
     let a = c.args in
     let (w, few, far) = c.loop-link.invariant in
-    let room = c.requires.4 in
+    let room = c.requires.1 in
     let long = c.loop-link.auto.scratch in (
       walk_on w c.loop-link-test.true,
       omega arith,
       λ e h. let (g, one, holds) = c.in-Some.ensures e h in far_one w (far e h) c.loop-link-test.true g
-          (found_here a.log.now a.predicate (terms_at a.words.now a.first a.n) e _ (sym c.is.ensures ∙ c.if-not-is.false) ∙ one) (omega arith)
+          (found_here a.log.now a.predicate (terms_at a.terms.words.now a.terms.first a.terms.n) e _ (sym c.is.ensures ∙ c.if-not-is.false) ∙ one) (omega arith)
           (c.store.ensures g holds),
     )
 

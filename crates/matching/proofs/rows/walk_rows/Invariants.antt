@@ -13,7 +13,7 @@ invariant-loop-link l =
     × (l.made ≤ l.left)
     × ((e : Environment) →
     Holds l.environment e →
-    SoFar l.log l.predicate (terms_at l.words l.first l.n) e w.key l.key w.from l.base l.made l.initial.scratch l.scratch)
+    SoFar l.log l.predicate (terms_at l.terms.words.now l.terms.first l.terms.n) e w.key l.key w.from l.base l.made l.initial.scratch l.scratch)
 
 abbrev pub decreases-loop-link : goal.decreases-loop-link
 decreases-loop-link l = l.link

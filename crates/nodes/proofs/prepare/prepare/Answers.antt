@@ -19,8 +19,6 @@ list-requires c =
     (λ (m : ℕ). Here a.log.now.table.now a.words.now restriction a.level (a.scope + a.v) (a.at + 3 + a.v * m))
     (sym c.value-m.ensures) c.requires.3 in
     let places = length a.scratch.now / 17 in (
-      c.requires.0,
-      c.requires.1,
       here,
       room-asked a.environment a.scope places a.scratch.now _ _ c.if-places-lt1.false (omega arith) c.room.ensures c.store.ensures c.requires.4,
       (
