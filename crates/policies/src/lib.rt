@@ -4,4 +4,5 @@
 pub mod depth;
 pub mod node;
 pub mod policy;
+pub mod spot;
 pub mod terms;

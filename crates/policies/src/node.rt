@@ -10,6 +10,7 @@ ghost use Rattle.tables.specs.Checked.{outcome};
 ghost use Rattle.policies.specs.Node.{as_tag, as_role, There, Room, Sized, Shaped, Known, Scoped};
 
 use crate::depth::Depth;
+use crate::spot::Spot;
 use model::{Refusal, Refused};
 use tables::table;
 
@@ -128,10 +129,10 @@ pub fn is_formula(role: Role) -> bool
 }
 
 // Question 3 at an atom: 1 to 6 terms, all there, of kind 0 or 1.
-fn atom_shape(words: &[i32], at: usize) -> bool
-    requires { at ≤ length words.now }
-    ensures { (b : Bool) (role : L.Role) → Shaped words.now (T.Tag.atom b) role at result }
+fn atom_shape(spot: Spot<'_>) -> bool
+    ensures { (b : Bool) (role : L.Role) → Shaped spot.entry.words.now (T.Tag.atom b) role spot.entry.at result }
 {
+    let Spot { words, at } = spot;
     if !words::within(words, at + 2, 1, 6) {
         return false;
     }
@@ -143,10 +144,10 @@ fn atom_shape(words: &[i32], at: usize) -> bool
 }
 
 // Question 3 at a comparison: two terms, both there, of kind 0 or 1.
-fn compare_shape(words: &[i32], at: usize) -> bool
-    requires { at ≤ length words.now }
-    ensures { (b : Bool) (role : L.Role) → Shaped words.now (T.Tag.compare b) role at result }
+fn compare_shape(spot: Spot<'_>) -> bool
+    ensures { (b : Bool) (role : L.Role) → Shaped spot.entry.words.now (T.Tag.compare b) role spot.entry.at result }
 {
+    let Spot { words, at } = spot;
     if words.len() - at < 6 {
         return false;
     }
@@ -154,10 +155,10 @@ fn compare_shape(words: &[i32], at: usize) -> bool
 }
 
 // Question 3 at an all-of or any-of: its count is there, and at least 2.
-fn join_shape(words: &[i32], at: usize) -> bool
-    requires { at ≤ length words.now }
-    ensures { (b : Bool) (role : L.Role) → Shaped words.now (T.Tag.join b) role at result }
+fn join_shape(spot: Spot<'_>) -> bool
+    ensures { (b : Bool) (role : L.Role) → Shaped spot.entry.words.now (T.Tag.join b) role spot.entry.at result }
 {
+    let Spot { words, at } = spot;
     if words.len() - at < 2 {
         return false;
     }
@@ -165,10 +166,11 @@ fn join_shape(words: &[i32], at: usize) -> bool
 }
 
 // The own words of a quantifier with 1 to 4 variables are there: its excluded tuples too.
-fn tuples_there(words: &[i32], at: usize) -> bool
-    requires { (at ≤ length words.now) × (W.within 1 4 (W.word words.now (at + 1)) ≡ true) }
-    ensures { (b : Bool) → Room words.now (T.Tag.quantifier b) at result }
+fn tuples_there(spot: Spot<'_>) -> bool
+    requires { W.within 1 4 (W.word spot.words.now (spot.at + 1)) ≡ true }
+    ensures { (b : Bool) → Room spot.entry.words.now (T.Tag.quantifier b) spot.entry.at result }
 {
+    let Spot { words, at } = spot;
     let left = words.len() - at;
     let v = words::value(words, at + 1);
     let m = words::value(words, at + 2);
@@ -179,10 +181,10 @@ fn tuples_there(words: &[i32], at: usize) -> bool
 }
 
 // Question 3 at a quantifier: it is a formula, of 1 to 4 variables, and its excluded tuples are there.
-fn quantifier_shape(words: &[i32], role: Role, at: usize) -> bool
-    requires { at ≤ length words.now }
-    ensures { (b : Bool) → Shaped words.now (T.Tag.quantifier b) (as_role role) at result }
+fn quantifier_shape(spot: Spot<'_>, role: Role) -> bool
+    ensures { (b : Bool) → Shaped spot.entry.words.now (T.Tag.quantifier b) (as_role role) spot.entry.at result }
 {
+    let Spot { words, at } = spot;
     if !is_formula(role) {
         return false;
     }
@@ -192,14 +194,14 @@ fn quantifier_shape(words: &[i32], role: Role, at: usize) -> bool
     if !words::at_least(words, at + 2, 0) {
         return false;
     }
-    tuples_there(words, at)
+    tuples_there(spot)
 }
 
 // Question 3 at a some: it stands in a restriction.
-fn some_shape(words: &[i32], role: Role, at: usize) -> bool
-    requires { at ≤ length words.now }
-    ensures { Shaped words.now T.Tag.some (as_role role) at result }
+fn some_shape(spot: Spot<'_>, role: Role) -> bool
+    ensures { Shaped spot.entry.words.now T.Tag.some (as_role role) spot.entry.at result }
 {
+    let Spot { words, at } = spot;
     if is_formula(role) {
         return false;
     }
@@ -207,26 +209,26 @@ fn some_shape(words: &[i32], role: Role, at: usize) -> bool
 }
 
 // Question 3 at a node: the tag is allowed there, and its own words are there and in range.
-fn shape(words: &[i32], tag: Tag, role: Role, at: usize) -> bool
-    requires { at ≤ length words.now }
-    ensures { Shaped words.now (as_tag tag) (as_role role) at result }
+fn shape(spot: Spot<'_>, tag: Tag, role: Role) -> bool
+    ensures { Shaped spot.entry.words.now (as_tag tag) (as_role role) spot.entry.at result }
 {
+    let Spot { words, at } = spot;
     match tag {
         Tag::Plain(_) => at < words.len(),
-        Tag::Atom(_) => atom_shape(words, at),
-        Tag::Compare(_) => compare_shape(words, at),
-        Tag::Join(_) => join_shape(words, at),
-        Tag::Quantifier(_) => quantifier_shape(words, role, at),
-        Tag::Some => some_shape(words, role, at),
+        Tag::Atom(_) => atom_shape(spot),
+        Tag::Compare(_) => compare_shape(spot),
+        Tag::Join(_) => join_shape(spot),
+        Tag::Quantifier(_) => quantifier_shape(spot, role),
+        Tag::Some => some_shape(spot, role),
         Tag::Unused => false,
     }
 }
 
 // Question 5 at an atom: its predicate exists, and has as many arguments.
-fn arity_fits(table: &[i32], words: &[i32], at: usize) -> bool
-    requires { at ≤ length words.now }
-    ensures { (b : Bool) → Known table.now words.now (T.Tag.atom b) at result }
+fn arity_fits(table: &[i32], spot: Spot<'_>) -> bool
+    ensures { (b : Bool) → Known table.now spot.entry.words.now (T.Tag.atom b) spot.entry.at result }
 {
+    let Spot { words, at } = spot;
     if !words::below(words, at + 1, table::predicates(table)) {
         return false;
     }
@@ -235,12 +237,11 @@ fn arity_fits(table: &[i32], words: &[i32], at: usize) -> bool
 }
 
 // Question 5 at a node.
-fn known(table: &[i32], words: &[i32], tag: Tag, at: usize) -> bool
-    requires { at ≤ length words.now }
-    ensures { Known table.now words.now (as_tag tag) at result }
+fn known(table: &[i32], spot: Spot<'_>, tag: Tag) -> bool
+    ensures { Known table.now spot.entry.words.now (as_tag tag) spot.entry.at result }
 {
     match tag {
-        Tag::Atom(_) => arity_fits(table, words, at),
+        Tag::Atom(_) => arity_fits(table, spot),
         _ => true,
     }
 }
@@ -262,21 +263,20 @@ fn scoped(words: &[i32], tag: Tag, depth: Depth, at: usize) -> bool
 // Questions 3, 4, 5 and 6 at one node.
 pub fn questions(
     table: &[i32],
-    words: &[i32],
+    spot: Spot<'_>,
     tag: Tag,
     role: Role,
     depth: Depth,
-    at: usize,
 ) -> Result<(), Refused>
-    requires { at ≤ length words.now }
-    ensures { outcome result ≡ R.questions table.now words.now (as_tag tag) (as_role role) depth.level depth.scope at }
+    ensures { outcome result ≡ R.questions table.now spot.entry.words.now (as_tag tag) (as_role role) depth.level depth.scope spot.entry.at }
 {
-    if !shape(words, tag, role, at) {
+    let Spot { words, at } = spot;
+    if !shape(spot, tag, role) {
         return Err(Refused(Refusal::Shape, at));
     }
     let left = LEVEL_LIMIT - depth.level;
     let spent = cost(role, tag);
-    let named = known(table, words, tag, at);
+    let named = known(table, spot, tag);
     if left < spent {
         return Err(Refused(Refusal::Level, at));
     }

@@ -7,6 +7,7 @@ ghost use Rattle.policies.specs.Policy.{NodeTold, NodesTold, BothTold, told_poli
 use crate::depth::Depth;
 use crate::node;
 use crate::node::{Role, Tag};
+use crate::spot::Spot;
 use model::{POLICY_LIMIT, Refusal, Refused};
 
 // Nodes that were read: the index behind them, and their greatest level.
@@ -20,19 +21,18 @@ pub struct Walked {
 #[cycle(children_quantified_walk)]
 fn children(
     table: &[i32],
-    words: &[i32],
+    spot: Spot<'_>,
     role: Role,
     depth: Depth,
     n: usize,
-    at: usize,
 ) -> Result<Walked, Refused>
-    requires { at ≤ length words.now }
-    ensures { NodesTold table.now words.now (as_role role) depth.level depth.scope n at result }
+    ensures { NodesTold table.now spot.entry.words.now (as_role role) depth.level depth.scope n spot.entry.at result }
 {
+    let Spot { words, at } = spot;
     let mut next = at;
     let mut level = depth.level;
     for _ in 0..n {
-        let child = walk(table, words, role, depth, next)?;
+        let child = walk(table, Spot { words, at: next }, role, depth)?;
         next = child.next;
         level = level.max(child.level);
     }
@@ -41,12 +41,15 @@ fn children(
 
 // The restriction of a quantifier, and the body behind it.
 #[cycle(children_quantified_walk)]
-fn quantified(table: &[i32], words: &[i32], depth: Depth, at: usize) -> Result<Walked, Refused>
-    requires { at ≤ length words.now }
-    ensures { BothTold table.now words.now depth.level depth.scope at result }
+fn quantified(table: &[i32], spot: Spot<'_>, depth: Depth) -> Result<Walked, Refused>
+    ensures { BothTold table.now spot.entry.words.now depth.level depth.scope spot.entry.at result }
 {
-    let restriction = walk(table, words, Role::Restriction, depth, at)?;
-    let body = walk(table, words, Role::Formula, depth, restriction.next)?;
+    let restriction = walk(table, spot, Role::Restriction, depth)?;
+    let behind = Spot {
+        words: spot.words,
+        at: restriction.next,
+    };
+    let body = walk(table, behind, Role::Formula, depth)?;
     Ok(Walked {
         next: body.next,
         level: restriction.level.max(body.level),
@@ -55,20 +58,15 @@ fn quantified(table: &[i32], words: &[i32], depth: Depth, at: usize) -> Result<W
 
 // The node at an index, and the nodes below it.
 #[cycle(children_quantified_walk)]
-fn walk(
-    table: &[i32],
-    words: &[i32],
-    role: Role,
-    depth: Depth,
-    at: usize,
-) -> Result<Walked, Refused>
-    requires { at ≤ length words.now }
-    ensures { NodeTold table.now words.now (as_role role) depth.level depth.scope at result }
+fn walk(table: &[i32], spot: Spot<'_>, role: Role, depth: Depth) -> Result<Walked, Refused>
+    ensures { NodeTold table.now spot.entry.words.now (as_role role) depth.level depth.scope spot.entry.at result }
 {
+    let Spot { words, at } = spot;
     let tag = node::tag_at(words, at);
-    node::questions(table, words, tag, role, depth, at)?;
+    node::questions(table, spot, tag, role, depth)?;
     let level = depth.level + node::cost(role, tag);
     let next = at + node::size(words, tag, at);
+    let behind = Spot { words, at: next };
     match tag {
         Tag::Join(b) => {
             let n = words::value(words, at + 1);
@@ -76,7 +74,7 @@ fn walk(
                 level,
                 scope: depth.scope,
             };
-            children(table, words, node::under(role, b), below, n, next)
+            children(table, behind, node::under(role, b), below, n)
         }
         Tag::Quantifier(_) => {
             let v = words::value(words, at + 1);
@@ -84,14 +82,14 @@ fn walk(
                 level,
                 scope: depth.scope + v,
             };
-            quantified(table, words, below, next)
+            quantified(table, behind, below)
         }
         Tag::Some => {
             let below = Depth {
                 level,
                 scope: depth.scope + 1,
             };
-            walk(table, words, Role::Restriction, below, next)
+            walk(table, behind, Role::Restriction, below)
         }
         _ => Ok(Walked { next, level }),
     }
@@ -108,7 +106,15 @@ pub fn ask_policy(table: &[i32], policy: &[i32]) -> Result<Walked, Refused>
     if POLICY_LIMIT < n {
         return Err(Refused(Refusal::PolicyLength, 0));
     }
-    let root = walk(table, policy, Role::Formula, Depth::ROOT, 0)?;
+    let root = walk(
+        table,
+        Spot {
+            words: policy,
+            at: 0,
+        },
+        Role::Formula,
+        Depth::ROOT,
+    )?;
     if root.next != n {
         return Err(Refused(Refusal::Shape, root.next));
     }

@@ -21,6 +21,7 @@ use modes::mode;
 use policies::depth::Depth;
 use policies::node;
 use policies::node::Role;
+use policies::spot::Spot;
 use tptp_tokens::laying::more_words;
 
 // What is known behind a part that was read: how many words there are so far, what comes of questions 4 to 6 and of question 7, and the
@@ -77,7 +78,8 @@ fn ask_leaf(
         level: above,
         scope,
     };
-    let asked = node::questions(table, own, tag, role, depth, 0);
+    let spot = Spot { words: own, at: 0 };
+    let asked = node::questions(table, spot, tag, role, depth);
     at_place(asked, place)
 }
 

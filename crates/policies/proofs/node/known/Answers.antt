@@ -26,4 +26,4 @@ others table words Unused at k = refl
 
 pub returns-in_default : goal.returns-in_default
 returns-in_default c =
-    others c.args.table.now c.args.words.now c.args.tag c.args.at c.in_default.not-Atom
+    others c.args.table.now c.args.spot.words.now c.args.tag c.args.spot.at c.in_default.not-Atom

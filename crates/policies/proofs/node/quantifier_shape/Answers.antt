@@ -21,7 +21,7 @@ pub returns-then-not-at_least : goal.returns-then-not-at_least
 unfolding own
 returns-then-not-at_least c b scope =
     let formal : is_formula (as_role c.args.role) ≡ true = sym c.is_formula.ensures ∙ c.if-not-is_formula.false in
-    let few : within 1 4 (word c.args.words.now (c.args.at + 1)) ≡ true = sym c.within.ensures ∙ c.if-not-within.false in
+    let few : within 1 4 (word c.args.spot.words.now (c.args.spot.at + 1)) ≡ true = sym c.within.ensures ∙ c.if-not-within.false in
     rw (
       formal,
       few,
@@ -32,7 +32,7 @@ pub returns : goal.returns
 unfolding own
 returns c b scope =
     let formal : is_formula (as_role c.args.role) ≡ true = sym c.is_formula.ensures ∙ c.if-not-is_formula.false in
-    let few : within 1 4 (word c.args.words.now (c.args.at + 1)) ≡ true = sym c.within.ensures ∙ c.if-not-within.false in
+    let few : within 1 4 (word c.args.spot.words.now (c.args.spot.at + 1)) ≡ true = sym c.within.ensures ∙ c.if-not-within.false in
     rw (
       formal,
       few,

@@ -11,7 +11,7 @@ pub returns-in-Plain : goal.returns-in-Plain
 unfolding own
 returns-in-Plain c scope =
     rw c.in-Plain.is
-    (ap (λ (k : ℕ). leb k (length c.args.words.now)) (sym (add-one c.args.at)))
+    (ap (λ (k : ℕ). leb k (length c.args.spot.words.now)) (sym (add-one c.args.spot.at)))
 
 pub returns-in-Unused : goal.returns-in-Unused
 unfolding own

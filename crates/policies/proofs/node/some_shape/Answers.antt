@@ -25,4 +25,4 @@ pub returns : goal.returns
 unfolding own
 returns c scope =
     rw (kind-restriction _ (sym c.is_formula.ensures ∙ c.if-is_formula.false))
-    (ap (λ (k : ℕ). leb k (length c.args.words.now)) (sym (add-one c.args.at)))
+    (ap (λ (k : ℕ). leb k (length c.args.spot.words.now)) (sym (add-one c.args.spot.at)))

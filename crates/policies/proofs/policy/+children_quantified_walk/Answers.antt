@@ -35,19 +35,19 @@ pub children-loop-init : goal.children-loop-init
 children-loop-init t c =
     let s = c.args in (
       search rules,
-      c.requires,
+      s.spot.within,
       search rules,
-      left-first s.table.now s.words.now (as_role s.role) s.depth.level s.depth.scope s.n s.at,
+      left-first s.table.now s.spot.words.now (as_role s.role) s.depth.level s.depth.scope s.n s.spot.at,
     )
 
 pub children-walk-requires : goal.children-walk-requires
-children-walk-requires t c = (omega (arith, c.decreases), c.loop.invariant.1)
+children-walk-requires t c = omega (arith, c.decreases)
 
 pub children-returns-in_err-child : goal.children-returns-in_err-child
 children-returns-in_err-child t c =
     let s = c.args in
     rw (passed_on _ c.from_residual.ensures.1)
-    (left-refused s.table.now s.words.now (as_role s.role) s.depth.level s.depth.scope s.n s.at
+    (left-refused s.table.now s.spot.words.now (as_role s.role) s.depth.level s.depth.scope s.n s.spot.at
     c.loop.counter
     c.loop.next
     c.loop.level
@@ -61,10 +61,10 @@ children-loop-preserved t c =
     let s = c.args in
     let l = c.loop in (
       omega (arith, c.loop-test.true),
-      read_fits s.table.now s.words.now (as_role s.role) s.depth.level s.depth.scope l.next c.in_ok-child.was c.walk.ensures,
+      read_fits s.table.now s.spot.words.now (as_role s.role) s.depth.level s.depth.scope l.next c.in_ok-child.was c.walk.ensures,
       omega (arith, c.max-level.ensures, c.loop.invariant.2),
       rw c.max-level.ensures
-          (left-read s.table.now s.words.now (as_role s.role) s.depth.level s.depth.scope s.n s.at
+          (left-read s.table.now s.spot.words.now (as_role s.role) s.depth.level s.depth.scope s.n s.spot.at
           l.counter
           l.next
           l.level
@@ -77,7 +77,7 @@ children-loop-preserved t c =
 pub children-returns : goal.children-returns
 children-returns t c =
     let s = c.args in
-    left-last s.table.now s.words.now (as_role s.role) s.depth.level s.depth.scope s.n s.at
+    left-last s.table.now s.spot.words.now (as_role s.role) s.depth.level s.depth.scope s.n s.spot.at
     c.loop.counter
     c.loop.next
     c.loop.level
@@ -89,26 +89,24 @@ pub quantified-returns-in_err-restriction : goal.quantified-returns-in_err-restr
 quantified-returns-in_err-restriction t c =
     let s = c.args in
     rw (passed_on _ c.from_residual.ensures.1)
-    (restriction-refused s.table.now s.words.now s.depth.level s.depth.scope s.at c.walk.ensures c.in_err-restriction.was)
+    (restriction-refused s.table.now s.spot.words.now s.depth.level s.depth.scope s.spot.at c.walk.ensures c.in_err-restriction.was)
 
-pub quantified-walk-requires-2 : goal.quantified-walk-requires-2
-quantified-walk-requires-2 t c =
-    let s = c.args in (
-      omega (arith, c.decreases),
-      read_fits s.table.now s.words.now restriction s.depth.level s.depth.scope s.at c.in_ok-restriction.was c.walk.ensures,
-    )
+pub quantified-invariant_of-behind : goal.quantified-invariant_of-behind
+quantified-invariant_of-behind t c =
+    let s = c.args in
+    record { within = read_fits s.table.now s.spot.words.now restriction s.depth.level s.depth.scope s.spot.at c.in_ok-restriction.was c.walk.ensures }
 
 pub quantified-returns-in_err-body : goal.quantified-returns-in_err-body
 quantified-returns-in_err-body t c =
     let s = c.args in
     rw (passed_on _ c.from_residual-in_err-body.ensures.1)
-    (body_refused s.table.now s.words.now s.depth.level s.depth.scope s.at c.walk.ensures c.in_ok-restriction.was c.walk-2.ensures c.in_err-body.was)
+    (body_refused s.table.now s.spot.words.now s.depth.level s.depth.scope s.spot.at c.walk.ensures c.in_ok-restriction.was c.walk-2.ensures c.in_err-body.was)
 
 pub quantified-returns : goal.quantified-returns
 quantified-returns t c =
     let s = c.args in
     rw c.max.ensures
-    (both_read s.table.now s.words.now s.depth.level s.depth.scope s.at c.walk.ensures c.in_ok-restriction.was
+    (both_read s.table.now s.spot.words.now s.depth.level s.depth.scope s.spot.at c.walk.ensures c.in_ok-restriction.was
     c.walk-2.ensures
     c.in_ok-body.was)
 
@@ -116,7 +114,7 @@ pub walk-returns-in_err-questions : goal.walk-returns-in_err-questions
 walk-returns-in_err-questions t c =
     let s = c.args in
     rw (passed_on _ c.from_residual.ensures.1)
-    (refused-tells s.table.now s.words.now (as_role s.role) s.depth.level s.depth.scope s.at c.args.depth.levels (as_tag c.tag_at-tag.result)
+    (refused-tells s.table.now s.spot.words.now (as_role s.role) s.depth.level s.depth.scope s.spot.at c.args.depth.levels (as_tag c.tag_at-tag.result)
     c.tag_at-tag.ensures
     c.in_err-questions.was
     c.questions.ensures)
@@ -129,7 +127,7 @@ pub walk-size-requires : goal.walk-size-requires
 walk-size-requires t c =
     let asks = ap outcome (sym c.in_ok-questions.was) ∙ c.questions.ensures in
     let s = c.args in
-    fits-there s.words.now (as_tag c.tag_at-tag.result) (as_role s.role) s.depth.scope s.at (asked _ _ _ _ _ _ _ (sym asks)).fits
+    fits-there s.spot.words.now (as_tag c.tag_at-tag.result) (as_role s.role) s.depth.scope s.spot.at (asked _ _ _ _ _ _ _ (sym asks)).fits
 
 pub walk-overflow_add-next : goal.walk-overflow_add-next
 walk-overflow_add-next t c =
@@ -144,7 +142,7 @@ walk-invariant_of-below t c =
 pub walk-children-requires : goal.walk-children-requires
 walk-children-requires t c =
     let node = entered c.args.depth.levels c.tag_at-tag.ensures c.in_ok-questions.was c.questions.ensures c.cost.ensures c.size.ensures in
-    (omega (arith, level_down node, level-fits node, c.decreases), next_fits node)
+    omega (arith, level_down node, level-fits node, c.decreases)
 
 pub walk-overflow_add-below : goal.walk-overflow_add-below
 walk-overflow_add-below t c =
@@ -161,7 +159,7 @@ walk-invariant_of-below-in-Quantifier t c =
 pub walk-quantified-requires : goal.walk-quantified-requires
 walk-quantified-requires t c =
     let node = entered c.args.depth.levels c.tag_at-tag.ensures c.in_ok-questions.was c.questions.ensures c.cost.ensures c.size.ensures in
-    (omega (arith, level_down node, level-fits node, c.decreases), next_fits node)
+    omega (arith, level_down node, level-fits node, c.decreases)
 
 pub walk-invariant_of-below-in-Some : goal.walk-invariant_of-below-in-Some
 walk-invariant_of-below-in-Some t c =
@@ -171,7 +169,7 @@ walk-invariant_of-below-in-Some t c =
 pub walk-walk-requires : goal.walk-walk-requires
 walk-walk-requires t c =
     let node = entered c.args.depth.levels c.tag_at-tag.ensures c.in_ok-questions.was c.questions.ensures c.cost.ensures c.size.ensures in
-    (omega (arith, level_down node, level-fits node, c.decreases), next_fits node)
+    omega (arith, level_down node, level-fits node, c.decreases)
 
 pub walk-returns-in-Join : goal.walk-returns-in-Join
 walk-returns-in-Join t c =
@@ -192,3 +190,18 @@ pub walk-returns-in_default : goal.walk-returns-in_default
 walk-returns-in_default t c =
     let node = entered c.args.depth.levels c.tag_at-tag.ensures c.in_ok-questions.was c.questions.ensures c.cost.ensures c.size.ensures in
     leaf-tells node (leaf c.tag_at-tag.result (c.in_default.not-Join, c.in_default.not-Quantifier, c.in_default.not-Some))
+
+pub walk-invariant_of-behind : goal.walk-invariant_of-behind
+walk-invariant_of-behind t c =
+    let node = entered c.args.depth.levels c.tag_at-tag.ensures c.in_ok-questions.was c.questions.ensures c.cost.ensures c.size.ensures in
+    record { within = next_fits node }
+
+pub walk-invariant_of-behind-in-Quantifier : goal.walk-invariant_of-behind-in-Quantifier
+walk-invariant_of-behind-in-Quantifier t c =
+    let node = entered c.args.depth.levels c.tag_at-tag.ensures c.in_ok-questions.was c.questions.ensures c.cost.ensures c.size.ensures in
+    record { within = next_fits node }
+
+pub walk-invariant_of-behind-in-Some : goal.walk-invariant_of-behind-in-Some
+walk-invariant_of-behind-in-Some t c =
+    let node = entered c.args.depth.levels c.tag_at-tag.ensures c.in_ok-questions.was c.questions.ensures c.cost.ensures c.size.ensures in
+    record { within = next_fits node }
