@@ -21,7 +21,7 @@ impl Room {
     ghost use Rattle.listing.specs.Restrictions as R;
 
     // The room after a list of so many entries was made in its first free places.
-    pub fn filled(self, made: usize) -> Room
+    pub(crate) fn filled(self, made: usize) -> Room
         requires { self.used + made ≤ self.limit }
         ensures { R.Filled self made result }
     {
@@ -35,7 +35,7 @@ impl Room {
     }
 
     // The room after a second list of the same entries was counted.
-    pub fn counted(self) -> Room
+    pub(crate) fn counted(self) -> Room
         requires { self.used + self.count ≤ self.limit }
         ensures { R.Counted self result }
     {
@@ -49,7 +49,7 @@ impl Room {
     }
 
     // The room for the next branch, once a branch's list stands in the first free places.
-    pub fn next_branch(self, to: Room) -> Room
+    pub(crate) fn next_branch(self, to: Room) -> Room
         requires { (self.base ≤ to.from) × (to.limit ≡ self.limit) }
         ensures { R.NextBranch self to result }
     {
@@ -63,7 +63,7 @@ impl Room {
     }
 
     // The room with the lists of all branches as one list.
-    pub fn joined(self, base: usize, made: usize) -> Room
+    pub(crate) fn joined(self, base: usize, made: usize) -> Room
         requires { (base + made ≤ self.base) × (self.used + made ≤ self.limit) }
         ensures { R.Joined self base made result }
     {
