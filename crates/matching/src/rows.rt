@@ -1,9 +1,7 @@
 // The true rows of a predicate, found by a chain and matched one after another against an environment.
-ghost use Rattle.std.specs.Prelude.{◌≡◌, true, List, ℕ, ◌+◌, ◌*◌, ◌^◌, ◌≤◌, ◌<◌, length};
+ghost use Rattle.std.specs.Prelude.{◌≡◌, List, ℕ, IfSome, ◌+◌, ◌*◌, ◌≤◌, ◌<◌, length};
 ghost use Rattle.model.specs.Words as W;
-ghost use Rattle.model.specs.Lists.{all};
 ghost use Rattle.model.specs.Log.{rows};
-ghost use Rattle.model.specs.Reading.{places, in_scope};
 ghost use Rattle.model.specs.Listing as M;
 ghost use Rattle.logs.specs.Links.{Linked, behind};
 ghost use Rattle.policies.specs.Standing.{terms_at};
@@ -75,7 +73,8 @@ fn walk_rows(
 ) -> Option<usize>
     requires { Leads terms.words.now log.now links.now keys key predicate terms.first terms.n environment
         × (17 * (base + left) ≤ length scratch.old) }
-    ensures { (e : M.Environment) →
+    ensures few { IfSome result (λ n. n ≤ left) }
+    ensures adds { (e : M.Environment) →
         Holds environment e →
         Adds
         (M.matches (rows log.now) predicate (terms_at terms.entry.words.now terms.entry.first terms.entry.n) e)
@@ -124,7 +123,8 @@ pub fn match_rows(
         × (17 * (base + left) ≤ length scratch.old)
         × (1 ≤ terms.n)
         × (terms.first + 2 * terms.n ≤ length terms.words.now) }
-    ensures { (e : M.Environment) →
+    ensures few { IfSome result (λ n. n ≤ left) }
+    ensures adds { (e : M.Environment) →
         Holds environment e →
         Adds
         (M.matches (rows log.now) predicate (terms_at terms.entry.words.now terms.entry.first terms.entry.n) e)

@@ -62,9 +62,9 @@ loop-link-preserved-in_default c =
           (found_here a.log.now a.predicate (terms_at a.terms.words.now a.terms.first a.terms.n) e _ (sym c.is.ensures ∙ c.if-not-is.false) ∙ c.in_default.ensures e h),
     )
 
-pub returns-then-left-made : goal.returns-then-left-made
+pub returns-then-left-made-clause-adds : goal.returns-then-left-made-clause-adds
 unfolding row_count
-returns-then-left-made c = λ e h.
+returns-then-left-made-clause-adds c = λ e h.
     let a = c.args in
     let (w, few, far) = c.loop-link.invariant in
     let (g, one, holds) = c.in-Some.ensures e h in record {
@@ -92,9 +92,9 @@ loop-link-preserved c =
           (c.store.ensures g holds),
     )
 
-pub returns : goal.returns
+pub returns-clause-adds : goal.returns-clause-adds
 unfolding row_count
-returns c = λ e h.
+returns-clause-adds c = λ e h.
     let (w, few, far) = c.loop-link.invariant in record {
       came = far_end w (far e h) c.loop-link-test.false few;
       long = c.loop-link.auto.scratch;

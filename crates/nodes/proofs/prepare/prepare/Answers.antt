@@ -2,30 +2,20 @@
 use Prim.Native.Nat.{ℕ, ◌+◌, ◌*◌, ◌/◌, ◌≤◌}
 use native.Mathlib.Omega.{arith}
 use mathlib.Core.Path.{sym, subst}
-use mathlib.Core.List.{[], ◌∷◌}
 use lib.ListN.{length}
 use Rattle.model.specs.Level.{restriction}
-use Rattle.model.specs.Listing.{outer}
 use Rattle.policies.specs.Standing.{Here}
-use Rattle.nodes.proofs.Preparing.{room-asked, room-holds, prepare_short, prepare_inside, prepare_stood}
+use Rattle.nodes.proofs.Preparing.{prepare_short, prepare_inside, prepare_stood}
 use Rattle.nodes.proofs.prepare.prepare.Goals as goal
 
 pub list-requires : goal.list-requires
 list-requires c =
     let a = c.args in
-    let (ρ, o) = c.requires.4 in
     let here =
     subst
     (λ (m : ℕ). Here a.log.now.table.now a.words.now restriction a.level (a.scope + a.v) (a.at + 3 + a.v * m))
     (sym c.value-m.ensures) c.requires.3 in
-    let places = length a.scratch.now / 17 in (
-      here,
-      room-asked a.environment a.scope places a.scratch.now _ _ c.if-places-lt1.false (omega arith) c.room.ensures c.store.ensures c.requires.4,
-      (
-        outer ρ ∷ [],
-        room-holds a.environment a.scope places a.scratch.now _ _ c.if-places-lt1.false (omega arith) c.room.ensures c.store.ensures ρ o,
-      ),
-    )
+    (here, omega (arith, c.room.ensures.is-limit, c.store.auto.scratch))
 
 pub returns-in_err-to : goal.returns-in_err-to
 returns-in_err-to c =
@@ -42,10 +32,11 @@ instances-count-requires c =
     let places = length a.scratch.now / 17 in
     let within =
     prepare_inside a.environment a.scope places a.scratch.now _ _ c.if-places-lt1.false (omega arith) c.room.ensures c.store.ensures
-    a.log.now.table.now a.words.now a.log.now.rows.now a.level a.v a.at _ c.value-m.ensures _ _ c.list.ensures _ c.in_ok-to.was c.requires.4 c.requires.3 in
+    a.log.now.table.now a.words.now a.log.now.rows.now a.level a.v a.at _ c.value-m.ensures _ _ c.list.ensures _ c.in_ok-to.was c.requires.3 in
+    let made = c.in_ok-to.to in
     let long = c.list.auto.scratch in
     let longer = c.store.auto.scratch in
-    (c.requires.1, omega arith)
+    (c.requires.1, omega (arith, within, made.before, made.counted))
 
 pub returns : goal.returns
 returns c =
