@@ -2,11 +2,7 @@
 ghost use Rattle.std.specs.Prelude.{◌≡◌, ◌≤◌};
 ghost use Rattle.model.specs.Words.{word, predicate_limit};
 ghost use Rattle.model.specs.Tag.{tag_of};
-ghost use Rattle.model.specs.Answer.{passed};
 ghost use Rattle.model.specs.Table.{predicates};
-ghost use Rattle.model.specs.Log.{row_count, ask_log};
-ghost use Rattle.chains.specs.Chain.{Chained};
-ghost use Rattle.chains.specs.Key.{row_key, atom_keys};
 ghost use Rattle.policies.specs.Node.{as_tag};
 ghost use Rattle.policies.specs.Standing.{HereAtom};
 ghost use Rattle.environments.specs.Standing.{HereRestriction};
@@ -14,47 +10,35 @@ ghost use Rattle.listing.specs.Keeping.{TellsFalse, TellsKept};
 
 use environments::environment::Environment;
 use environments::terms;
+use logs::accepted::KnownAtoms;
 use matching::lookup;
 use policies::node::Tag;
 
 // Whether the ground atom at an index is known to be false.
-fn is_false(
-    table: &[i32],
-    words: &[i32],
-    log: &[i32],
-    links: &[u16],
-    environment: Environment,
-    at: usize,
-) -> bool
-    requires { (ask_log table.now log.now ≡ passed tt)
-        × Chained (row_key log.now) atom_keys (row_count log.now) links.now
-        × HereAtom words.now at }
-    ensures { TellsFalse table.now words.now log.now environment at result }
+fn is_false(log: &KnownAtoms<'_>, words: &[i32], environment: Environment, at: usize) -> bool
+    requires { HereAtom words.now at }
+    ensures { TellsFalse log.now.table.now words.now log.now.rows.now environment at result }
 {
-    lookup::value_at(table, words, log, links, environment, at) == Some(false)
+    lookup::value_at(log, words, environment, at) == Some(false)
 }
 
 // Whether the leaf of a restriction at an index, whose tag is given, keeps an environment.
 pub fn keeps(
-    table: &[i32],
+    log: &KnownAtoms<'_>,
     words: &[i32],
-    log: &[i32],
-    links: &[u16],
     environment: Environment,
     tag: Tag,
     at: usize,
 ) -> bool
-    requires { (predicates table.now ≤ predicate_limit)
-        × (ask_log table.now log.now ≡ passed tt)
-        × Chained (row_key log.now) atom_keys (row_count log.now) links.now
+    requires { (predicates log.now.table.now ≤ predicate_limit)
         × (as_tag tag ≡ tag_of (word words.now at))
-        × HereRestriction table.now words.now at }
-    ensures { TellsKept table.now words.now log.now environment at result }
+        × HereRestriction log.now.table.now words.now at }
+    ensures { TellsKept log.now.table.now words.now log.now.rows.now environment at result }
 {
     match tag {
         Tag::Plain(b) => b,
         Tag::Compare(b) => b == terms::compare(environment, words, at),
-        Tag::Atom(_) => is_false(table, words, log, links, environment, at),
+        Tag::Atom(_) => is_false(log, words, environment, at),
         _ => false,
     }
 }

@@ -12,7 +12,7 @@ use crate::keeping;
 use crate::room::{Made, Room};
 use environments::environment::Environment;
 use environments::lists;
-use logs::accepted::AcceptedLog;
+use logs::accepted::{AcceptedLog, KnownAtoms};
 use matching::rows;
 use policies::depth::Depth;
 use policies::node;
@@ -75,11 +75,16 @@ fn list_kept(
         × (17 * room.limit ≤ length scratch.old) }
     ensures { R.MakesKept log.now.table.now words.now log.now.rows.now at room scratch.old scratch.new result }
 {
+    let atoms = KnownAtoms {
+        table: log.table,
+        rows: log.rows,
+        links: log.links,
+    };
     let left = room.limit - room.used;
     let mut made = 0;
     for i in 0..room.count {
         let environment = Environment::read(scratch, room.from + i);
-        if !keeping::keeps(log.table, words, log.rows, log.links, environment, tag, at) {
+        if !keeping::keeps(&atoms, words, environment, tag, at) {
             continue;
         }
         if left <= made {

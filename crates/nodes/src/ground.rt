@@ -5,7 +5,7 @@ ghost use Rattle.nodes.specs.Ground.{Outer, HereLiteral, GrownAtom, HereCompare,
 use environments::environment::Environment;
 use environments::terms;
 use joining::answer::Reduced;
-use logs::accepted::AcceptedLog;
+use logs::accepted::{AcceptedLog, KnownAtoms};
 use matching::lookup;
 use trees::putting;
 use words::copying;
@@ -48,7 +48,12 @@ pub fn atom(
         × HereLiteral log.now.table.now words.now scope holds at }
     ensures { ReducesAtom log.now.table.now words.now log.now.rows.now environment scope holds at out.old out.new result }
 {
-    let found = lookup::value_at(log.table, words, log.rows, log.links, environment, at);
+    let atoms = KnownAtoms {
+        table: log.table,
+        rows: log.rows,
+        links: log.links,
+    };
+    let found = lookup::value_at(&atoms, words, environment, at);
     match found {
         Some(value) => Reduced::Plain(value == holds),
         None => stay(words, environment, scope, at, out),

@@ -5,4 +5,4 @@ use Rattle.listing.proofs.keeping.is_false.Goals as goal
 pub returns : goal.returns
 returns c =
     let a = c.args in
-    false-value a.table.now a.words.now a.log.now a.environment a.at c.value_at.result c.value_at.ensures _ c.eq.ensures
+    false-value a.log.now.table.now a.words.now a.log.now.rows.now a.environment a.at c.value_at.result c.value_at.ensures _ c.eq.ensures

@@ -5,12 +5,8 @@ use Rattle.nodes.proofs.ground.atom.Goals as goal
 
 pub value_at-found-requires : goal.value_at-found-requires
 value_at-found-requires c =
-    let a = c.args in (
-      c.args.log.now.accepted,
-      c.args.log.now.linked.by_atom,
-      atom_asks a.log.now.table.now a.words.now a.scope a.holds a.at c.args.log.now.few c.requires.0
-          (omega arith) c.requires.1,
-    )
+    let a = c.args in
+    atom_asks a.log.now.table.now a.words.now a.scope a.holds a.at a.log.now.few c.requires.0 (omega arith) c.requires.1
 
 pub stay-requires : goal.stay-requires
 stay-requires c =
