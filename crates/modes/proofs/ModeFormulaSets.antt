@@ -1,6 +1,8 @@
 -- The variables below the next free one, marked one at a time.
 use Prim.Native.Nat.{ℕ, ◌+◌, ◌<◌}
 use native.Mathlib.Omega.{arith}
+use native.Mathlib.Nat.{ℕ_set}
+use mathlib.Core.HLevel.{is_prop→PathP}
 use mathlib.Core.Path.{◌≡◌, sym, ap, ◌∙◌}
 use mathlib.Core.Logic.{⊎_elim}
 use mathlib.Core.Bool.{Bool, true, false, ◌||◌}
@@ -9,6 +11,7 @@ use lib.ListN.{length, set, length-set, replicate, length-replicate, get_or-repl
 use lib.Dec.{ltb, eqb}
 use borrow.Author.Tests.{ltb-true, ltb-false, eqb-true, eqb-false, lt-ltb, le-ltb}
 use Rattle.laws.specs.Words.Tests.{decide}
+use Rattle.modes.specs.declared.marks.Marks.{Marks}
 use Rattle.modes.specs.Mode.{marked}
 use Rattle.modes.proofs.ModeTerms.{set_marked}
 
@@ -53,3 +56,8 @@ marked_more marks i h m =
           ∙ ap (λ (b : Bool). b || eqb x i) (m.below x)
           ∙ one_more x i;
     }
+
+-- sets with the same marks are the same
+pub same-set : (a b : Marks) → a.marks ≡ b.marks → a ≡ b
+same-set a b e =
+    λ i. record { marks = e i; sixteen = is_prop→PathP (λ j. length (e j) ≡ 16) (λ j. ℕ_set (length (e j)) 16) a.sixteen b.sixteen i }

@@ -1,5 +1,5 @@
 -- What the code's sets of variables and its walks say, as those of model.
-use Rattle.std.specs.Prelude.{ℕ, ◌+◌, ◌≡◌, Bool, true, false, ◌||◌, ◌&&◌, List, get_or, ltb, Result, Ok, Err}
+use Rattle.std.specs.Prelude.{ℕ, ◌+◌, ◌≡◌, Bool, true, false, ◌||◌, ◌&&◌, List, replicate, refl, get_or, ltb, Result, Ok, Err}
 use Rattle.std.specs.Result.{IfOk}
 use Rattle.model.specs.Words.{Words}
 use Rattle.model.specs.declared.Refusal.TheVariants.{Mode}
@@ -19,6 +19,10 @@ marked marks = λ x. get_or marks x false
 
 abbrev pub set_of : (set : Marks) → Variables
 set_of set = marked set.marks
+
+-- no variable
+abbrev pub none : Marks
+none = record { marks = replicate 16 false; sixteen = refl }
 
 -- the set behind an operand of an all-of (true) or any-of: its own, or the variables bound by all so far
 pub record Joint (every : Bool) (before own joint : Marks) : Type 0 where

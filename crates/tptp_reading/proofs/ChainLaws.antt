@@ -310,9 +310,7 @@ chain-begins table text at room above scope before handed begins levels e = reco
   levels = levels;
   variables = begins.variables;
   ready = record {
-    few = begins.ready.few;
     counted = omega (arith, e.words);
-    marks = ap length e.set ∙ begins.ready.marks;
     level = λ p. deep (asked p).1;
     range = λ p. begins.ready.range (asked p).0;
   };
@@ -387,9 +385,7 @@ module _
               levels = begins.levels;
               variables = begins.variables;
               ready = record {
-                few = begins.ready.few;
                 counted = omega (arith, value.holds.counted);
-                marks = value.holds.marks;
                 level = λ p. begins.ready.level (value.holds.passes p);
                 range = λ p. begins.ready.range (value.holds.passes p);
               };

@@ -20,6 +20,7 @@ use Rattle.model.specs.declared.Refusal.TheVariants.{Tptp}
 use Rattle.laws.specs.Answer.{refused-passed}
 use Rattle.laws.specs.Words.Tests.{decide}
 use Rattle.tptp_tokens.specs.Steps.{from, got, Skips, Value}
+use Rattle.modes.specs.declared.marks.Marks.{Marks}
 use Rattle.tptp_state.specs.Told.{Passed, Ready, Told, Handed, Joined}
 use Rattle.tptp_reading.specs.Formula.{Begins, Follows, Further}
 use Rattle.tptp_state.specs.declared.state.State.{State}
@@ -47,7 +48,7 @@ operand-there room formula scope text at t next e =
 
 -- so many operands with the first were read so far; there is fuel for those that are left
 pub record Joining
-    (room : ℕ) (b : Bool) (table : Words) (role : Role) (above scope : ℕ) (start : List Bool) (first : State) (text : Text) (at : ℕ)
+    (room : ℕ) (b : Bool) (table : Words) (role : Role) (above scope : ℕ) (start : Marks) (first : State) (text : Text) (at : ℕ)
     (old out : Words) (state : State) (next n : ℕ) : Type 0 where
   pub ts : List Tree
   pub number : suc (length ts) ≡ n
@@ -59,13 +60,13 @@ pub record Joining
       from (more (cond b ampersand bar) ((readers room).operand (is_formula role) scope)) text at
       ≡ attach ts (from (up_to fuel (cond b ampersand bar) ((readers room).operand (is_formula role) scope)) text next)
   pub follows : Follows table b role above scope start first state old out ts
-  pub ready : Ready table above scope state
+  pub ready : Ready above scope state
   pub long : length out ≡ length old
   pub low : at ≤ next
   pub high : next ≤ length text
 
 module _
-    (room : ℕ) (b : Bool) (table : Words) (role : Role) (above scope : ℕ) (start : List Bool) (first : State) (text : Text) (at : ℕ)
+    (room : ℕ) (b : Bool) (table : Words) (role : Role) (above scope : ℕ) (start : Marks) (first : State) (text : Text) (at : ℕ)
     (old : Words)
   where
     abbrev one : Reader Tree
@@ -163,9 +164,7 @@ module _
                       told_more table b g t.ts v.what role above scope start u state handed known joint words out out'
                       (t.follows g u words same a) same hand v.holds j;
                   ready = record {
-                    few = t.ready.few;
                     counted = omega (arith, j.words, v.holds.counted);
-                    marks = j.marks v.holds.marks;
                     level = λ p. t.ready.level (passes p);
                     range = λ p. t.ready.range (passes p);
                   };

@@ -27,6 +27,7 @@ use Rattle.std.specs.Prelude.{Result, Ok, Err}
 use Rattle.model.specs.declared.Refused.{Refused}
 use Rattle.modes.specs.Mode.{set_of}
 use Rattle.tptp_tokens.specs.Laying.{most_words, Laid}
+use Rattle.modes.specs.declared.marks.Marks.{Marks}
 use Rattle.tptp_state.specs.Told.{told, Modes, Told, Entered, Handed, Joined}
 use Rattle.tptp_reading.specs.Formula.{bindings_of, ModesAll, ToldAll}
 use Rattle.tptp_state.specs.declared.state.State.{State}
@@ -143,7 +144,7 @@ any_last (u ∷ ts) t table bound scope at =
 
 -- the marks of an any-of behind one operand more, which began with the marks in front
 marks_common :
-    (m₀ m₁ m₂ : Result (Unit {0}) Refused) (start marks₁ marks₂ marks : List Bool) (before after : Variables → Outcome Variables) →
+    (m₀ m₁ m₂ : Result (Unit {0}) Refused) (start marks₁ marks₂ marks : Marks) (before after : Variables → Outcome Variables) →
     told m₁ marks₁ ≡ (told m₀ start >>= before) →
     told m₂ marks₂ ≡ (told m₁ start >>= after) →
     ((x : ℕ) → set_of marks x ≡ (set_of marks₁ x && set_of marks₂ x)) →
@@ -179,7 +180,6 @@ told-one table b f role above scope u s old out t =
     let alone = append-nil (encode f) in
     record {
       counted = t.counted ∙ ap (λ (ws : Words). min (u.words + length ws) most_words) (sym alone);
-      marks = t.marks;
       passes = t.passes;
       settled = λ few.
           let settled = t.settled (omega (arith, ap length alone)) in
@@ -238,7 +238,6 @@ more-told table b ts t role above scope u s k s' old out out' a one j =
     let long = size-last ts t in
     record {
       counted = omega (arith, j.words, one.counted, a.counted, long);
-      marks = j.marks one.marks;
       passes = λ p. a.passes (one.passes (sym j.asked ∙ p));
       settled = λ few.
           let exact : s.words ≡ u.words + length (encode_all (trees ts)) = omega (arith, a.counted, long) in
@@ -266,7 +265,7 @@ more-told table b ts t role above scope u s k s' old out out' a one j =
     }
 
 pub told_more :
-    (table : Words) (b : Bool) (f : Tree) (ts : List Tree) (t : Tree) (role : Role) (above scope : ℕ) (start : List Bool)
+    (table : Words) (b : Bool) (f : Tree) (ts : List Tree) (t : Tree) (role : Role) (above scope : ℕ) (start : Marks)
     (u s h k s' : State) (old out out' : Words) →
     ToldAll table b (cons f (trees ts)) role above scope u s old out →
     u.set ≡ start →
@@ -277,7 +276,7 @@ pub told_more :
 unfolding trees
 told_more table b f ts t role above scope start u s h k s' old out out' a e handed one j =
     let given : h ≡ record { words = s.words; asked = s.asked; moded = s.moded; set = cond b s.set u.set } =
-    handed ∙ ap (λ (m : List Bool). record { words = s.words; asked = s.asked; moded = s.moded; set = cond b s.set m }) (sym e) in
+    handed ∙ ap (λ (m : Marks). record { words = s.words; asked = s.asked; moded = s.moded; set = cond b s.set m }) (sym e) in
     more-told table b (f ∷ ts) t role above scope u s k s' old out out' a
     (subst (λ (x : State). Told table t role above scope x k out out') given one) j
 
@@ -295,12 +294,12 @@ modes-join true b ts table scope s u r words moded marks m =
 modes-join false true ts table scope s u r words moded marks m =
     m
     ∙ ap (λ (c : Result (Unit {0}) Refused). told c u.set >>= λ bound. bindings_all ts table bound scope u.words) moded
-    ∙ ap (λ (c : List Bool). told s.moded c >>= λ bound. bindings_all ts table bound scope u.words) marks
+    ∙ ap (λ (c : Marks). told s.moded c >>= λ bound. bindings_all ts table bound scope u.words) marks
     ∙ ap (λ (n : ℕ). told s.moded s.set >>= λ bound. bindings_all ts table bound scope n) words
 modes-join false false ts table scope s u r words moded marks m =
     m
     ∙ ap (λ (c : Result (Unit {0}) Refused). told c u.set >>= λ bound. bindings_any ts table bound scope u.words) moded
-    ∙ ap (λ (c : List Bool). told s.moded c >>= λ bound. bindings_any ts table bound scope u.words) marks
+    ∙ ap (λ (c : Marks). told s.moded c >>= λ bound. bindings_any ts table bound scope u.words) marks
     ∙ ap (λ (n : ℕ). told s.moded s.set >>= λ bound. bindings_any ts table bound scope n) words
 
 -- questions 4 to 6
@@ -343,7 +342,6 @@ told-join table b f ts role above scope s u r old mid out₁ out₂ tag n e a si
     let operands = encode_all (trees (f ∷ ts)) in
     record {
       counted = omega (arith, a.counted, e.words);
-      marks = a.marks;
       passes = λ p. (asked-passed u.asked s.asked _ e.asked (a.passes p)).0;
       settled = λ few.
           let exact : u.words ≡ s.words + 2 = omega (arith, e.words) in

@@ -1,28 +1,42 @@
 -- Laws for the reading of a whole text: what stands before its formula, and what behind it.
 use Prim.Native.Nat.{ℕ, ◌≤◌, ◌<◌}
 use native.Mathlib.Omega.{arith}
-use mathlib.Core.Path.{◌≡◌, refl, sym, ◌∙◌}
-use mathlib.Core.Bool.{true}
+use mathlib.Core.Path.{◌≡◌, refl, sym, ◌∙◌, subst}
+use mathlib.Core.Bool.{true, false}
 use mathlib.Core.List.{[], ◌∷◌}
-use lib.ListN.{length, drop}
+use lib.ListN.{length, drop, replicate}
 use Rattle.model.specs.Words.{Words}
 use Rattle.model.specs.Bytes.{Text, bytes}
 use Rattle.model.specs.Answer.{refused}
 use Rattle.model.specs.Table.{predicates}
 use Rattle.model.specs.Tree.{Tree}
+use Rattle.model.specs.Level.{formula}
+use Rattle.std.specs.Prelude.{Ok}
+use Rattle.tptp_state.specs.declared.state.State.{State}
+use Rattle.modes.specs.declared.marks.Marks.{Marks}
+use Rattle.modes.specs.Mode.{none}
+use Rattle.modes.proofs.ModeFormulaSets.{same-set}
 use Rattle.model.specs.TptpReading.{Reader, give, blanks, token, name, whole, ending, readers, read_whole, ◌>>=◌}
 use Rattle.model.specs.declared.Refusal.{Refusal}
 use Rattle.model.specs.declared.Refusal.TheVariants.{Tptp}
 use Rattle.tptp_tokens.specs.Steps.{from, got, Skips, Reads, Value}
-use Rattle.tptp_state.specs.Told.{Ready}
+use Rattle.tptp_state.specs.Told.{Passed, Told}
 use Rattle.tptp_reading.specs.Formula.{closed}
-use Rattle.tptp_reading.specs.Policy.{blanks_ending, start_state}
+use Rattle.tptp_reading.specs.Policy.{blanks_ending, start_state, PolicyRead}
 use Rattle.tptp_tokens.proofs.TokenLaws.{here, over, onward, halt, grouped, closed_then}
 
--- nothing was read yet
-pub start-ready : (table : Words) → predicates table ≤ 256 → Ready table 0 0 start_state
-start-ready table few =
-    record { few = few; counted = omega arith; marks = refl; level = λ _. omega arith; range = λ _. omega arith }
+-- a text that was read with no variable bound at the start
+pub started :
+    {table : Words} {text : Text} {out out' : Words} {set : Marks} {s : State} {next : ℕ} →
+    Value (read_whole 255) (λ t. Told table t formula 0 0 (record { words = 0; asked = Passed; moded = Passed; set = set }) s out out') text 0 next →
+    set.marks ≡ replicate 16 false →
+    PolicyRead table text out out' (Ok s)
+started {table} {text} {out} {out'} {set} {s} {next} v e = (
+  next,
+  subst
+      (λ (m : Marks). Value (read_whole 255) (λ t. Told table t formula 0 0 (record { words = 0; asked = Passed; moded = Passed; set = m }) s out out') text 0 next)
+      (same-set set none e) v,
+)
 
 -- the end of a text behind blanks: there is another byte, or none
 module _ (text : Text) (at i : ℕ) (s : Skips text at i) where

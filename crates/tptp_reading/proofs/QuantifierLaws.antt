@@ -32,6 +32,7 @@ use Rattle.modes.specs.Mode.{set_of}
 use Rattle.tptp_tokens.specs.Steps.{Step, from, Reads, Steps, Value, Valued}
 use Rattle.tptp_binders.specs.Binder.{IsCount}
 use Rattle.tptp_tokens.specs.Laying.{most_words, Laid}
+use Rattle.modes.specs.declared.marks.Marks.{Marks}
 use Rattle.tptp_state.specs.Told.{Passed, told, Told, Settled, Entered, Introduced, Outer}
 use Rattle.tptp_reading.specs.Formula.{Begins, beneath, RestrictedTold}
 use Rattle.tptp_state.specs.declared.state.State.{State}
@@ -51,7 +52,7 @@ count_most (suc v) count h = omega arith
 
 -- the marks of the outer variables are those variables
 told-outer :
-    (m : Result (Unit {0}) Refused) (marks : List Bool) (bound : Variables) (k : Variables → Outcome (Unit {0})) →
+    (m : Result (Unit {0}) Refused) (marks : Marks) (bound : Variables) (k : Variables → Outcome (Unit {0})) →
     ((x : ℕ) → set_of marks x ≡ bound x) →
     (told m marks >>= k) ≡ (outcome m >>= λ _. k bound)
 unfolding ◌>>=◌
@@ -67,7 +68,7 @@ three_then o f g h = then_assoc (o >>= f) g h ∙ then_assoc o f (λ b. g b >>= 
 -- questions 4 to 7 of a quantifier, and its words
 module _
     (table : Words) (b : Bool) (v : ℕ) (c : Restricted) (f : Tree) (role : Role) (above scope level count tag : ℕ)
-    (s handed known between r : State) (out mid last out₁ out₂ out' : Words) (deep free : Bool) (marks : List Bool)
+    (s handed known between r : State) (out mid last out₁ out₂ out' : Words) (deep free : Bool) (marks : Marks)
     (kind : is_formula role ≡ true)
     (costs : level ≡ above + quantifier_cost role b)
     (some : 1 ≤ v) (few : v ≤ 4)
@@ -204,7 +205,6 @@ module _
     pub told-quantifier : Told table q role above scope s r out out'
     told-quantifier = record {
       counted = counted;
-      marks = body.marks;
       passes = λ p. (asked-passed handed.asked s.asked _ entered.asked (handed-passes p)).0;
       settled = λ within. record { asked = asked within; modes = λ p. rw kind (modes within p); laid = laid within };
     }
@@ -272,7 +272,7 @@ module _
 
         -- its restriction may begin
         pub quantifier-begins :
-            (table : Words) (role : Role) (above level : ℕ) (deep free : Bool) (marks : List Bool) (s handed : State) →
+            (table : Words) (role : Role) (above level : ℕ) (deep free : Bool) (marks : Marks) (s handed : State) →
             Begins table text at room above scope s →
             level ≡ above + cost role (M.Tag.quantifier b) →
             deep ≡ leb level level_limit →
@@ -288,7 +288,7 @@ module _
                 levels = omega (arith, some₁, less, begins.levels, costs, cost-few role b);
                 variables = omega (arith, some₁, less, few, begins.variables);
                 ready =
-                    entered_ready table 3 deep free marks s handed above scope level (scope + count) begins.ready entered outer.sixteen
+                    entered_ready table 3 deep free marks s handed above scope level (scope + count) begins.ready entered
                     (λ is. leb-true level level_limit (sym is-deep ∙ is))
                     (λ is. leb-true (scope + count) scope_limit (sym is_free ∙ is));
               },
@@ -338,9 +338,7 @@ module _
                     levels = omega (arith, less, less', begins.levels);
                     variables = omega (arith, less, less', begins.variables);
                     ready = record {
-                      few = begins.ready.few;
                       counted = omega (arith, introduced.words, told.counted);
-                      marks = ap length introduced.set ∙ told.marks;
                       level = λ p. begins.ready.level (asked p);
                       range = λ p. begins.ready.range (asked p);
                     };
@@ -361,7 +359,7 @@ module _
                 -- the body, and the closing parenthesis
                 pub quantifier-read :
                     (role : Role) (above tag second third : ℕ) (s between r : State) (last out₁ out₂ out' : Words) (deep free : Bool)
-                    (marks : List Bool) (last-end : ℕ) (close : Step) →
+                    (marks : Marks) (last-end : ℕ) (close : Step) →
                     is_formula role ≡ true →
                     level ≡ above + cost role (M.Tag.quantifier b) →
                     deep ≡ leb level level_limit →

@@ -111,9 +111,7 @@ excluding-begins table text at room level scope words n s b e = record {
   levels = b.levels;
   variables = b.variables;
   ready = record {
-    few = b.ready.few;
     counted = omega (arith, e);
-    marks = b.ready.marks;
     level = b.ready.level;
     range = b.ready.range;
   };

@@ -27,6 +27,7 @@ use Rattle.tables.specs.Checked.{outcome}
 use Rattle.tptp_tokens.specs.Steps.{from, Reads, Value}
 use Rattle.tptp_binders.specs.Binder.{IsCount}
 use Rattle.tptp_tokens.specs.Laying.{Laid}
+use Rattle.modes.specs.declared.marks.Marks.{Marks}
 use Rattle.tptp_state.specs.Told.{Passed, told, Ready, Told, Entered, Dropped}
 use Rattle.tptp_reading.specs.Formula.{Begins, beneath, closed}
 use Rattle.tptp_state.specs.declared.state.State.{State}
@@ -38,7 +39,7 @@ use Rattle.tptp_reading.proofs.RoomLaws.{opening-room, beneath_less}
 
 -- behind the first words of a node: both questions at it passed
 pub entered_passed :
-    (n : ℕ) (level range : Bool) (marks : List Bool) (s r : State) → Entered n level range marks s r → r.asked ≡ Passed →
+    (n : ℕ) (level range : Bool) (marks : Marks) (s r : State) → Entered n level range marks s r → r.asked ≡ Passed →
     (level ≡ true) × (range ≡ true)
 entered_passed n level range marks s r e p =
     let both = (asked-passed r.asked s.asked _ e.asked p).1 in
@@ -47,17 +48,14 @@ entered_passed n level range marks s r e p =
 
 -- what is below may begin
 pub entered_ready :
-    (table : Words) (n : ℕ) (deep free : Bool) (marks : List Bool) (s r : State) (above scope level next : ℕ) →
-    Ready table above scope s →
+    (table : Words) (n : ℕ) (deep free : Bool) (marks : Marks) (s r : State) (above scope level next : ℕ) →
+    Ready above scope s →
     Entered n deep free marks s r →
-    length marks ≡ 16 →
     (deep ≡ true → level ≤ level_limit) →
     (free ≡ true → next ≤ scope_limit) →
-    Ready table level next r
-entered_ready table n deep free marks s r above scope level next ready entered sixteen fits range = record {
-  few = ready.few;
+    Ready level next r
+entered_ready table n deep free marks s r above scope level next ready entered fits range = record {
   counted = omega (arith, entered.words);
-  marks = ap length entered.set ∙ sixteen;
   level = λ p. fits (entered_passed n deep free marks s r entered p).0;
   range = λ p. range (entered_passed n deep free marks s r entered p).1;
 }
@@ -75,7 +73,6 @@ module _
     unfolding size encode ask_tree bindings is_formula
     told-some = record {
       counted = omega (arith, dropped.words, child.counted, entered.words);
-      marks = dropped.marks child.marks;
       passes = λ p. (asked-passed handed.asked s.asked _ entered.asked (child.passes (sym dropped.asked ∙ p))).0;
       settled = λ few.
           let start : handed.words ≡ s.words + 1 = omega (arith, entered.words) in
@@ -90,7 +87,7 @@ module _
             modes = λ p.
                 let asked = sym dropped.asked ∙ p in
                 let both = entered_passed 1 level range s.set s handed entered (child.passes asked) in
-                dropped.modes child.marks (ltb-true scope scope_limit (sym free ∙ both.1))
+                dropped.modes (ltb-true scope scope_limit (sym free ∙ both.1))
                 ∙ ap (λ (o : Outcome Variables). o >>= leaves) (below.modes asked)
                 ∙ binds start;
             laid =
@@ -167,7 +164,7 @@ module _ (text : Text) (at room scope : ℕ) (h : at < length text) (byte : get_
           levels = omega (arith, some₁, begins.levels);
           variables = omega (arith, some₁, begins.variables);
           ready =
-              entered_ready table 1 deep free s.set s handed above scope (above + 1) (scope + 1) begins.ready entered begins.ready.marks
+              entered_ready table 1 deep free s.set s handed above scope (above + 1) (scope + 1) begins.ready entered
               (λ is. omega (arith, ltb-true above level_limit (sym is-deep ∙ is)))
               (λ is. omega (arith, ltb-true scope scope_limit (sym is_free ∙ is)));
         },

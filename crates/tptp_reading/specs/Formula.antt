@@ -15,6 +15,7 @@ use Rattle.laws.specs.Reading.Trees.{ask_trees}
 use Rattle.tables.specs.Checked.{outcome}
 use Rattle.tptp_tokens.specs.Steps.{Step, Valued}
 use Rattle.tptp_tokens.specs.Laying.{most_words}
+use Rattle.modes.specs.declared.marks.Marks.{Marks}
 use Rattle.tptp_state.specs.Told.{Passed, told, Ready, Told}
 use Rattle.tptp_state.specs.declared.state.State.{State}
 use Rattle.model.specs.declared.Refused.{Refused}
@@ -51,7 +52,7 @@ pub record Begins (table : Words) (text : Text) (at room above scope : ℕ) (s :
   pub high : at ≤ length text
   pub levels : above + 2 * room ≤ 600
   pub variables : scope + 4 * room ≤ 1024
-  pub ready : Ready table above scope s
+  pub ready : Ready above scope s
 
 -- a node was read, by a reader
 abbrev pub NodeRead :
@@ -90,13 +91,12 @@ pub record SettledAll (table : Words) (b : Bool) (ts : Trees) (role : Role) (abo
 
 pub record ToldAll (table : Words) (b : Bool) (ts : Trees) (role : Role) (above scope : ℕ) (s r : State) (out out' : Words) : Type 0 where
   pub counted : r.words ≡ min (s.words + length (encode_all ts)) most_words
-  pub marks : length r.set ≡ 16
   pub passes : r.asked ≡ Passed → s.asked ≡ Passed
   pub settled : s.words + length (encode_all ts) ≤ policy_limit → SettledAll table b ts role above scope s r out out'
 
 -- further operands, behind whatever the first was
 abbrev pub Follows :
-    (table : Words) (b : Bool) (role : Role) (above scope : ℕ) (start : List Bool) (first last : State) (out out' : Words)
+    (table : Words) (b : Bool) (role : Role) (above scope : ℕ) (start : Marks) (first last : State) (out out' : Words)
     (ts : List Tree) → Type 0
 Follows table b role above scope start first last out out' ts =
     (f : Tree) (u : State) (old : Words) →
@@ -105,12 +105,12 @@ Follows table b role above scope start first last out out' ts =
     ToldAll table b (cons f (trees ts)) role above scope u last old out'
 
 -- so many operands with the first
-pub record Further (table : Words) (b : Bool) (role : Role) (above scope : ℕ) (start : List Bool) (first last : State) (out out' : Words) (count : ℕ) (ts : List Tree) : Type 0 where
+pub record Further (table : Words) (b : Bool) (role : Role) (above scope : ℕ) (start : Marks) (first last : State) (out out' : Words) (count : ℕ) (ts : List Tree) : Type 0 where
   pub number : suc (length ts) ≡ count
   pub follows : Follows table b role above scope start first last out out' ts
 
 abbrev pub ChildrenRead :
-    (room : ℕ) (b : Bool) (table : Words) (role : Role) (above scope : ℕ) (start : List Bool) (first : State) (out out' : Words)
+    (room : ℕ) (b : Bool) (table : Words) (role : Role) (above scope : ℕ) (start : Marks) (first : State) (out out' : Words)
     (text : Text) (at : ℕ) (r : Many) → Type 0
 ChildrenRead room b table role above scope start first out out' text at r =
     Valued

@@ -14,6 +14,7 @@ ghost use Rattle.tptp_state.specs.Told.{Ready};
 ghost use Rattle.tptp_reading.specs.Formula as F;
 
 use model::{Refusal, Refused};
+use modes::marks::Marks;
 use policies::node;
 use policies::node::{Role, Tag};
 use tptp_binders::ahead::{begins, begins_excluding, stands, stop_index};
@@ -37,7 +38,7 @@ fn leaf_apart(
     own: &mut [i32],
     out: &mut [i32],
 ) -> Step
-    requires { Ready table.now above scope state.old
+    requires { Ready above scope state.old
         × (at < length text.now)
         × (blank (get_or text.now at 0) ≡ false)
         × F.LeafByte (is_formula (as_role role)) (get_or text.now at 0)
@@ -61,7 +62,7 @@ fn read_leaf(
     state: &mut State,
     out: &mut [i32],
 ) -> Step
-    requires { Ready table.now above scope state.old
+    requires { Ready above scope state.old
         × (at < length text.now)
         × (blank (get_or text.now at 0) ≡ false)
         × F.LeafByte (is_formula (as_role role)) (get_or text.now at 0) }
@@ -103,7 +104,7 @@ fn children(
     above: usize,
     scope: usize,
     every: bool,
-    start: [bool; 16],
+    start: Marks,
     state: &mut State,
     out: &mut [i32],
 ) -> Result<Counted, Refused>

@@ -1,11 +1,11 @@
 // A whole text: its tree, with the questions that are asked of its words, and these laid in a buffer.
 ghost use Rattle.std.specs.Prelude.{◌≤◌, length};
-ghost use Rattle.model.specs.Table.{predicates};
 ghost use Rattle.tptp_tokens.specs.Steps.{Steps};
 ghost use Rattle.tptp_reading.specs.Policy as P;
 
 use crate::formula::whole;
 use model::{Refusal, Refused};
+use modes::marks::Marks;
 use policies::node::Role;
 use text::bytes;
 use tptp_state::state::State;
@@ -29,7 +29,6 @@ fn ended(text: &[u8], at: usize) -> Step
 
 // A text, over a table that was checked: what is known behind it.
 pub fn policy(table: &[i32], text: &[u8], out: &mut [i32]) -> Result<State, Refused>
-    requires { predicates table.now ≤ 256 }
     ensures { P.PolicyRead table.now text.now out.old out.new result }
 {
     let word = token(text, 0, b"tff")?;
@@ -42,7 +41,7 @@ pub fn policy(table: &[i32], text: &[u8], out: &mut [i32]) -> Result<State, Refu
         words: 0,
         asked: Ok(()),
         moded: Ok(()),
-        set: [false; 16],
+        set: Marks::NONE,
     };
     let end = whole(table, text, at, ROOM, Role::Formula, 0, 0, &mut state, out)?;
     let dot = expect(text, end, 46)?;

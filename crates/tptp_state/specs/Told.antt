@@ -15,7 +15,7 @@ use Rattle.laws.specs.Reading.Trees.{ask_tree}
 use Rattle.tables.specs.Checked.{outcome}
 use Rattle.model.specs.declared.Refusal.TheVariants.{Level, Variable, Mode}
 use Rattle.modes.specs.declared.marks.Marks.{Marks}
-use Rattle.modes.specs.Mode.{set_of}
+use Rattle.modes.specs.Mode.{set_of, none}
 use Rattle.model.specs.declared.Refused.{Refused}
 use Rattle.tptp_tokens.specs.Laying.{most_words}
 use Rattle.tptp_leaves.specs.Leaves.{LeafStands}
@@ -101,10 +101,10 @@ pub record Introduced (scope v w : ℕ) (s r : State) : Type 0 where
       outcome r.moded ≡ (told s.moded s.set >>= λ bound. ask (all bound (span scope v)) Mode w)
   pub beyond : scope_limit < scope + v → r.moded ≡ s.moded
 
--- the marks of the variables below a number, if it is at most sixteen, else none
+-- the variables below a number, if it is at most sixteen, else none
 pub record Outer (scope : ℕ) (set : Marks) : Type 0 where
   pub holds : scope ≤ scope_limit → (x : ℕ) → set_of set x ≡ ltb x scope
-  pub beyond : scope_limit < scope → set.marks ≡ replicate 16 false
+  pub beyond : scope_limit < scope → set ≡ none
 
 -- what an operand of an all-of (true) or any-of is handed: the marks of the one before, or those of the start
 abbrev pub Handed : (b : Bool) (start : Marks) (s r : State) → Type 0

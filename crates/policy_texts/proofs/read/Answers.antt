@@ -3,7 +3,6 @@ use Prim.Native.Nat.{ℕ}
 use mathlib.Core.Path.{sym, ap, ◌∙◌}
 use Rattle.model.specs.Answer.{answer}
 use Rattle.laws.specs.Answer.{passed_on}
-use Rattle.laws.specs.Table.{accepted}
 use Rattle.tables.specs.Checked.{outcome}
 use Rattle.policy_texts.specs.PolicyText.{settled_policy}
 use Rattle.policy_texts.proofs.PolicyReading.{table-refused, came_refused, came-read}
@@ -14,9 +13,6 @@ returns-in_err-check_table c =
     let a = c.args in
     rw (passed_on _ c.from_residual.ensures.1)
     (table-refused a.table.now a.text.now _ _ (sym c.check_table.ensures ∙ ap outcome c.in_err-check_table.was))
-
-pub policy-requires : goal.policy-requires
-policy-requires c = (accepted c.args.table.now (sym c.check_table.ensures ∙ ap outcome c.in_ok-check_table.was)).few
 
 pub returns-in_err-state : goal.returns-in_err-state
 returns-in_err-state c =

@@ -1,9 +1,10 @@
 -- `tptp_reading::policy::policy` meets its contract.
+use mathlib.Core.Path.{refl}
 use Rattle.model.specs.Bytes.{bytes}
 use Rattle.model.specs.Reading.{is_formula}
 use Rattle.model.specs.TptpReading.{read_whole, onwards, ◌>>=◌}
 use Rattle.laws.specs.Answer.{passed_on}
-use Rattle.tptp_reading.proofs.PolicyLaws.{policy-refused, policy_undotted, policy_unended, policy-read}
+use Rattle.tptp_reading.proofs.PolicyLaws.{policy-refused, policy_undotted, policy_unended, policy-read, started}
 use Rattle.tptp_reading.proofs.policy.policy.Goals as goal
 
 pub returns-in_err-word : goal.returns-in_err-word
@@ -65,8 +66,8 @@ returns-in_err-ended c =
 
 pub returns : goal.returns
 unfolding bytes is_formula
-returns c = (
-  _,
-  policy-read c.args.text.now 255 c.in_ok-word.ensures c.in_ok-open.ensures c.in_ok-named.ensures c.in_ok-comma.ensures c.in_ok-kind.ensures c.in_ok-at.ensures
-      _ c.in_ok-end.ensures _ c.in_ok-dot.ensures _ c.in_ok-ended.ensures,
-)
+returns c =
+    started
+    (policy-read c.args.text.now 255 c.in_ok-word.ensures c.in_ok-open.ensures c.in_ok-named.ensures c.in_ok-comma.ensures c.in_ok-kind.ensures c.in_ok-at.ensures
+    _ c.in_ok-end.ensures _ c.in_ok-dot.ensures _ c.in_ok-ended.ensures)
+    refl
