@@ -21,10 +21,9 @@ use Rattle.model.specs.LogText.{log_lines, log_text}
 use Rattle.laws.specs.Log as log-laws
 use Rattle.laws.specs.Log.{row_at-length}
 use Rattle.laws.specs.LogText.Back.{used-short}
-use Rattle.std.specs.Prelude.{Option, Some}
-use Rattle.text.specs.Put.{Wrote, Puts}
 use Rattle.csv_writing.specs.Row.{fields_of, line_of}
-use Rattle.text.proofs.PutLaws.{Part, part_none, part-more, part-last, byte-wrote}
+use Rattle.text.specs.declared.writer.Writer.{Writer}
+use Rattle.text.proofs.PutLaws.{Left, left-none}
 
 -- the fields from the word i on of the first n words of a row, each behind a comma
 pub behind : Words → ℕ → ℕ → Text
@@ -88,9 +87,9 @@ pub lines_from : Words → Words → ℕ → ℕ → Text
 lines_from table log r n = spell (log_lines table (map (row_at log) (span r n)))
 
 module _ (table log : Words) where
-  pub lines_start : (out : Text) → Part (log_text table log) (lines_from table log 0 (length log / 8 - 0)) 0 out out 0
+  pub lines_start : (w : Writer) → Left (log_text table log) (lines_from table log 0 (length log / 8 - 0)) w w
   unfolding log_text rows row_count lines_from
-  lines_start out = rw (sub-zero (length log / 8)) (part_none (log_text table log) out 0 (omega arith))
+  lines_start w = rw (sub-zero (length log / 8)) (left-none (log_text table log) w)
 
   module _ (r n : ℕ) where
     pub lines_more : r < n → lines_from table log r (n - r) ≡ line_of table (lent_row log r) ++ lines_from table log (r + 1) (n - (r + 1))

@@ -11,17 +11,18 @@ ghost use Rattle.model.specs.LogText.{log_text};
 ghost use Rattle.text.specs.Put.{Writes};
 
 use model::ROW_WORDS;
+use text::writer::Writer;
 
 // An accepted log, written as text: a line for each row. What stands behind the text is left open.
 pub fn write_rows(table: &[i32], log: &[i32], out: &mut [u8]) -> Option<usize>
     requires { (ask_table table.now ≡ passed tt) × (ask_log table.now log.now ≡ passed tt) }
     ensures { Writes (log_text table.now log.now) out.old out.new result }
 {
-    let rows = log.len() / ROW_WORDS;
-    let mut next = 0;
-    for row in 0..rows {
+    let mut w = Writer::new(out);
+    for row in 0..log.len() / ROW_WORDS {
+        w.put?;
         let at = ROW_WORDS * row;
-        next = row::put_row(table, &log[at..at + ROW_WORDS], out, next)?;
+        row::put_row(table, &log[at..at + ROW_WORDS], &mut w);
     }
-    Some(next)
+    w.put
 }

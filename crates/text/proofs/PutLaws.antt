@@ -1,85 +1,111 @@
--- Laws for the writing of a text part by part.
+-- Laws for the writing of texts one behind another.
 use Prim.Native.Nat.{ℕ, ◌+◌, ◌≤◌, ◌<◌}
-use native.Mathlib.Numerals.{add-one}
 use native.Mathlib.Omega.{arith}
 use mathlib.Core.Path.{◌≡◌, refl, sym, ap, ◌∙◌, subst}
 use mathlib.Core.List.{[], ◌∷◌, ◌++◌, append_assoc, append-nil}
-use lib.ListN.{length, take, set, length-append}
-use lib.Seq.{take-suc-set}
+use lib.ListN.{length, take, length-append}
 use borrow.Author.Tests.{le-leb, lt-leb}
 use Rattle.model.specs.Bytes.{Text}
 use Rattle.std.specs.Prelude.{Option, Some, None}
+use Rattle.std.specs.Option.{ForSome}
+use Rattle.std.proofs.lemmas.Option.{none-some}
+use Rattle.std.specs.Borrow.{MutBor}
 use Rattle.text.specs.Put.{Wrote, Puts, told, Writes}
+use Rattle.text.specs.Adds.{PutsBehind, Adds, Begins}
+use Rattle.text.specs.declared.writer.Writer.{Writer}
 
--- the front of a text stands from an index on, and this is left of it
-pub record Part (text left : Text) (at : ℕ) (old out : Text) (next : ℕ) : Type 0 where
+-- the same text
+pub adds-is : {a b : Text} {w w' : Writer} → Adds a w w' → b ≡ a → Adds b w w'
+adds-is {w} {w'} h e = subst (λ (t : Text). Adds t w w') (sym e) h
+
+-- one text behind another
+puts-both :
+    (a b : Text) (put : Option ℕ) (old out out' : Text) (p r : Option ℕ) → PutsBehind a put old out p → length out ≡ length old →
+    PutsBehind b p out out' r →
+    PutsBehind (a ++ b) put old out' r
+puts-both a b None old out out' p r h l k = subst (λ (q : Option ℕ). PutsBehind b q out out' r) h k
+puts-both a b (Some at) old out out' None r h l k =
+    subst (Puts (a ++ b) at old out') (sym k) (omega (arith, h, length-append a b))
+puts-both a b (Some at) old out out' (Some n) None h l k = omega (arith, h.ends, k, l, length-append a b)
+puts-both a b (Some at) old out out' (Some n) (Some end) h l k = record {
+  ends = omega (arith, h.ends, k.ends, length-append a b);
+  fits = omega (arith, k.fits, l);
+  stands = k.stands ∙ ap (λ (t : Text). t ++ b) h.stands ∙ append_assoc (take at old) a b;
+}
+
+pub adds_then : {a b : Text} {w₁ w₂ w₃ : Writer} → Adds a w₁ w₂ → Adds b w₂ w₃ → Adds (a ++ b) w₁ w₃
+adds_then {a} {b} {w₁} {w₂} {w₃} h k = record {
+  same = k.same ∙ h.same;
+  long = k.long ∙ h.long;
+  puts = puts-both a b w₁.put w₁.out.now w₂.out.now w₃.out.now w₂.put w₃.put h.puts h.long k.puts;
+}
+
+-- nothing more
+pub adds_none : (w : Writer) → Adds [] w w
+adds_none w = record { same = refl; long = refl; puts = go w.put w.fits }
+  where
+    go : (put : Option ℕ) → ForSome put (λ at. at ≤ length w.out.now) → PutsBehind [] put w.out.now w.out.now put
+    go None h = refl
+    go (Some at) h = record { ends = omega arith; fits = h at refl; stands = sym (append-nil (take at w.out.now)) }
+
+-- no room for the front of a text is no room for the text
+pub adds_short : {a : Text} (rest : Text) {w w' : Writer} → Adds a w w' → w'.put ≡ None → Adds (a ++ rest) w w'
+adds_short {a} rest {w} {w'} h full = record { same = h.same; long = h.long; puts = go w.put w'.put h.puts full }
+  where
+    go :
+        (put r : Option ℕ) → PutsBehind a put w.out.now w'.out.now r → r ≡ None → PutsBehind (a ++ rest) put w.out.now w'.out.now r
+    go None r h e = h
+    go (Some at) None h e = omega (arith, h, length-append a rest)
+    go (Some at) (Some n) h e = absurd (none-some n (sym e))
+
+-- where room was missing before, any text is put
+pub adds_full : (text : Text) (w : Writer) → w.put ≡ None → Adds text w w
+adds_full text w full = adds_short text (adds_none w) full
+
+pub full_stays : {text : Text} {w w' : Writer} → Adds text w w' → w.put ≡ None → w'.put ≡ None
+full_stays {text} {w} {w'} h full = rw full at h.puts
+
+-- the front of a text is put, and this is left of it
+pub record Left (text left : Text) (w w' : Writer) : Type 0 where
   pub done : Text
   pub all : text ≡ done ++ left
-  pub wrote : Wrote done at old out next
-  pub long : length out ≡ length old
+  pub adds : Adds done w w'
 
-pub part_none : (text old : Text) (at : ℕ) → at ≤ length old → Part text text at old old at
-part_none text old at h = record {
-  done = [];
-  all = refl;
-  wrote = record { ends = omega arith; fits = h; stands = sym (append-nil (take at old)) };
-  long = refl;
-}
+pub left-none : (text : Text) (w : Writer) → Left text text w w
+left-none text w = record { done = []; all = refl; adds = adds_none w }
 
-module _ {text left old out : Text} {at next : ℕ} (p : Part text left at old out next) where
+module _ {text left : Text} {w w' : Writer} (l : Left text left w w') where
+  -- one part more
+  pub left-more : (a more : Text) → left ≡ a ++ more → {w″ : Writer} → Adds a w' w″ → Left text more w w″
+  left-more a more e k = record {
+    done = l.done ++ a;
+    all = l.all ∙ ap (λ (t : Text). l.done ++ t) e ∙ sym (append_assoc l.done a more);
+    adds = adds_then l.adds k;
+  }
+
+  -- there was no room for it
+  pub left_full : w'.put ≡ None → Adds text w w'
+  left_full full = adds-is (adds_short left l.adds full) l.all
+
   -- nothing is left
-  pub part_end : left ≡ [] → Wrote text at old out next
-  part_end e = rw (p.all ∙ ap (λ (t : Text). p.done ++ t) e ∙ append-nil p.done) p.wrote
+  pub left_end : left ≡ [] → Adds text w w'
+  left_end e = adds-is l.adds (l.all ∙ ap (λ (t : Text). l.done ++ t) e ∙ append-nil l.done)
 
-  module _ (a more : Text) (split : left ≡ a ++ more) (out' : Text) (r : Option ℕ) (put : Puts a next out out' r) where
-    -- one part more
-    pub part-more : (end : ℕ) → r ≡ Some end → length out' ≡ length out → Part text more at old out' end
-    part-more end e l =
-        let w : Wrote a next out out' end = subst (Puts a next out out') e put in
-        record {
-          done = p.done ++ a;
-          all = p.all ∙ ap (λ (t : Text). p.done ++ t) split ∙ sym (append_assoc p.done a more);
-          wrote = record {
-            ends = omega (arith, w.ends, p.wrote.ends, length-append p.done a);
-            fits = omega (arith, w.fits, p.long);
-            stands = w.stands ∙ ap (λ (t : Text). t ++ a) p.wrote.stands ∙ append_assoc (take at old) p.done a;
-          };
-          long = l ∙ p.long;
-        }
-
-    -- no room for one part more is no room for the text
-    pub part-full : r ≡ None → length old < at + length text
-    part-full e =
-        let h : length out < next + length a = subst (Puts a next out out') e put in
-        omega (arith, h, p.long, p.wrote.ends, ap length p.all, length-append p.done left, ap length split, length-append a more)
-
--- what is left is put behind
-pub part-last :
-    {text left old out : Text} {at next : ℕ} (p : Part text left at old out next) (out' : Text) (r : Option ℕ) →
-    Puts left next out out' r →
-    length out' ≡ length out →
-    Puts text at old out' r
-part-last {left = left} p out' None h l = part-full p left [] (sym (append-nil left)) out' None h refl
-part-last {left = left} p out' (Some end) w l = part_end (part-more p left [] (sym (append-nil left)) out' (Some end) w end refl l) refl
-
--- one byte, which is the one wanted
-pub byte-wrote : (out : Text) (at b c : ℕ) → at < length out → b ≡ c → Wrote (c ∷ []) at out (set out at b) (at + 1)
-byte-wrote out at b c h e = record {
-  ends = refl;
-  fits = omega arith;
-  stands = rw (add-one at) (take-suc-set out at b h ∙ ap (λ (x : ℕ). take at out ++ x ∷ []) e);
-}
-
--- a whole text
-pub writes-whole : (text out out' : Text) (r : Option ℕ) → Puts text 0 out out' r → Writes text out out' r
+-- a whole text, in a buffer that its writer has left
+pub writes-whole :
+    {text out' : Text} {out : MutBor Text} {w w' : Writer} → Begins out w → Adds text w w' → out' ≡ w'.out.now →
+    Writes text out.now out' w'.put
 unfolding told
-writes-whole text out out' None h = record {
-  said = rw (lt-leb (length text) (length out) (omega arith));
-  wrote = λ n e. absurd (let z : ◌≡◌ {A = ℕ} 0 1 = cc in omega arith);
-}
-writes-whole text out out' (Some next) w =
-    let ends : next ≡ length text = omega (arith, w.ends) in
-    record {
-      said = rw (le-leb (length text) (length out) (omega (arith, w.fits))) (ap Some ends);
-      wrote = λ n e. let same : n ≡ next = cc in ap (λ (k : ℕ). take k out') same ∙ w.stands;
+writes-whole {text} {out'} {out} {w} {w'} b h left = rw left (go w'.put (rw b.front at h.puts))
+  where
+    go : (r : Option ℕ) → Puts text 0 w.out.now w'.out.now r → Writes text out.now w'.out.now r
+    go None h = record {
+      said = rw (lt-leb (length text) (length out.now) (omega (arith, h, ap length b.now)));
+      wrote = λ n e. absurd (let z : ◌≡◌ {A = ℕ} 0 1 = cc in omega arith);
     }
+    go (Some next) h =
+        let ends : next ≡ length text = omega (arith, h.ends) in
+        record {
+          said = rw (le-leb (length text) (length out.now) (omega (arith, h.fits, ap length b.now))) (ap Some ends);
+          wrote = λ n e. let same : n ≡ next = cc in ap (λ (k : ℕ). take k w'.out.now) same ∙ h.stands;
+        }

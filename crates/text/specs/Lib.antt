@@ -2,3 +2,4 @@ pub mod Reading
 pub mod Writing
 pub mod Put
 pub mod Written
+pub mod Adds

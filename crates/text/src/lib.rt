@@ -4,4 +4,5 @@
 pub mod bytes;
 pub mod reading;
 pub mod word;
+pub mod writer;
 pub mod writing;

@@ -1,4 +1,3 @@
 -- Laws that several proofs of this crate, or of others, cite.
-pub mod AddLaws
 pub mod TextLaws
 pub mod TupleLaws

@@ -5,7 +5,7 @@ use native.Mathlib.Omega.{arith}
 use mathlib.Core.Path.{◌≡◌, refl, sym, ap, ap₂, ◌∙◌}
 use mathlib.Core.Bool.{Bool, true, false, cond}
 use mathlib.Core.List.{List, [], ◌∷◌, ◌++◌, map, append_assoc, append-nil}
-use lib.ListN.{length, take, drop}
+use lib.ListN.{length, drop, drop_of_length-le}
 use lib.Seq.{drop-cons}
 use lib.Dec.{eqb}
 use lib.IntN.{ℤ, pos}
@@ -147,95 +147,60 @@ variables-first scope v h =
     let count : v - 1 ≡ scope + v - (scope + 1) = omega arith in
     ap₂ (λ (x k : ℕ). digits 10 scope ++ gather next_variable (span x k)) (sym (add-one scope)) count
 
--- a variable that is not a number, behind others
+-- a variable that is not a number, and one behind others
+unequal_part : (x : ℕ) (k : ℤ) → spelt (variable_token x ∷ bytes "!=" ∷ decimal k ∷ []) ≡ bytes "X" ++ unequal_text x k
+unfolding spelt gather variable_token unequal_text
+unequal_part x k = rw append-nil (simp append_assoc)
+
 abbrev pub next_unequal : (x : ℕ) (k : ℤ) → Text
-next_unequal x k = bytes "|" ++ unequal_text x k
+next_unequal x k = bytes "|X" ++ unequal_text x k
 
 -- the rest of an excluded tuple
 next_unequals : ℕ → List ℤ → Text
 next_unequals x tuple = preceded (bytes "|") (unequals x tuple)
 
-pub unequal-parts : (x : ℕ) (k : ℤ) → unequal_text x k ≡ ((bytes "X" ++ digits 10 x) ++ bytes "!=") ++ decimal k
-unfolding unequal_text spelt gather variable_token
-unequal-parts x k =
-    ap (λ (t : Text). (bytes "X" ++ digits 10 x) ++ (bytes "!=" ++ t)) (append-nil (decimal k))
-    ∙ sym (append_assoc (bytes "X" ++ digits 10 x) (bytes "!=") (decimal k))
+-- what stands of an excluded tuple from its number i on, behind the numbers before it
+pub unequals_rest : ℕ → List ℤ → ℕ → Text
+unequals_rest scope tuple i = next_unequals (scope + i) (drop i tuple)
 
-module _ (x : ℕ) (words : Words) (i end : ℕ) (h : i < end) (l : end ≤ length words) where
-  -- a tuple that stands in words: its first number, and the others
-  tuple-first : take (end - i) (drop i words) ≡ word words i ∷ take (end - (i + 1)) (drop (i + 1) words)
-  unfolding word
-  tuple-first =
-      let count : end - i ≡ suc (end - (i + 1)) = omega arith in
-      ap₂ (λ (k : ℕ) (t : List ℤ). take k t) count
-      (drop-cons words i (pos 0) (omega arith) ∙ ap (λ (k : ℕ). word words i ∷ drop k words) (sym (add-one i)))
-
-  unequals-first :
-      unequals_text x (take (end - i) (drop i words))
-      ≡ unequal_text x (word words i) ++ next_unequals (x + 1) (take (end - (i + 1)) (drop (i + 1) words))
-  unfolding unequals_text unequal_text next_unequals unequals
-  unequals-first =
-      ap (unequals_text x) tuple-first
-      ∙ separated_first (bytes "|") _ _
-      ∙ ap (λ (y : ℕ). unequal_text x (word words i) ++ next_unequals y (take (end - (i + 1)) (drop (i + 1) words)))
-      (sym (add-one x))
-
-  unequals-more :
-      next_unequals x (take (end - i) (drop i words))
-      ≡ next_unequal x (word words i) ++ next_unequals (x + 1) (take (end - (i + 1)) (drop (i + 1) words))
-  unfolding unequal_text next_unequals unequals preceded gather
-  unequals-more =
-      ap (next_unequals x) tuple-first
-      ∙ ap (λ (y : ℕ). next_unequal x (word words i) ++ next_unequals y (take (end - (i + 1)) (drop (i + 1) words)))
-      (sym (add-one x))
-
--- what stands of the excluded tuple from `first` up to `end` from the word i on, behind the words before it
-pub unequals_rest : ℕ → Words → ℕ → ℕ → ℕ → Text
-unequals_rest scope words first end i = next_unequals (scope + (i - first)) (take (end - i) (drop i words))
-
-module _ (scope : ℕ) (words : Words) (first end : ℕ) (l : end ≤ length words) where
+module _ (scope : ℕ) (tuple : List ℤ) where
   pub tuple_starts :
-      (v : ℕ) → end ≡ first + v → 1 ≤ v →
-      unequals_text scope (take v (drop first words))
-      ≡ unequal_text scope (word words first) ++ unequals_rest scope words first end (first + 1)
-  unfolding unequals_rest
-  tuple_starts v e h =
-      let count : v ≡ end - first = omega arith in
-      let next : scope + 1 ≡ scope + (first + 1 - first) = omega arith in
-      ap (λ (k : ℕ). unequals_text scope (take k (drop first words))) count
-      ∙ unequals-first scope words first end (omega arith) l
-      ∙ ap (λ (y : ℕ). unequal_text scope (word words first)
-      ++ next_unequals y (take (end - (first + 1)) (drop (first + 1) words))) next
+      1 ≤ length tuple → unequals_text scope tuple ≡ (bytes "X" ++ unequal_text scope (word tuple 0)) ++ unequals_rest scope tuple 1
+  unfolding unequals_rest unequals_text next_unequals unequals word
+  tuple_starts h = go tuple h
+    where
+      go :
+          (ks : List ℤ) → 1 ≤ length ks →
+          unequals_text scope ks ≡ (bytes "X" ++ unequal_text scope (word ks 0)) ++ next_unequals (scope + 1) (drop 1 ks)
+      go [] h = absurd (omega arith)
+      go (k ∷ ks) h =
+          separated_first (bytes "|") _ _
+          ∙ ap₂ (λ (t : Text) (y : ℕ). t ++ next_unequals y ks) (unequal_part scope k) (sym (add-one scope))
 
-  -- the next variable is x
   pub tuple-more :
-      (i x : ℕ) → first ≤ i → i < end → x ≡ scope + (i - first) →
-      unequals_rest scope words first end i ≡ next_unequal x (word words i) ++ unequals_rest scope words first end (i + 1)
-  unfolding unequals_rest
-  tuple-more i x h k e =
-      let next : x + 1 ≡ scope + (i + 1 - first) = omega arith in
-      ap (λ (y : ℕ). next_unequals y (take (end - i) (drop i words))) (sym e)
-      ∙ unequals-more x words i end k l
-      ∙ ap (λ (y : ℕ). next_unequal x (word words i) ++ next_unequals y (take (end - (i + 1)) (drop (i + 1) words))) next
+      (i : ℕ) → i < length tuple →
+      unequals_rest scope tuple i ≡ next_unequal (scope + i) (word tuple i) ++ unequals_rest scope tuple (i + 1)
+  unfolding unequals_rest next_unequals unequals preceded gather word bytes
+  tuple-more i h =
+      let next : suc (scope + i) ≡ scope + (i + 1) = omega arith in
+      ap (next_unequals (scope + i)) (drop-cons tuple i (pos 0) h)
+      ∙ ap (λ (t : Text). (bytes "|" ++ t) ++ next_unequals (suc (scope + i)) (drop (suc i) tuple)) (unequal_part (scope + i) (word tuple i))
+      ∙ ap₂ (λ (y k : ℕ). next_unequal (scope + i) (word tuple i) ++ next_unequals y (drop k tuple)) next (sym (add-one i))
 
-  pub tuple-none : (i : ℕ) → end ≤ i → unequals_rest scope words first end i ≡ []
+  pub tuple-none : (i : ℕ) → length tuple ≤ i → unequals_rest scope tuple i ≡ []
   unfolding unequals_rest next_unequals unequals preceded gather
-  tuple-none i h =
-      let none : end - i ≡ 0 = omega arith in ap (λ (k : ℕ). next_unequals (scope + (i - first)) (take k (drop i words))) none
+  tuple-none i h = ap (next_unequals (scope + i)) (drop_of_length-le tuple h)
 
--- an excluded tuple of v numbers
+-- an excluded tuple, with no parentheses where it is of one number
 pub tuple-parts :
-    (scope v : ℕ) (tuple : List ℤ) → length tuple ≡ v →
+    (scope : ℕ) (tuple : List ℤ) (single : Bool) → single ≡ eqb (length tuple) 1 →
     tuple_text scope tuple
-    ≡ (cond (eqb v 1) (bytes "&") (bytes "&(") ++ unequals_text scope tuple) ++ cond (eqb v 1) (bytes "") (bytes ")")
+    ≡ (cond single (bytes "&") (bytes "&(") ++ unequals_text scope tuple) ++ cond single (bytes "") (bytes ")")
 unfolding tuple_text excludes parenthesized unequals_text spelt gather bytes
-tuple-parts scope v tuple e = ap (λ (n : ℕ). bytes "&" ++ spelt (excluded n)) e ∙ go (eqb v 1)
+tuple-parts scope tuple single e = rw (← e) (go single)
   where
     parts : Tokens
     parts = separated (bytes "|") (unequals scope tuple)
-
-    excluded : ℕ → Tokens
-    excluded n = cond (eqb n 1) parts (parenthesized parts)
 
     go :
         (b : Bool) →

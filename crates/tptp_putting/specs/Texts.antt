@@ -1,12 +1,11 @@
 -- The texts of a tree's parts.
-use Rattle.std.specs.Prelude.{ℕ, suc, ◌-◌, Bool, cond, List, [], ◌∷◌, ◌++◌, map, ℤ}
+use Rattle.std.specs.Prelude.{ℕ, suc, ◌-◌, ◌≡◌, Bool, cond, List, [], ◌∷◌, ◌++◌, map, ℤ}
 use Rattle.model.specs.Words.{Words}
 use Rattle.model.specs.Lists.{span, gather}
 use Rattle.model.specs.Bytes.{Text, bytes}
 use Rattle.model.specs.Decimal.{digits, decimal}
 use Rattle.model.specs.Reading.{places, term_at}
-use Rattle.model.specs.Tptp.{Tokens, variable_token, term_token, separated, binder, unequals, excludes}
-use Rattle.laws.specs.Words.Standing.{Stands}
+use Rattle.model.specs.Tptp.{Tokens, term_token, separated, binder, unequals, excludes}
 use Rattle.laws.specs.Reading.Formed.{AllOfLength}
 
 -- tokens one behind another
@@ -30,9 +29,9 @@ unfoldable pub head_text : Bool → ℕ → ℕ → Bool → Text
 head_text every scope v alone =
     spelt (cond every (bytes "!") (bytes "?") ∷ binder scope v) ++ cond alone (bytes "(") (bytes "((")
 
--- a variable is not a number; one of the variables from x on is not its number of a tuple
+-- a variable is not a number, behind the variable's letter; one of the variables from x on is not its number of a tuple
 unfoldable pub unequal_text : ℕ → ℤ → Text
-unequal_text x k = spelt (variable_token x ∷ bytes "!=" ∷ decimal k ∷ [])
+unequal_text x k = (digits 10 x ++ bytes "!=") ++ decimal k
 
 unfoldable pub unequals_text : ℕ → List ℤ → Text
 unequals_text x tuple = spelt (separated (bytes "|") (unequals x tuple))
@@ -49,8 +48,8 @@ unfoldable pub closed_text : ℕ → List (List ℤ) → Text
 closed_text x [] = []
 closed_text x (τ ∷ τs) = tuples_text x (τ ∷ τs) ++ bytes ")"
 
--- tuples of v numbers stand from an index up to another
-pub record Tuples (words : Words) (v first end : ℕ) : Type 0 where
+-- numbers are tuples of v numbers, one behind another
+pub record Tuples (numbers : List ℤ) (v : ℕ) : Type 0 where
   pub list : List (List ℤ)
-  pub stands : Stands words first (gather (λ tuple. tuple) list) end
+  pub are : numbers ≡ gather (λ tuple. tuple) list
   pub long : AllOfLength v list

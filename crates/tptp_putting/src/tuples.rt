@@ -1,160 +1,86 @@
 // The variables that a quantifier binds, and its excluded tuples.
-ghost use Rattle.std.specs.Prelude.{◌++◌, ◌+◌, ◌≤◌, ◌<◌, length, take, drop};
+ghost use Rattle.std.specs.Prelude.{◌+◌, ◌≤◌, length};
 ghost use Rattle.model.specs.Words.{word, scope_limit};
-ghost use Rattle.model.specs.Bytes.{bytes};
-ghost use Rattle.model.specs.Decimal.{digits};
-ghost use Rattle.tptp_putting.specs.Adding.{Fits, Adds};
+ghost use Rattle.text.specs.Adds.{Adds};
 ghost use Rattle.tptp_putting.specs.Texts as T;
 
-use crate::tokens;
-
-// The number of a variable, behind that of another.
-fn put_next_variable(out: &mut [u8], before: Option<usize>, x: usize) -> Option<usize>
-    requires { Fits before out.old }
-    ensures { Adds (bytes ":$int,X" ++ digits 10 x) before out.old out.new result }
-{
-    let lead = tokens::put_bytes(out, before, b":$int,X");
-    tokens::put_natural(out, lead, x)
-}
+use text::writer::Writer;
 
 // The numbers of v variables, at least one.
-fn put_variables(out: &mut [u8], before: Option<usize>, scope: usize, v: usize) -> Option<usize>
-    requires { Fits before out.old × (1 ≤ v) × (scope + v ≤ scope_limit) }
-    ensures { Adds (T.variables_text scope v) before out.old out.new result }
+fn put_variables(w: &mut Writer<'_>, scope: usize, v: usize)
+    requires { (1 ≤ v) × (scope + v ≤ scope_limit) }
+    ensures { Adds (T.variables_text scope v) w.old w.new }
 {
-    let end = scope + v;
-    let mut put = tokens::put_natural(out, before, scope);
-    for x in scope + 1..end {
-        put = put_next_variable(out, put, x);
+    w.natural(scope);
+    for x in scope + 1..scope + v {
+        w.bytes(b":$int,X");
+        w.natural(x);
     }
-    put
 }
 
 // What stands before a restriction: for all (true) or exists, v variables, at least one, and an opening parenthesis; two where
 // tuples are excluded.
-pub fn put_head(
-    out: &mut [u8],
-    before: Option<usize>,
-    every: bool,
-    scope: usize,
-    v: usize,
-    alone: bool,
-) -> Option<usize>
-    requires { Fits before out.old × (1 ≤ v) × (scope + v ≤ scope_limit) }
-    ensures { Adds (T.head_text every scope v alone) before out.old out.new result }
+pub fn put_head(w: &mut Writer<'_>, every: bool, scope: usize, v: usize, alone: bool)
+    requires { (1 ≤ v) × (scope + v ≤ scope_limit) }
+    ensures { Adds (T.head_text every scope v alone) w.old w.new }
 {
-    let lead = tokens::put_either(out, before, every, b"![X", b"?[X");
-    let variables = put_variables(out, lead, scope, v);
-    tokens::put_either(out, variables, alone, b":$int]:(", b":$int]:((")
+    w.either(every, b"![X", b"?[X");
+    put_variables(w, scope, v);
+    w.either(alone, b":$int]:(", b":$int]:((");
 }
 
-// That a variable is not the number at an index.
-fn put_unequal(
-    out: &mut [u8],
-    before: Option<usize>,
-    x: usize,
-    words: &[i32],
-    i: usize,
-) -> Option<usize>
-    requires { Fits before out.old }
-    ensures { Adds (T.unequal_text x (word words.now i)) before out.old out.new result }
+// That a variable, whose letter stands already, is not the number at an index.
+#[tactic(auto, using(text::proofs::PutLaws::adds_then), unfolding(crate::specs::Texts::unequal_text, model::specs::Bytes::bytes))]
+fn put_unequal(w: &mut Writer<'_>, x: usize, numbers: &[i32], i: usize)
+    ensures { Adds (T.unequal_text x (word numbers.now i)) w.old w.new }
 {
-    let name = tokens::put_bytes(out, before, b"X");
-    let variable = tokens::put_natural(out, name, x);
-    let sign = tokens::put_bytes(out, variable, b"!=");
-    tokens::put_word(out, sign, words, i)
+    w.natural(x);
+    w.bytes(b"!=");
+    w.word(numbers, i);
 }
 
-// The same, behind a bar.
-fn put_next_unequal(
-    out: &mut [u8],
-    before: Option<usize>,
-    x: usize,
-    words: &[i32],
-    i: usize,
-) -> Option<usize>
-    requires { Fits before out.old }
-    ensures { Adds (bytes "|" ++ T.unequal_text x (word words.now i)) before out.old out.new result }
+// That one of the variables from a scope on, at least one, is not its number of a tuple.
+fn put_unequals(w: &mut Writer<'_>, tuple: &[i32], scope: usize)
+    requires { (1 ≤ length tuple.now) × (scope + length tuple.now ≤ scope_limit) }
+    ensures { Adds (T.unequals_text scope tuple.now) w.old w.new }
 {
-    let bar = tokens::put_bytes(out, before, b"|");
-    put_unequal(out, bar, x, words, i)
-}
-
-// That one of v variables, at least one, is not its number of the tuple at an index.
-fn put_unequals(
-    out: &mut [u8],
-    before: Option<usize>,
-    words: &[i32],
-    first: usize,
-    v: usize,
-    scope: usize,
-) -> Option<usize>
-    requires { Fits before out.old × (1 ≤ v) × (scope + v ≤ scope_limit) × (first + v ≤ length words.now) }
-    ensures { Adds (T.unequals_text scope (take v (drop first words.now))) before out.old out.new result }
-{
-    let end = first + v;
-    let mut put = put_unequal(out, before, scope, words, first);
-    for i in first + 1..end {
-        put = put_next_unequal(out, put, scope + i - first, words, i);
+    w.bytes(b"X");
+    put_unequal(w, scope, tuple, 0);
+    for i in 1..tuple.len() {
+        w.bytes(b"|X");
+        put_unequal(w, scope + i, tuple, i);
     }
-    put
 }
 
-// The excluded tuple at an index, behind a restriction.
-fn put_tuple(
-    out: &mut [u8],
-    before: Option<usize>,
-    words: &[i32],
-    first: usize,
-    v: usize,
-    scope: usize,
-) -> Option<usize>
-    requires { Fits before out.old × (1 ≤ v) × (scope + v ≤ scope_limit) × (first + v ≤ length words.now) }
-    ensures { Adds (T.tuple_text scope (take v (drop first words.now))) before out.old out.new result }
+// An excluded tuple, behind a restriction.
+fn put_tuple(w: &mut Writer<'_>, tuple: &[i32], scope: usize)
+    requires { (1 ≤ length tuple.now) × (scope + length tuple.now ≤ scope_limit) }
+    ensures { Adds (T.tuple_text scope tuple.now) w.old w.new }
 {
-    let open = tokens::put_either(out, before, v == 1, b"&", b"&(");
-    let unequals = put_unequals(out, open, words, first, v, scope);
-    tokens::put_either(out, unequals, v == 1, b"", b")")
+    let single = tuple.len() == 1;
+    w.either(single, b"&", b"&(");
+    put_unequals(w, tuple, scope);
+    w.either(single, b"", b")");
 }
 
-// The excluded tuples from an index up to another.
-fn put_each(
-    out: &mut [u8],
-    before: Option<usize>,
-    words: &[i32],
-    first: usize,
-    end: usize,
-    v: usize,
-    scope: usize,
-) -> Option<usize>
-    requires { Fits before out.old × (1 ≤ v) × (scope + v ≤ scope_limit) × T.Tuples words.now v first end }
-    ensures { (t : T.Tuples words.now v first end) →
-        Adds (T.tuples_text scope t.list) before out.old out.new result }
+// Excluded tuples of v numbers, one behind another.
+fn put_each(w: &mut Writer<'_>, numbers: &[i32], v: usize, scope: usize)
+    requires { (1 ≤ v) × (scope + v ≤ scope_limit) × T.Tuples numbers.now v }
+    ensures { (t : T.Tuples numbers.now v) → Adds (T.tuples_text scope t.list) w.old w.new }
 {
-    let mut put = before;
-    for from in (first..end).step_by(v) {
-        put = put_tuple(out, put, words, from, v, scope);
+    for from in (0..numbers.len()).step_by(v) {
+        put_tuple(w, &numbers[from..from + v], scope);
     }
-    put
 }
 
 // The same, and the parenthesis that closes their restriction; nothing, if there are none.
-pub fn put_tuples(
-    out: &mut [u8],
-    before: Option<usize>,
-    words: &[i32],
-    first: usize,
-    end: usize,
-    v: usize,
-    scope: usize,
-) -> Option<usize>
-    requires { Fits before out.old × (1 ≤ v) × (scope + v ≤ scope_limit) × T.Tuples words.now v first end }
-    ensures { (t : T.Tuples words.now v first end) →
-        Adds (T.closed_text scope t.list) before out.old out.new result }
+pub fn put_tuples(w: &mut Writer<'_>, numbers: &[i32], v: usize, scope: usize)
+    requires { (1 ≤ v) × (scope + v ≤ scope_limit) × T.Tuples numbers.now v }
+    ensures { (t : T.Tuples numbers.now v) → Adds (T.closed_text scope t.list) w.old w.new }
 {
-    if end <= first {
-        return before;
+    if numbers.is_empty() {
+        return;
     }
-    let tuples = put_each(out, before, words, first, end, v, scope);
-    tokens::put_bytes(out, tuples, b")")
+    put_each(w, numbers, v, scope);
+    w.bytes(b")");
 }

@@ -1,6 +1,5 @@
 -- Laws that several proofs of this crate cite.
 pub mod NodeTextLaws
-pub mod PrintLaws
 pub mod PrintableLaws
 pub mod WalkLaws
 pub mod PolicyLaws

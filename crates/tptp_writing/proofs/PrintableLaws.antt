@@ -3,15 +3,17 @@ use Prim.Native.Nat.{ℕ, ◌+◌, ◌*◌, ◌-◌, ◌≤◌}
 use native.Mathlib.Omega.{arith}
 use mathlib.Core.Path.{◌≡◌, refl, sym, ap, ap₂, ◌∙◌, subst}
 use mathlib.Core.Bool.{Bool}
-use mathlib.Core.List.{map}
-use lib.ListN.{length}
-use lib.IntN.{nat_abs}
+use mathlib.Core.List.{List, map}
+use lib.ListN.{length, take, drop}
+use lib.IntN.{ℤ, nat_abs}
 use Rattle.model.specs.Words.{Words, word, value, level_limit, scope_limit}
+use Rattle.model.specs.Lists.{gather}
 use Rattle.model.specs.Tag.{Tag, tag_of}
 use Rattle.model.specs.Tree.{Tree, Trees, plain, atom, join, quantifier, some, nil, cons, count, encode}
 use Rattle.model.specs.Level.{Role, restriction, formula, under, quantifier_cost, cost}
 use Rattle.model.specs.Reading.{places, term_at}
 use Rattle.laws.specs.Level.{greatest_mono, greatest-least}
+use Rattle.laws.specs.Words.Standing.{Stands, stands_taken}
 use Rattle.laws.specs.Reading.Formed.{Formed}
 use Rattle.laws.specs.Reading.Items.{tuples-there}
 use Rattle.laws.specs.Reading.Nodes.{Node, Nodes}
@@ -90,6 +92,16 @@ quantifier_costs : (role : Role) (b : Bool) → 1 ≤ quantifier_cost role b
 unfolding cost
 quantifier_costs role b = cost-one role (Tag.quantifier b)
 
+-- a node that stands at an index stands at one that is equal
+abbrev pub moved : {words : Words} {above scope at here : ℕ} → here ≡ at → Printable words above scope at → Printable words above scope here
+moved {words} {above} {scope} {at} {here} e h = record {
+  table = h.table;
+  role = h.role;
+  tree = h.tree;
+  next = h.next;
+  node = subst (λ (k : ℕ). Node h.table words h.role above scope k h.tree h.next) (sym e) h.node;
+}
+
 -- an all-of or any-of: its operands
 pub record Joined (words : Words) (above scope at : ℕ) (every : Bool) (n : ℕ) (h : Printable words above scope at) : Type 0 where
   pub operands : PrintableAll words (above + 1) scope n (at + 2)
@@ -101,7 +113,7 @@ pub record Joined (words : Words) (above scope at : ℕ) (every : Bool) (n : ℕ
 -- a quantifier: its excluded tuples, its restriction and its body
 pub record Quantified (words : Words) (above scope at : ℕ) (every : Bool) (v m first : ℕ) (h : Printable words above scope at) : Type 0
   where
-    pub excluded : Tuples words v (at + 3) first
+    pub excluded : Tuples (take (first - (at + 3)) (drop (at + 3) words)) v
     pub number : length excluded.list ≡ m
     pub restricts : Printable words (above + 1) (scope + v) first
     pub body : Printable words (above + 1) (scope + v) restricts.next
@@ -176,8 +188,12 @@ module _ (words : Words) (above scope at : ℕ) (h : Printable words above scope
       let n = length excluded in
       let start = at + 3 + u * n in
       let there = tuples-there words u n (at + 3) (omega (arith, a.restricts.stands.ends, a.restricts.stands.fits)) in
+      let standing : Stands words (at + 3) (gather (λ (tuple : List ℤ). tuple) excluded) start = rw a.reads at there.0 in
+      let long : start - (at + 3) ≡ length (gather (λ (tuple : List ℤ). tuple) excluded) = omega (arith, standing.ends) in
+      let lent : take (start - (at + 3)) (drop (at + 3) words) ≡ gather (λ (tuple : List ℤ). tuple) excluded
+      = rw long (stands_taken words _ standing) in
       let made : Quantified words above scope at every u n start h = record {
-        excluded = record { list = excluded; stands = rw a.reads at there.0; long = node.formed.3 };
+        excluded = record { list = excluded; are = lent; long = node.formed.3 };
         number = refl;
         restricts = record {
           table = h.table;

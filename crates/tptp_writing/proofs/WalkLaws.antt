@@ -4,51 +4,71 @@ use native.Mathlib.Omega.{arith}
 use mathlib.Core.Path.{◌≡◌, refl, sym, ap, ◌∙◌, subst}
 use mathlib.Core.Bool.{Bool, true, false, cond}
 use mathlib.Core.List.{◌++◌, append_assoc}
-use lib.ListN.{length}
+use lib.ListN.{take, drop}
 use lib.Dec.{eqb}
+use Rattle.std.specs.Prelude.{Option, Some, None}
+use Rattle.std.proofs.lemmas.Option.{none-some}
 use Rattle.model.specs.Words.{Words, word, value}
 use Rattle.model.specs.Bytes.{Text, bytes}
 use Rattle.model.specs.Tag.{Tag, tag_of}
 use Rattle.model.specs.Tree.{Tree, Trees, plain}
 use Rattle.model.specs.Tptp.{connective}
-use Rattle.std.specs.Prelude.{Option, Some, None}
-use Rattle.tptp_writing.specs.declared.tree.Printed.{Printed}
-use Rattle.tptp_putting.specs.Adding.{Fits}
+use Rattle.text.specs.declared.writer.Writer.{Writer}
+use Rattle.text.specs.Adds.{Adds}
+use Rattle.text.proofs.PutLaws.{adds-is, adds_then, adds_short, adds_full, full_stays, Left, left-none, left-more, left_full, left_end}
 use Rattle.tptp_putting.specs.Texts.{head_text, closed_text, Tuples}
-use Rattle.tptp_writing.specs.Printing.{Printable, PrintableAll, atom_at, compare_at, node_text, operands_text, wrote, Ends, Prints}
-use Rattle.tptp_putting.proofs.AddLaws.{Behind, behind-fits, behind_more, behind_then, behind-short, Left, left-none, left-more}
-use Rattle.tptp_putting.proofs.AddLaws.{left_end}
-use Rattle.tptp_writing.proofs.NodeTextLaws.{plain-same, atom-same, compare_same, quantifier-same, some_same}
+use Rattle.tptp_writing.specs.Printing.{Printable, PrintableAll, atom_at, compare_at, node_text, operands_text, Prints}
+use Rattle.tptp_writing.proofs.NodeTextLaws.{plain-text, plain-same, atom-same, compare_same, quantifier-same, some_same}
 use Rattle.tptp_writing.proofs.NodeTextLaws.{rest_text, operands-first, operands-more, operands-none, join-text, quantifier-text}
 use Rattle.tptp_writing.proofs.NodeTextLaws.{some-text}
-use Rattle.tptp_writing.proofs.PrintLaws.{prints_is, prints_closed, word_at}
 use Rattle.tptp_writing.proofs.PrintableLaws.{plain_here, atom-here, compare-here, Joined, Quantified, Something, Headed, headed, none_left}
+use Rattle.tptp_writing.proofs.PrintableLaws.{moved}
 
-module _
-    (words : Words) (above scope at : ℕ) (h : Printable words above scope at) (bare : Bool)
-    {before : Option ℕ} {old out : Text} {r : Option Printed}
-  where
-    -- a node with no node below it
-    pub plain_prints :
-        (b : Bool) → Tag.plain b ≡ tag_of (word words at) → Prints (node_text true (plain b) 0) (at + 1) before old out r →
-        Prints (node_text bare h.tree scope) h.next before old out r
-    plain_prints b e p =
-        let (is, next) = plain_here words above scope at h b e in
-        prints_is p (ap (λ (t : Tree). node_text bare t scope) is ∙ plain-same bare b scope) next
+-- a text that was put, and the word behind it
+pub prints_at : {text : Text} {w w' : Writer} (next : ℕ) → Adds text w w' → Prints text next w w' (Some next)
+prints_at next adds = record { adds = adds; found = λ n e. cc; full = λ e. absurd (none-some next (sym e)) }
 
+-- one that found too little room
+prints_full : {text : Text} {w w' : Writer} (next : ℕ) → Adds text w w' → w'.put ≡ None → Prints text next w w' None
+prints_full next adds full = record { adds = adds; found = λ n e. absurd (none-some n e); full = λ e. full }
+
+pub prints_stopped : {text : Text} {next : ℕ} {w : Writer} → w.put ≡ None → Prints text next w w None
+prints_stopped {text} {next} {w} full = prints_full next (adds_full text w full) full
+
+-- a text with nodes in it, and a text behind them
+prints_on :
+    {a b text : Text} {n m : ℕ} {w w₁ w₂ w₃ : Writer} {r : Option ℕ} → Prints a n w₁ w₂ r → Adds b w₂ w₃ → Adds text w w₃ → m ≡ n →
+    Prints text m w w₃ r
+prints_on p close adds f =
+    record { adds = adds; found = λ n e. p.found n e ∙ sym f; full = λ e. full_stays close (p.full e) }
+
+-- the same text and the same word
+prints_is : {a b : Text} {n m : ℕ} {w w' : Writer} {r : Option ℕ} → Prints a n w w' r → b ≡ a → m ≡ n → Prints b m w w' r
+prints_is p e f = record { adds = adds-is p.adds e; found = λ n g. p.found n g ∙ sym f; full = p.full }
+
+module _ (words : Words) (above scope at : ℕ) (h : Printable words above scope at) (bare : Bool) {w w' : Writer} where
+  -- a node with no node below it
+  pub plain_prints :
+      (b : Bool) → Tag.plain b ≡ tag_of (word words at) → Adds (cond b (bytes "$true") (bytes "$false")) w w' →
+      Prints (node_text bare h.tree scope) h.next w w' (Some (at + 1))
+  plain_prints b e p =
+      let (is, next) = plain_here words above scope at h b e in
+      prints_is (prints_at (at + 1) p)
+      (ap (λ (t : Tree). node_text bare t scope) is ∙ plain-same bare b scope ∙ plain-text b) next
+
+  module _ {r : Option ℕ} where
     pub atom_prints :
         (b : Bool) → Tag.atom b ≡ tag_of (word words at) →
-        Prints (node_text true (atom_at words b at) 0) (at + 3 + 2 * value words (at + 2)) before old out r →
-        Prints (node_text bare h.tree scope) h.next before old out r
+        Prints (node_text true (atom_at words b at) 0) (at + 3 + 2 * value words (at + 2)) w w' r →
+        Prints (node_text bare h.tree scope) h.next w w' r
     unfolding atom_at
     atom_prints b e p =
         let (is, next, some, fits) = atom-here words above scope at h b e in
         prints_is p (ap (λ (t : Tree). node_text bare t scope) is ∙ atom-same bare b scope _ _) next
 
     pub compare_prints :
-        (b : Bool) → Tag.compare b ≡ tag_of (word words at) →
-        Prints (node_text true (compare_at words b at) 0) (at + 6) before old out r →
-        Prints (node_text bare h.tree scope) h.next before old out r
+        (b : Bool) → Tag.compare b ≡ tag_of (word words at) → Prints (node_text true (compare_at words b at) 0) (at + 6) w w' r →
+        Prints (node_text bare h.tree scope) h.next w w' r
     unfolding compare_at
     compare_prints b e p =
         let (is, next, fits) = compare-here words above scope at h b e in
@@ -57,8 +77,8 @@ module _
     -- a quantifier and a some stand as they are
     pub quantifier_prints :
         (every : Bool) (v m first : ℕ) → Quantified words above scope at every v m first h →
-        Prints (node_text true h.tree scope) h.next before old out r →
-        Prints (node_text bare h.tree scope) h.next before old out r
+        Prints (node_text true h.tree scope) h.next w w' r →
+        Prints (node_text bare h.tree scope) h.next w w' r
     quantifier_prints every v m first q p =
         prints_is p
         (ap (λ (t : Tree). node_text bare t scope) q.is
@@ -67,8 +87,8 @@ module _
         refl
 
     pub some_prints :
-        Something words above scope at h → Prints (node_text true h.tree scope) h.next before old out r →
-        Prints (node_text bare h.tree scope) h.next before old out r
+        Something words above scope at h → Prints (node_text true h.tree scope) h.next w w' r →
+        Prints (node_text bare h.tree scope) h.next w w' r
     some_prints s p =
         prints_is p
         (ap (λ (t : Tree). node_text bare t scope) s.is
@@ -76,180 +96,98 @@ module _
         ∙ ap (λ (t : Tree). node_text true t scope) (sym s.is))
         refl
 
--- what closes nodes that were written
-abbrev Closes : Bool → Option Printed → Text → Text → Option Printed → Type 0
-Closes bare nodes out out' r =
-    (next : ℕ) → Ends nodes next → Prints (cond bare (bytes "") (bytes ")")) next (wrote nodes) out out' r
-
 -- an all-of or any-of: what opens it, its operands, and what closes it
-module _
-    {words : Words} {above scope at : ℕ} {every : Bool} {n : ℕ} {h : Printable words above scope at}
-    (j : Joined words above scope at every n h)
-    (bare : Bool)
-    {before : Option ℕ} {old out₁ : Text} {p : Option ℕ} (lead : Behind (cond bare (bytes "") (bytes "(")) before old out₁ p)
-    {out₂ : Text} {nodes : Option Printed}
-    (all :
-    (k : PrintableAll words (above + 1) scope n (at + 2)) →
-    Prints (operands_text every k.trees scope) k.next p out₁ out₂ nodes)
-    (long : length out₂ ≡ length out₁)
-  where
-    join-behind :
-        Behind (cond bare (bytes "") (bytes "(") ++ operands_text every j.operands.trees scope) before old out₂ (wrote nodes)
-    join-behind = behind_more lead _ (all j.operands).adds long
-
-    pub join-fits : Fits (wrote nodes) out₂
-    join-fits = behind-fits join-behind
-
-    pub join_prints :
-        {out₃ : Text} {r : Option Printed} → Closes bare nodes out₂ out₃ r → length out₃ ≡ length out₂ →
-        Prints (node_text bare h.tree scope) h.next before old out₃ r
-    join_prints close long' =
-        prints_closed nodes join-behind (cond bare (bytes "") (bytes ")")) j.operands.next (all j.operands).ends close
-        long'
-        (ap (λ (t : Tree). node_text bare t scope) j.is ∙ join-text every scope bare j.operands.trees
-        ∙ sym (append_assoc (cond bare (bytes "") (bytes "(")) _ _))
-        j.ends
+pub join_prints :
+    {words : Words} {above scope at : ℕ} {every : Bool} {n : ℕ} {h : Printable words above scope at} →
+    Joined words above scope at every n h →
+    (bare : Bool) {w w₁ w₂ w₃ : Writer} {r : Option ℕ} → Adds (cond bare (bytes "") (bytes "(")) w w₁ →
+    ((k : PrintableAll words (above + 1) scope n (at + 2)) → Prints (operands_text every k.trees scope) k.next w₁ w₂ r) →
+    Adds (cond bare (bytes "") (bytes ")")) w₂ w₃ →
+    Prints (node_text bare h.tree scope) h.next w w₃ r
+join_prints {scope} {every} j bare lead all close =
+    let nodes = all j.operands in
+    prints_on nodes close
+    (adds-is (adds_then lead (adds_then nodes.adds close))
+    (ap (λ (t : Tree). node_text bare t scope) j.is ∙ join-text every scope bare j.operands.trees))
+    j.ends
 
 -- a some: what stands before its restriction, this, and a parenthesis
-module _
-    {words : Words} {above scope at : ℕ} {h : Printable words above scope at} (s : Something words above scope at h)
-    {before : Option ℕ} {old out₁ : Text} {p : Option ℕ} (lead : Behind (head_text false scope 1 true) before old out₁ p)
-    {out₂ : Text} {nodes : Option Printed}
-    (one :
-    (k : Printable words (above + 1) (scope + 1) (at + 1)) →
-    Prints (node_text true k.tree (scope + 1)) k.next p out₁ out₂ nodes)
-    (long : length out₂ ≡ length out₁)
-  where
-    some-behind :
-        Behind (head_text false scope 1 true ++ node_text true s.restricts.tree (scope + 1)) before old out₂ (wrote nodes)
-    some-behind = behind_more lead _ (one s.restricts).adds long
-
-    pub some_fits : Fits (wrote nodes) out₂
-    some_fits = behind-fits some-behind
-
-    pub some-stands :
-        {out₃ : Text} {r : Option Printed} → Closes false nodes out₂ out₃ r → length out₃ ≡ length out₂ →
-        Prints (node_text true h.tree scope) h.next before old out₃ r
-    some-stands close long' =
-        prints_closed nodes some-behind (bytes ")") s.restricts.next (one s.restricts).ends close long'
-        (ap (λ (t : Tree). node_text true t scope) s.is ∙ some-text scope s.restricts.tree
-        ∙ sym (append_assoc (head_text false scope 1 true) _ _))
-        s.ends
+pub some-stands :
+    {words : Words} {above scope at : ℕ} {h : Printable words above scope at} → Something words above scope at h →
+    {w w₁ w₂ w₃ : Writer} {r : Option ℕ} → Adds (head_text false scope 1 true) w w₁ →
+    ((k : Printable words (above + 1) (scope + 1) (at + 1)) → Prints (node_text true k.tree (scope + 1)) k.next w₁ w₂ r) →
+    Adds (bytes ")") w₂ w₃ →
+    Prints (node_text true h.tree scope) h.next w w₃ r
+some-stands {scope} s lead one close =
+    let node = one s.restricts in
+    prints_on node close
+    (adds-is (adds_then lead (adds_then node.adds close))
+    (ap (λ (t : Tree). node_text true t scope) s.is ∙ some-text scope s.restricts.tree))
+    s.ends
 
 -- a quantifier: what stands before its restriction, this, its excluded tuples, a connective, its body, and a parenthesis
 module _
     {words : Words} {above scope at : ℕ} {every : Bool} {v m first : ℕ} {h : Printable words above scope at}
     (q : Quantified words above scope at every v m first h)
-    {before : Option ℕ} {old out₁ : Text} {p₁ : Option ℕ} (lead : Behind (head_text every scope v (eqb m 0)) before old out₁ p₁)
-    {out₂ : Text} {nodes₁ : Option Printed}
-    (one :
-    (k : Printable words (above + 1) (scope + v) first) →
-    Prints (node_text false k.tree (scope + v)) k.next p₁ out₁ out₂ nodes₁)
-    (long₁ : length out₂ ≡ length out₁)
+    {w₁ w₂ : Writer} {r₁ : Option ℕ}
+    (one : (k : Printable words (above + 1) (scope + v) first) → Prints (node_text false k.tree (scope + v)) k.next w₁ w₂ r₁)
   where
-    abbrev headed_by : Text
-    headed_by = head_text every scope v (eqb m 0) ++ node_text false q.restricts.tree (scope + v)
-
-    restriction-behind : Behind headed_by before old out₂ (wrote nodes₁)
-    restriction-behind = behind_more lead _ (one q.restricts).adds long₁
-
     whole :
         node_text true h.tree scope
-        ≡ headed_by ++ (closed_text scope q.excluded.list
-        ++ (cond every (bytes "=>") (bytes "&") ++ (node_text false q.body.tree (scope + v) ++ bytes ")")))
+        ≡ head_text every scope v (eqb m 0)
+        ++ (node_text false q.restricts.tree (scope + v)
+        ++ (closed_text scope q.excluded.list
+        ++ (cond every (bytes "=>") (bytes "&") ++ (node_text false q.body.tree (scope + v) ++ bytes ")"))))
     whole =
         ap (λ (t : Tree). node_text true t scope) q.is
         ∙ quantifier-text every v scope m q.excluded.list q.restricts.tree q.body.tree q.number
-        ∙ sym (append_assoc (head_text every scope v (eqb m 0)) (node_text false q.restricts.tree (scope + v)) _)
 
-    pub quantifier-full : nodes₁ ≡ None → Prints (node_text true h.tree scope) h.next before old out₂ None
-    quantifier-full e = record { adds = behind-short _ _ restriction-behind (ap wrote e) whole; ends = tt }
+    pub quantifier-full :
+        {w : Writer} → Adds (head_text every scope v (eqb m 0)) w w₁ → r₁ ≡ None → Prints (node_text true h.tree scope) h.next w w₂ None
+    quantifier-full head e =
+        let node = one q.restricts in
+        let full = node.full e in
+        prints_full h.next
+        (adds-is (adds_short _ (adds_then head node.adds) full) (whole ∙ sym (append_assoc (head_text every scope v (eqb m 0)) _ _)))
+        full
 
-    module _ {printed : Printed} (found : nodes₁ ≡ Some printed) where
+    module _ {body : ℕ} (found : r₁ ≡ Some body) where
       -- the body stands behind the restriction
-      pub body_starts : q.restricts.next ≡ printed.next
-      body_starts = sym (word_at q.restricts.next found (one q.restricts).ends)
+      abbrev pub body-here : Printable words (above + 1) (scope + v) body
+      body-here = moved ((one q.restricts).found body found) q.body
 
-      pub body-here : Printable words (above + 1) (scope + v) printed.next
-      body-here = subst (λ (k : ℕ). Printable words (above + 1) (scope + v) k) body_starts q.body
-
-      ended : Behind headed_by before old out₂ (Some printed.end)
-      ended = subst (Behind headed_by before old out₂) (ap wrote found) restriction-behind
-
-      pub restriction-fits : printed.end ≤ length out₂
-      restriction-fits = behind-fits ended
-
-      module _
-          {out₃ : Text} {p₂ : Option ℕ}
-          (tuples : (t : Tuples words v (at + 3) first) → Behind (closed_text scope t.list) (Some printed.end) out₂ out₃ p₂)
-        where
-          tuples-behind : Behind (headed_by ++ closed_text scope q.excluded.list) before old out₃ p₂
-          tuples-behind = behind_then ended (tuples q.excluded)
-
-          pub tuples-fits : Fits p₂ out₃
-          tuples-fits = behind-fits (tuples q.excluded)
-
-          module _ {out₄ : Text} {p₃ : Option ℕ} (sign : Behind (cond every (bytes "=>") (bytes "&")) p₂ out₃ out₄ p₃) where
-            sign_behind :
-                Behind ((headed_by ++ closed_text scope q.excluded.list) ++ cond every (bytes "=>") (bytes "&")) before old
-                out₄ p₃
-            sign_behind = behind_then tuples-behind sign
-
-            module _
-                {out₅ : Text} {nodes₂ : Option Printed}
-                (two :
-                (k : Printable words (above + 1) (scope + v) printed.next) →
-                Prints (node_text false k.tree (scope + v)) k.next p₃ out₄ out₅ nodes₂)
-                (long₂ : length out₅ ≡ length out₄)
-              where
-                body_prints : Prints (node_text false q.body.tree (scope + v)) q.body.next p₃ out₄ out₅ nodes₂
-                body_prints =
-                    subst
-                    (λ (i : ℕ).
-                    (k : Printable words (above + 1) (scope + v) i) →
-                    Prints (node_text false k.tree (scope + v)) k.next p₃ out₄ out₅ nodes₂)
-                    (sym body_starts)
-                    two
-                    q.body
-
-                body-behind :
-                    Behind
-                    (((headed_by ++ closed_text scope q.excluded.list) ++ cond every (bytes "=>") (bytes "&"))
-                    ++ node_text false q.body.tree (scope + v))
-                    before old out₅ (wrote nodes₂)
-                body-behind = behind_more sign_behind _ body_prints.adds long₂
-
-                pub body-fits : Fits (wrote nodes₂) out₅
-                body-fits = behind-fits body-behind
-
-                pub quantifier-stands :
-                    {out₆ : Text} {r : Option Printed} → Closes false nodes₂ out₅ out₆ r → length out₆ ≡ length out₅ →
-                    Prints (node_text true h.tree scope) h.next before old out₆ r
-                quantifier-stands close long₃ =
-                    prints_closed nodes₂ body-behind (bytes ")") q.body.next body_prints.ends close long₃
-                    (whole ∙ simp append_assoc)
-                    q.ends
+      pub quantifier-stands :
+          {w w₃ w₄ w₅ w₆ : Writer} {r : Option ℕ} → Adds (head_text every scope v (eqb m 0)) w w₁ →
+          ((t : Tuples (take (first - (at + 3)) (drop (at + 3) words)) v) → Adds (closed_text scope t.list) w₂ w₃) →
+          Adds (cond every (bytes "=>") (bytes "&")) w₃ w₄ →
+          ((k : Printable words (above + 1) (scope + v) body) → Prints (node_text false k.tree (scope + v)) k.next w₄ w₅ r) →
+          Adds (bytes ")") w₅ w₆ →
+          Prints (node_text true h.tree scope) h.next w w₆ r
+      quantifier-stands head tuples sign two close =
+          let node = two body-here in
+          let behind = adds_then (tuples q.excluded) (adds_then sign (adds_then node.adds close)) in
+          prints_on node close (adds-is (adds_then head (adds_then (one q.restricts).adds behind)) whole) q.ends
 
 -- an operand is not bare
-pub operand_prints :
-    (tree : Tree) (scope : ℕ) (bare : Bool) {next : ℕ} {before : Option ℕ} {old out : Text} {r : Option Printed} →
-    Prints (node_text bare tree scope) next before old out r →
+pub operand_adds :
+    (tree : Tree) (scope : ℕ) (bare : Bool) {next : ℕ} {w w' : Writer} {r : Option ℕ} → Prints (node_text bare tree scope) next w w' r →
     bare ≡ false →
-    Prints (node_text false tree scope) next before old out r
-operand_prints tree scope bare p e = prints_is p (ap (λ (b : Bool). node_text b tree scope) (sym e)) refl
+    Adds (node_text false tree scope) w w'
+operand_adds tree scope bare p e = adds-is p.adds (ap (λ (b : Bool). node_text b tree scope) (sym e))
 
 -- operands one behind another: those behind the first stand up to the node i
 pub record More
     (words : Words) (above scope n at : ℕ) (every : Bool) (h : PrintableAll words above scope n at)
     (f : Headed words above scope n at h)
-    (i : ℕ) (before : Option ℕ) (old out : Text) (nodes : Option Printed) : Type 0
+    (i : ℕ) (w w' : Writer) (next : Option ℕ) : Type 0
   where
     pub count : ℕ
     pub number : count + i ≡ n
     pub from : ℕ
+    pub found : (q : ℕ) → next ≡ Some q → q ≡ from
+    pub full : next ≡ None → w'.put ≡ None
     pub rest : PrintableAll words above scope count from
-    pub left : Left (rest_text every f.others.trees scope) (rest_text every rest.trees scope) before old out (wrote nodes)
-    pub word : Ends nodes from
+    pub left : Left (rest_text every f.others.trees scope) (rest_text every rest.trees scope) w w'
     pub ends : h.next ≡ rest.next
 
 module _
@@ -258,96 +196,63 @@ module _
   where
     -- the first one stands
     pub more-none :
-        (some : 1 ≤ n) {before : Option ℕ} {old out : Text} (nodes : Option Printed) →
-        Behind (node_text false f.first.tree scope) before old out (wrote nodes) →
-        Ends nodes f.first.next →
-        More words above scope n at every h f 1 (wrote nodes) out out nodes
-    more-none some nodes first word = record {
+        1 ≤ n → {text : Text} {w₀ w : Writer} {next : Option ℕ} → Prints text f.first.next w₀ w next →
+        More words above scope n at every h f 1 w w next
+    more-none some {w} p = record {
       count = n - 1;
       number = omega arith;
       from = f.first.next;
+      found = p.found;
+      full = p.full;
       rest = f.others;
-      left = left-none _ (wrote nodes) _ (behind-fits first);
-      word = word;
+      left = left-none _ w;
       ends = f.ends;
     }
 
-    module _
-        {i : ℕ} {before : Option ℕ} {old out : Text} {nodes : Option Printed}
-        (m : More words above scope n at every h f i before old out nodes)
-      where
-        module _ {q : Printed} (found : nodes ≡ Some q) where
-          pub more-fits : q.end ≤ length out
-          more-fits = behind-fits (subst (Behind m.left.done before old out) (ap wrote found) m.left.behind)
+    module _ {i : ℕ} {w w' : Writer} {next : Option ℕ} (m : More words above scope n at every h f i w w' next) where
+      module _ {here : ℕ} (found : next ≡ Some here) (inside : i < n) where
+        abbrev others : Headed words above scope m.count m.from m.rest
+        others = headed words above scope m.count m.from m.rest (omega (arith, m.number))
 
-          module _ (inside : i < n) where
-            others : Headed words above scope m.count m.from m.rest
-            others = headed words above scope m.count m.from m.rest (omega (arith, m.number))
+        -- the next one
+        abbrev pub more-here : Printable words above scope here
+        more-here = moved (m.found here found) others.first
 
-            starts : m.from ≡ q.next
-            starts = sym (word_at m.from found m.word)
-
-            -- the next one
-            pub more-here : Printable words above scope q.next
-            more-here = subst (λ (k : ℕ). Printable words above scope k) starts others.first
-
-            pub more_turn :
-                {out₁ : Text} {p : Option ℕ} → Behind (connective every) (Some q.end) out out₁ p →
-                (bare : Bool) {out₂ : Text} {r : Option Printed} →
-                ((k : Printable words above scope q.next) → Prints (node_text bare k.tree scope) k.next p out₁ out₂ r) →
-                bare ≡ false →
-                length out₂ ≡ length out₁ →
-                More words above scope n at every h f (i + 1) before old out₂ r
-            more_turn {out₁} {p} sign bare {out₂} {r} one is long =
-                let enclosed : Prints (node_text bare others.first.tree scope) others.first.next p out₁ out₂ r
-                = subst
-                (λ (x : ℕ). (k : Printable words above scope x) → Prints (node_text bare k.tree scope) k.next p out₁ out₂ r)
-                (sym starts) one others.first in
-                let printed = operand_prints others.first.tree scope bare enclosed is in
-                let text = rest_text every f.others.trees scope in
-                let l₀ : Left text (rest_text every m.rest.trees scope) before old out (Some q.end)
-                = subst (Left text (rest_text every m.rest.trees scope) before old out) (ap wrote found) m.left in
-                let l₁ = left-more l₀ (connective every) _
-                (ap (λ (ts : Trees). rest_text every ts scope) others.is
-                ∙ operands-more every scope others.first.tree others.others.trees)
-                {out' = out₁} {r = p} sign.adds sign.long in
-                record {
-                  count = m.count - 1;
-                  number = omega (arith, m.number);
-                  from = others.first.next;
-                  rest = others.others;
-                  left =
-                      left-more l₁ (node_text false others.first.tree scope) (rest_text every others.others.trees scope)
-                      refl printed.adds long;
-                  word = printed.ends;
-                  ends = m.ends ∙ others.ends;
-                }
-
-        -- the text of all operands
-        module _
-            {before' : Option ℕ} {old' : Text} (first : Behind (node_text false f.first.tree scope) before' old' old before)
-          where
-            whole-text :
-                operands_text every h.trees scope
-                ≡ node_text false f.first.tree scope ++ rest_text every f.others.trees scope
-            whole-text =
-                ap (λ (ts : Trees). operands_text every ts scope) f.is
-                ∙ operands-first every scope f.first.tree f.others.trees
-
-            pub more-full : nodes ≡ None → Prints (operands_text every h.trees scope) h.next before' old' out None
-            more-full e = record {
-              adds =
-                  behind-short _ (rest_text every m.rest.trees scope)
-                  (behind_then first m.left.behind)
-                  (ap wrote e)
-                  (whole-text
-                  ∙ ap (λ (t : Text). node_text false f.first.tree scope ++ t) m.left.all
-                  ∙ sym (append_assoc (node_text false f.first.tree scope) m.left.done _));
-              ends = tt;
+        pub more_turn :
+            {w₁ : Writer} → Adds (connective every) w' w₁ →
+            (bare : Bool) {w₂ : Writer} {r : Option ℕ} →
+            ((k : Printable words above scope here) → Prints (node_text bare k.tree scope) k.next w₁ w₂ r) →
+            bare ≡ false →
+            More words above scope n at every h f (i + 1) w w₂ r
+        more_turn sign bare one is =
+            let node = one more-here in
+            let l = left-more m.left (connective every) _
+            (ap (λ (ts : Trees). rest_text every ts scope) others.is
+            ∙ operands-more every scope others.first.tree others.others.trees)
+            sign in
+            record {
+              count = m.count - 1;
+              number = omega (arith, m.number);
+              from = others.first.next;
+              found = node.found;
+              full = node.full;
+              rest = others.others;
+              left = left-more l _ _ refl (operand_adds others.first.tree scope bare node is);
+              ends = m.ends ∙ others.ends;
             }
 
-            pub more_end : n ≤ i → Prints (operands_text every h.trees scope) h.next before' old' out nodes
-            more_end all =
-                let (none, next) = none_left words above scope m.count m.from m.rest (omega (arith, m.number)) in
-                let rest = left_end m.left (ap (λ (ts : Trees). rest_text every ts scope) none ∙ operands-none every scope) in
-                prints_is (record { adds = (behind_then first rest).adds; ends = m.word }) whole-text (m.ends ∙ next)
+      -- the text of all operands
+      module _ {w₀ : Writer} (first : Adds (node_text false f.first.tree scope) w₀ w) where
+        whole-text :
+            operands_text every h.trees scope ≡ node_text false f.first.tree scope ++ rest_text every f.others.trees scope
+        whole-text =
+            ap (λ (ts : Trees). operands_text every ts scope) f.is ∙ operands-first every scope f.first.tree f.others.trees
+
+        pub more-full : next ≡ None → Prints (operands_text every h.trees scope) h.next w₀ w' None
+        more-full e = prints_full h.next (adds-is (adds_then first (left_full m.left (m.full e))) whole-text) (m.full e)
+
+        pub more_end : n ≤ i → Prints (operands_text every h.trees scope) h.next w₀ w' next
+        more_end all =
+            let (none, end) = none_left words above scope m.count m.from m.rest (omega (arith, m.number)) in
+            let rest = left_end m.left (ap (λ (ts : Trees). rest_text every ts scope) none ∙ operands-none every scope) in
+            prints_is (record { adds = adds_then first rest; found = m.found; full = m.full }) whole-text (m.ends ∙ end)

@@ -7,9 +7,9 @@ use Rattle.model.specs.Level.{Role}
 use Rattle.model.specs.Reading.{places, term_at}
 use Rattle.model.specs.Tptp.{separated, connective, enclosed, tokens, operands}
 use Rattle.laws.specs.Reading.Nodes.{Node, Nodes}
-use Rattle.tptp_putting.specs.Adding.{Adds}
+use Rattle.text.specs.Adds.{Adds}
+use Rattle.text.specs.declared.writer.Writer.{Writer}
 use Rattle.tptp_putting.specs.Texts.{spelt}
-use Rattle.tptp_writing.specs.declared.tree.Printed.{Printed}
 
 -- a node stands at an index, under a node at the level `above`, for some table and in some role
 pub record Printable (words : Words) (above scope at : ℕ) : Type 0 where
@@ -42,22 +42,8 @@ node_text bare tree scope = spelt (cond bare (tokens tree scope) (enclosed tree 
 unfoldable pub operands_text : Bool → Trees → ℕ → Text
 operands_text every ts scope = spelt (separated (connective every) (operands ts scope))
 
--- the index of a word, and what was written last
-abbrev pub placed : (next : ℕ) (put : Option ℕ) → Option Printed
-placed next None = None
-placed next (Some end) = Some (record { next = next; end = end })
-
--- what was written last
-abbrev pub wrote : (printed : Option Printed) → Option ℕ
-wrote None = None
-wrote (Some p) = Some p.end
-
--- what was written ends before a word
-abbrev pub Ends : (printed : Option Printed) (next : ℕ) → Type 0
-Ends None next = Unit {0}
-Ends (Some p) next = p.next ≡ next
-
--- the text of nodes that end before the word `next` is put behind what was written before
-pub record Prints (text : Text) (next : ℕ) (before : Option ℕ) (out out' : Text) (r : Option Printed) : Type 0 where
-  pub adds : Adds text before out out' (wrote r)
-  pub ends : Ends r next
+-- a writer has put the text of nodes that end before the word `next`, and this was found, or there was too little room to go on
+pub record Prints (text : Text) (next : ℕ) (w w' : Writer) (r : Option ℕ) : Type 0 where
+  pub adds : Adds text w w'
+  pub found : (n : ℕ) → r ≡ Some n → n ≡ next
+  pub full : r ≡ None → w'.put ≡ None

@@ -10,7 +10,7 @@ ghost use Rattle.model.specs.Reading.{read_policy};
 ghost use Rattle.model.specs.Tptp.{policy_text};
 ghost use Rattle.text.specs.Put.{Writes};
 
-use tptp_putting::tokens;
+use text::writer::Writer;
 
 // A policy that was read, written as text. What stands behind the text is left open.
 pub fn write_tree(table: &[i32], policy: &[i32], out: &mut [u8]) -> Option<usize>
@@ -19,7 +19,9 @@ pub fn write_tree(table: &[i32], policy: &[i32], out: &mut [u8]) -> Option<usize
         read_policy table.now policy.now ≡ passed tree →
         Writes (policy_text tree) out.old out.new result }
 {
-    let name = tokens::put_bytes(out, Some(0), b"tff(a,axiom,");
-    let root = tree::node(policy, out, name, true, 0, 0, 0)?;
-    tokens::put_bytes(out, Some(root.end), b").")
+    let mut w = Writer::new(out);
+    w.bytes(b"tff(a,axiom,");
+    tree::node(policy, &mut w, true, 0, 0, 0);
+    w.bytes(b").");
+    w.put
 }

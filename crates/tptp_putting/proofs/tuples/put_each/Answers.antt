@@ -1,47 +1,30 @@
 -- `tptp_putting::tuples::put_each` meets its contract. The loop's invariant: the tuples stand up to the index reached, whatever tuples
 -- they are.
-use Prim.Native.Nat.{◌+◌, ◌≤◌}
 use native.Mathlib.Omega.{arith}
-use Rattle.tptp_putting.proofs.AddLaws.{behind-fits}
 use Rattle.tptp_putting.proofs.TupleLaws.{First, first-tuple, each_none, each_more, each_all}
 use Rattle.tptp_putting.proofs.tuples.put_each.Goals as goal
 
 pub loop-from-init : goal.loop-from-init
-loop-from-init c =
-    let a = c.args in
-    λ t. each_none a.words.now a.v a.scope a.first a.end t a.before a.out.now c.requires.0
+loop-from-init c = λ t. each_none c.args.numbers.now c.args.v c.args.scope t c.args.w.now
 
-pub put_tuple-put-requires : goal.put_tuple-put-requires
-put_tuple-put-requires c =
-    let here : let a = c.args in First a.words.now a.v c.loop-from.from a.end a.scope (c.loop-from.invariant c.requires.3).rest.list = let a = c.args in
-    first-tuple a.words.now a.v c.loop-from.from a.end a.scope (c.loop-from.invariant c.requires.3).rest c.loop-from-test.true in
-    let e = c.loop-from.invariant c.requires.3 in
-    (behind-fits e.left.behind, c.requires.1, c.requires.2, omega (arith, (here).inside, e.rest.stands.fits))
+pub slice_bounds-put_tuple-end : goal.slice_bounds-put_tuple-end
+slice_bounds-put_tuple-end c =
+    let rest = (c.loop-from.invariant c.requires.2).rest in
+    let first = first-tuple c.args.numbers.now c.args.v c.args.scope c.loop-from.from rest c.loop-from-test.true in
+    omega (arith, first.inside)
+
+pub put_tuple-requires : goal.put_tuple-requires
+put_tuple-requires c =
+    let rest = (c.loop-from.invariant c.requires.2).rest in
+    let first = first-tuple c.args.numbers.now c.args.v c.args.scope c.loop-from.from rest c.loop-from-test.true in
+    (omega (arith, first.long, c.requires.0), omega (arith, first.long, c.requires.1))
 
 pub loop-from-preserved : goal.loop-from-preserved
-loop-from-preserved c =
-    let a = c.args in
-    λ u.
-    each_more a.words.now a.v a.scope a.first a.end u c.loop-from.from a.before a.out.now c.loop-from.out
-    c.loop-from.put (c.loop-from.invariant u)
-    c.loop-from-test.true c.put_tuple-put.new.out c.put_tuple-put.result c.put_tuple-put.ensures c.put_tuple-put.auto.out
+loop-from-preserved c = λ t. each_more _ _ _ t (c.loop-from.invariant t) c.loop-from-test.true c.put_tuple.ensures
 
 pub returns : goal.returns
-returns c =
-    let a = c.args in
-    λ t.
-    (each_all a.words.now a.v a.scope a.first a.end t c.loop-from.from a.before a.out.now c.loop-from.out
-    c.loop-from.put (c.loop-from.invariant t)
-    c.loop-from-test.false c.requires.1).adds
+returns c = λ t. each_all _ _ _ t (c.loop-from.invariant t) c.loop-from-test.false c.requires.0
 
 pub returns-2 : goal.returns-2
-returns-2 c =
-    let a = c.args in
-    let last : a.end ≤ c.loop-from.from + a.v = omega arith in
-    λ t.
-    (each_all a.words.now a.v a.scope a.first a.end t (c.loop-from.from + a.v) a.before a.out.now c.put_tuple-put.new.out
-    c.put_tuple-put.result
-    (each_more a.words.now a.v a.scope a.first a.end t c.loop-from.from a.before a.out.now c.loop-from.out
-    c.loop-from.put (c.loop-from.invariant t)
-    c.loop-from-test.true c.put_tuple-put.new.out c.put_tuple-put.result c.put_tuple-put.ensures c.put_tuple-put.auto.out)
-    last c.requires.1).adds
+returns-2 c = λ t.
+    each_all _ _ _ t (each_more _ _ _ t (c.loop-from.invariant t) c.loop-from-test.true c.put_tuple.ensures) (omega arith) c.requires.0

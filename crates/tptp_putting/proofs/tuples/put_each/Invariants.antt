@@ -5,5 +5,4 @@ use Rattle.tptp_putting.proofs.TupleLaws.{Each}
 use Rattle.tptp_putting.proofs.tuples.put_each.Given as goal
 
 abbrev pub invariant-loop-from : goal.invariant-loop-from
-invariant-loop-from l =
-    (t : Tuples l.words l.v l.first l.end) → Each l.words l.v l.scope l.first l.end t l.from l.initial.put l.initial.out l.out l.put
+invariant-loop-from l = (t : Tuples l.numbers l.v) → Each l.numbers l.v l.scope t l.from l.initial.w l.w

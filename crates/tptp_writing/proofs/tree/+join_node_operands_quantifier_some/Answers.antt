@@ -5,90 +5,73 @@
 use Prim.Native.Nat.{◌+◌, ◌*◌, ◌<◌}
 use native.Mathlib.Omega.{arith}
 use mathlib.Core.Path.{refl, sym, ap, ◌∙◌}
-use mathlib.Core.Bool.{true, false, cond}
 use lib.ListN.{length}
-use lib.Dec.{eqb}
 use Rattle.model.specs.Bytes.{bytes}
 use Rattle.model.specs.Tptp.{connective}
-use Rattle.std.specs.Prelude.{Some}
 use Rattle.policies.specs.Node.{as_tag}
-use Rattle.tptp_putting.specs.Texts.{head_text}
-use Rattle.tptp_writing.specs.Printing.{node_text, wrote}
-use Rattle.tptp_putting.proofs.AddLaws.{behind-put, behind-fits}
 use Rattle.tptp_writing.proofs.PrintableLaws.{here-low, here-inside, atom-here, compare-here, unused-here}
 use Rattle.tptp_writing.proofs.PrintableLaws.{joined, quantified, something, headed}
-use Rattle.tptp_writing.proofs.WalkLaws.{plain_prints, atom_prints, compare_prints, quantifier_prints, some_prints}
-use Rattle.tptp_writing.proofs.WalkLaws.{join-fits, join_prints, some_fits, some-stands}
-use Rattle.tptp_writing.proofs.WalkLaws.{quantifier-full, body-here, restriction-fits, tuples-fits, body-fits, quantifier-stands}
-use Rattle.tptp_writing.proofs.WalkLaws.{operand_prints, more-none, more-fits, more-here, more_turn, more-full, more_end}
+use Rattle.tptp_writing.proofs.WalkLaws.{prints_stopped, plain_prints, atom_prints, compare_prints, quantifier_prints, some_prints}
+use Rattle.tptp_writing.proofs.WalkLaws.{join_prints, some-stands, quantifier-full, body-here, quantifier-stands}
+use Rattle.tptp_writing.proofs.WalkLaws.{operand_adds, more-none, more-here, more_turn, more-full, more_end}
 use Rattle.tptp_writing.proofs.tree.+join_node_operands_quantifier_some.Goals as goal
 
 pub join-overflow_add-above : goal.join-overflow_add-above
 join-overflow_add-above t c =
     let a = c.args in
-    omega (arith, here-low a.words.now a.above a.scope a.at c.requires.2)
+    omega (arith, here-low a.words.now a.above a.scope a.at c.requires.1)
 
-pub join-operands-nodes-requires : goal.join-operands-nodes-requires
-unfolding bytes
-join-operands-nodes-requires t c =
+pub join-operands-next-requires : goal.join-operands-next-requires
+join-operands-next-requires t c =
     let a = c.args in
-    let opens = c.put_either-open in
-    let lead = behind-put (cond a.bare (bytes "") (bytes "(")) a.before opens.result opens.ensures opens.auto.out in
-    let j = joined a.words.now a.above a.scope a.at c.requires.2 a.every _ c.requires.1 c.value-n.ensures in
-    (omega (arith, here-low a.words.now a.above a.scope a.at c.requires.2, c.decreases), (behind-fits lead, j.some, j.operands))
-
-pub join-close-requires : goal.join-close-requires
-unfolding bytes
-join-close-requires t c =
-    let a = c.args in
-    let opens = c.put_either-open in
-    let lead = behind-put (cond a.bare (bytes "") (bytes "(")) a.before opens.result opens.ensures opens.auto.out in
-    join-fits (joined a.words.now a.above a.scope a.at c.requires.2 a.every _ c.requires.1 c.value-n.ensures) a.bare lead
-    c.operands-nodes.ensures c.operands-nodes.auto.out
+    let j = joined a.words.now a.above a.scope a.at c.requires.1 a.every _ c.requires.0 c.value-n.ensures in
+    (omega (arith, here-low a.words.now a.above a.scope a.at c.requires.1, c.decreases), (j.some, j.operands))
 
 pub join-returns : goal.join-returns
 unfolding bytes
 join-returns t c =
     let a = c.args in
-    let opens = c.put_either-open in
-    let lead = behind-put (cond a.bare (bytes "") (bytes "(")) a.before opens.result opens.ensures opens.auto.out in
-    λ h. join_prints (joined a.words.now a.above a.scope a.at h a.every _ c.requires.1 c.value-n.ensures) a.bare lead
-    c.operands-nodes.ensures c.operands-nodes.auto.out c.close.ensures c.close.auto.out
+    λ h. join_prints (joined a.words.now a.above a.scope a.at h a.every _ c.requires.0 c.value-n.ensures) a.bare
+    c.either.ensures c.operands-next.ensures c.either-2.ensures
 
 pub node-atom-requires : goal.node-atom-requires
 node-atom-requires t c =
     let a = c.args in
-    let (is, next, some, fits) = atom-here a.words.now a.above a.scope a.at c.requires.1 _ (sym (ap as_tag c.in-Atom.is) ∙ c.tag_at-tag.ensures) in
-    (c.requires.0, some, fits)
+    let (is, next, some, fits) = atom-here a.words.now a.above a.scope a.at c.requires _ (sym (ap as_tag c.in-Atom.is) ∙ c.tag_at-tag.ensures) in
+    (some, fits)
 
 pub node-compare-requires : goal.node-compare-requires
 node-compare-requires t c =
     let a = c.args in
-    let (is, next, fits) = compare-here a.words.now a.above a.scope a.at c.requires.1 _ (sym (ap as_tag c.in-Compare.is) ∙ c.tag_at-tag.ensures) in
-    (c.requires.0, fits)
+    let (is, next, fits) = compare-here a.words.now a.above a.scope a.at c.requires _ (sym (ap as_tag c.in-Compare.is) ∙ c.tag_at-tag.ensures) in
+    fits
 
 pub node-join-requires : goal.node-join-requires
 node-join-requires t c =
     let a = c.args in
     let tag = sym (ap as_tag c.in-Join.is) ∙ c.tag_at-tag.ensures in
-    (omega (arith, here-low a.words.now a.above a.scope a.at c.requires.1, c.decreases), (c.requires.0, tag, c.requires.1))
+    (omega (arith, here-low a.words.now a.above a.scope a.at c.requires, c.decreases), (tag, c.requires))
 
 pub node-quantifier-requires : goal.node-quantifier-requires
 node-quantifier-requires t c =
     let a = c.args in
     let tag = sym (ap as_tag c.in-Quantifier.is) ∙ c.tag_at-tag.ensures in
-    (omega (arith, here-low a.words.now a.above a.scope a.at c.requires.1, c.decreases), (c.requires.0, tag, c.requires.1))
+    (omega (arith, here-low a.words.now a.above a.scope a.at c.requires, c.decreases), (tag, c.requires))
 
 pub node-some-requires : goal.node-some-requires
 node-some-requires t c =
     let a = c.args in
     let tag = sym (ap as_tag c.in-Some.is) ∙ c.tag_at-tag.ensures in
-    (omega (arith, here-low a.words.now a.above a.scope a.at c.requires.1, c.decreases), (c.requires.0, tag, c.requires.1))
+    (omega (arith, here-low a.words.now a.above a.scope a.at c.requires, c.decreases), (tag, c.requires))
+
+pub node-returns-in_err-w : goal.node-returns-in_err-w
+node-returns-in_err-w t c = λ h. rw c.from_residual.ensures (prints_stopped c.in_err-w.was)
 
 pub node-returns-in-Plain : goal.node-returns-in-Plain
+unfolding bytes
 node-returns-in-Plain t c =
     let a = c.args in
-    λ h. plain_prints a.words.now a.above a.scope a.at h a.bare _ (sym (ap as_tag c.in-Plain.is) ∙ c.tag_at-tag.ensures) c.plain.ensures
+    λ h. plain_prints a.words.now a.above a.scope a.at h a.bare _ (sym (ap as_tag c.in-Plain.is) ∙ c.tag_at-tag.ensures) c.either.ensures
 
 pub node-returns-in-Atom : goal.node-returns-in-Atom
 node-returns-in-Atom t c =
@@ -118,67 +101,47 @@ node-returns-in-Unused t c =
     let a = c.args in
     λ h. absurd (unused-here a.words.now a.above a.scope a.at h (sym (ap as_tag c.in-Unused.is) ∙ c.tag_at-tag.ensures))
 
-pub operands-node-nodes-requires : goal.operands-node-nodes-requires
-operands-node-nodes-requires t c =
+pub operands-node-next-requires : goal.operands-node-next-requires
+operands-node-next-requires t c =
     let a = c.args in
-    let f = headed a.words.now a.above a.scope a.n a.at c.requires.2 c.requires.1 in
-    (omega (arith, here-low a.words.now a.above a.scope a.at f.first, c.decreases), (c.requires.0, f.first))
+    let f = headed a.words.now a.above a.scope a.n a.at c.requires.1 c.requires.0 in
+    (omega (arith, here-low a.words.now a.above a.scope a.at f.first, c.decreases), f.first)
 
 pub operands-loop-init : goal.operands-loop-init
-operands-loop-init t c =
-    let a = c.args in
-    λ h f.
-    let p = operand_prints f.first.tree _ _ (c.node-nodes.ensures f.first) refl in
-    let first = behind-put (node_text false f.first.tree a.scope) a.before (wrote c.node-nodes.result) p.adds c.node-nodes.auto.out in
-    more-none c.requires.1 c.node-nodes.result first p.ends
+operands-loop-init t c = λ h f. more-none c.requires.0 (c.node-next.ensures f.first)
 
-pub operands-returns-in_err-next : goal.operands-returns-in_err-next
-operands-returns-in_err-next t c =
+pub operands-node-next-requires-in-loop : goal.operands-node-next-requires-in-loop
+operands-node-next-requires-in-loop t c =
     let a = c.args in
-    λ h.
-    let f = headed a.words.now a.above a.scope a.n a.at h c.requires.1 in
-    let p = operand_prints f.first.tree _ _ (c.node-nodes.ensures f.first) refl in
-    let first = behind-put (node_text false f.first.tree a.scope) a.before (wrote c.node-nodes.result) p.adds c.node-nodes.auto.out in
-    rw c.from_residual.ensures (more-full (c.loop.invariant h f) first c.in_err-next.was)
-
-pub operands-put_connective-sign-requires : goal.operands-put_connective-sign-requires
-operands-put_connective-sign-requires t c =
-    let a = c.args in
-    let f = headed a.words.now a.above a.scope a.n a.at c.requires.2 c.requires.1 in
-    more-fits (c.loop.invariant c.requires.2 f) c.in_ok-next.was
-
-pub operands-node-nodes-requires-in-loop : goal.operands-node-nodes-requires-in-loop
-operands-node-nodes-requires-in-loop t c =
-    let a = c.args in
-    let sign = behind-put (connective a.every) (Some c.in_ok-next.field-0.end) c.put_connective-sign.result c.put_connective-sign.ensures
-    c.put_connective-sign.auto.out in
-    let f = headed a.words.now a.above a.scope a.n a.at c.requires.2 c.requires.1 in (
+    let f = headed a.words.now a.above a.scope a.n a.at c.requires.1 c.requires.0 in (
       omega (arith, here-low a.words.now a.above a.scope a.at f.first, c.decreases),
-      (behind-fits sign, more-here (c.loop.invariant c.requires.2 f) c.in_ok-next.was c.loop-test.true),
+      more-here (c.loop.invariant c.requires.1 f) c.in_ok-from.was c.loop-test.true,
     )
 
 pub operands-loop-preserved : goal.operands-loop-preserved
+unfolding bytes connective
 operands-loop-preserved t c =
-    let a = c.args in
-    let sign = behind-put (connective a.every) (Some c.in_ok-next.field-0.end) c.put_connective-sign.result c.put_connective-sign.ensures
-    c.put_connective-sign.auto.out in
-    λ h f.
-    more_turn (c.loop.invariant h f) c.in_ok-next.was c.loop-test.true sign _ c.node-nodes-in-loop.ensures refl
-    c.node-nodes-in-loop.auto.out
+    λ h f. more_turn (c.loop.invariant h f) c.in_ok-from.was c.loop-test.true c.either.ensures _ c.node-next-in-loop.ensures refl
 
 pub operands-returns : goal.operands-returns
 operands-returns t c =
     let a = c.args in
     λ h.
-    let f = headed a.words.now a.above a.scope a.n a.at h c.requires.1 in
-    let p = operand_prints f.first.tree _ _ (c.node-nodes.ensures f.first) refl in
-    let first = behind-put (node_text false f.first.tree a.scope) a.before (wrote c.node-nodes.result) p.adds c.node-nodes.auto.out in
-    more_end (c.loop.invariant h f) first c.loop-test.false
+    let f = headed a.words.now a.above a.scope a.n a.at h c.requires.0 in
+    more_end (c.loop.invariant h f) (operand_adds f.first.tree _ _ (c.node-next.ensures f.first) refl) c.loop-test.false
+
+pub operands-returns-in_err-from : goal.operands-returns-in_err-from
+operands-returns-in_err-from t c =
+    let a = c.args in
+    λ h.
+    let f = headed a.words.now a.above a.scope a.n a.at h c.requires.0 in
+    rw c.from_residual.ensures
+    (more-full (c.loop.invariant h f) (operand_adds f.first.tree _ _ (c.node-next.ensures f.first) refl) c.in_err-from.was)
 
 pub quantifier-overflow_mul-first : goal.quantifier-overflow_mul-first
 quantifier-overflow_mul-first t c =
     let a = c.args in
-    let q = quantified a.words.now a.above a.scope a.at c.requires.2 a.every _ _ _ c.requires.1 c.value-v.ensures c.value-m.ensures refl in
+    let q = quantified a.words.now a.above a.scope a.at c.requires.1 a.every _ _ _ c.requires.0 c.value-v.ensures c.value-m.ensures refl in
     let long : a.at + 3 + c.value-v.result * c.value-m.result < length a.words.now =
     omega (arith, here-inside a.words.now (a.above + 1) _ _ q.restricts) in
     omega (arith, long)
@@ -186,150 +149,106 @@ quantifier-overflow_mul-first t c =
 pub quantifier-overflow_add-first-2 : goal.quantifier-overflow_add-first-2
 quantifier-overflow_add-first-2 t c =
     let a = c.args in
-    let q = quantified a.words.now a.above a.scope a.at c.requires.2 a.every _ _ _ c.requires.1 c.value-v.ensures c.value-m.ensures refl in
+    let q = quantified a.words.now a.above a.scope a.at c.requires.1 a.every _ _ _ c.requires.0 c.value-v.ensures c.value-m.ensures refl in
     let long : a.at + 3 + c.value-v.result * c.value-m.result < length a.words.now =
     omega (arith, here-inside a.words.now (a.above + 1) _ _ q.restricts) in
     omega (arith, long)
 
-pub quantifier-put_head-head-requires : goal.quantifier-put_head-head-requires
-quantifier-put_head-head-requires t c =
+pub quantifier-put_head-requires : goal.quantifier-put_head-requires
+quantifier-put_head-requires t c =
     let a = c.args in
-    let q = quantified a.words.now a.above a.scope a.at c.requires.2 a.every _ _ _ c.requires.1 c.value-v.ensures c.value-m.ensures refl in
-    (c.requires.0, q.some, q.few)
+    let q = quantified a.words.now a.above a.scope a.at c.requires.1 a.every _ _ _ c.requires.0 c.value-v.ensures c.value-m.ensures refl in
+    (q.some, q.few)
 
 pub quantifier-overflow_add-above : goal.quantifier-overflow_add-above
 quantifier-overflow_add-above t c =
     let a = c.args in
-    omega (arith, here-low a.words.now a.above a.scope a.at c.requires.2)
+    omega (arith, here-low a.words.now a.above a.scope a.at c.requires.1)
 
 pub quantifier-overflow_add-above-2 : goal.quantifier-overflow_add-above-2
 quantifier-overflow_add-above-2 t c =
     let a = c.args in
-    omega (arith, here-low a.words.now a.above a.scope a.at c.requires.2)
+    omega (arith, here-low a.words.now a.above a.scope a.at c.requires.1)
 
 pub quantifier-overflow_add-scope : goal.quantifier-overflow_add-scope
 quantifier-overflow_add-scope t c =
     let a = c.args in
-    let q = quantified a.words.now a.above a.scope a.at c.requires.2 a.every _ _ _ c.requires.1 c.value-v.ensures c.value-m.ensures refl in
+    let q = quantified a.words.now a.above a.scope a.at c.requires.1 a.every _ _ _ c.requires.0 c.value-v.ensures c.value-m.ensures refl in
     omega (arith, q.few)
 
 pub quantifier-overflow_add-scope-2 : goal.quantifier-overflow_add-scope-2
 quantifier-overflow_add-scope-2 t c =
     let a = c.args in
-    let q = quantified a.words.now a.above a.scope a.at c.requires.2 a.every _ _ _ c.requires.1 c.value-v.ensures c.value-m.ensures refl in
+    let q = quantified a.words.now a.above a.scope a.at c.requires.1 a.every _ _ _ c.requires.0 c.value-v.ensures c.value-m.ensures refl in
     omega (arith, q.few)
 
 pub quantifier-node-requires : goal.quantifier-node-requires
 quantifier-node-requires t c =
     let a = c.args in
-    let head = c.put_head-head in
-    let lead = behind-put (head_text a.every a.scope c.value-v.result (eqb c.value-m.result 0)) a.before head.result head.ensures head.auto.out in
-    let q = quantified a.words.now a.above a.scope a.at c.requires.2 a.every _ _ _ c.requires.1 c.value-v.ensures c.value-m.ensures refl in
-    (omega (arith, here-low a.words.now a.above a.scope a.at c.requires.2, c.decreases), (behind-fits lead, q.restricts))
+    let q = quantified a.words.now a.above a.scope a.at c.requires.1 a.every _ _ _ c.requires.0 c.value-v.ensures c.value-m.ensures refl in
+    (omega (arith, here-low a.words.now a.above a.scope a.at c.requires.1, c.decreases), q.restricts)
 
-pub quantifier-returns-in_err-restriction : goal.quantifier-returns-in_err-restriction
-quantifier-returns-in_err-restriction t c =
+pub quantifier-slice_bounds-put_tuples-end : goal.quantifier-slice_bounds-put_tuples-end
+quantifier-slice_bounds-put_tuples-end t c =
     let a = c.args in
-    let head = c.put_head-head in
-    let lead = behind-put (head_text a.every a.scope c.value-v.result (eqb c.value-m.result 0)) a.before head.result head.ensures head.auto.out in
-    λ h. rw c.from_residual.ensures
-    (quantifier-full (quantified a.words.now a.above a.scope a.at h a.every _ _ _ c.requires.1 c.value-v.ensures c.value-m.ensures refl) lead
-    c.node.ensures c.node.auto.out c.in_err-restriction.was)
+    let q = quantified a.words.now a.above a.scope a.at c.requires.1 a.every _ _ _ c.requires.0 c.value-v.ensures c.value-m.ensures refl in
+    let long : a.at + 3 + c.value-v.result * c.value-m.result < length a.words.now =
+    omega (arith, here-inside a.words.now (a.above + 1) _ _ q.restricts) in
+    omega (arith, long)
 
-pub quantifier-put_tuples-excluded-requires : goal.quantifier-put_tuples-excluded-requires
-quantifier-put_tuples-excluded-requires t c =
+pub quantifier-put_tuples-requires : goal.quantifier-put_tuples-requires
+quantifier-put_tuples-requires t c =
     let a = c.args in
-    let head = c.put_head-head in
-    let lead = behind-put (head_text a.every a.scope c.value-v.result (eqb c.value-m.result 0)) a.before head.result head.ensures head.auto.out in
-    let q = quantified a.words.now a.above a.scope a.at c.requires.2 a.every _ _ _ c.requires.1 c.value-v.ensures c.value-m.ensures refl in
-    (restriction-fits q lead c.node.ensures c.node.auto.out c.in_ok-restriction.was, q.some, q.few, q.excluded)
+    let q = quantified a.words.now a.above a.scope a.at c.requires.1 a.every _ _ _ c.requires.0 c.value-v.ensures c.value-m.ensures refl in
+    (q.some, q.few, q.excluded)
 
-pub quantifier-put_either-sign-requires : goal.quantifier-put_either-sign-requires
-quantifier-put_either-sign-requires t c =
+pub quantifier-node-next-requires : goal.quantifier-node-next-requires
+quantifier-node-next-requires t c =
     let a = c.args in
-    let head = c.put_head-head in
-    let lead = behind-put (head_text a.every a.scope c.value-v.result (eqb c.value-m.result 0)) a.before head.result head.ensures head.auto.out in
-    let q = quantified a.words.now a.above a.scope a.at c.requires.2 a.every _ _ _ c.requires.1 c.value-v.ensures c.value-m.ensures refl in
-    tuples-fits q lead c.node.ensures c.node.auto.out c.in_ok-restriction.was
-    (λ t. behind-put _ _ c.put_tuples-excluded.result (c.put_tuples-excluded.ensures t) c.put_tuples-excluded.auto.out)
+    let q = quantified a.words.now a.above a.scope a.at c.requires.1 a.every _ _ _ c.requires.0 c.value-v.ensures c.value-m.ensures refl in
+    (omega (arith, here-low a.words.now a.above a.scope a.at c.requires.1, c.decreases), body-here q c.node.ensures c.in_ok-body.was)
 
-pub quantifier-node-body-requires : goal.quantifier-node-body-requires
-unfolding bytes
-quantifier-node-body-requires t c =
+pub quantifier-returns-in_err-body : goal.quantifier-returns-in_err-body
+quantifier-returns-in_err-body t c =
     let a = c.args in
-    let head = c.put_head-head in
-    let lead = behind-put (head_text a.every a.scope c.value-v.result (eqb c.value-m.result 0)) a.before head.result head.ensures head.auto.out in
-    let sign = behind-put (cond a.every (bytes "=>") (bytes "&")) c.put_tuples-excluded.result c.put_either-sign.result c.put_either-sign.ensures
-    c.put_either-sign.auto.out in
-    let q = quantified a.words.now a.above a.scope a.at c.requires.2 a.every _ _ _ c.requires.1 c.value-v.ensures c.value-m.ensures refl in (
-      omega (arith, here-low a.words.now a.above a.scope a.at c.requires.2, c.decreases),
-      (behind-fits sign, body-here q lead c.node.ensures c.node.auto.out c.in_ok-restriction.was),
-    )
-
-pub quantifier-close-requires : goal.quantifier-close-requires
-unfolding bytes
-quantifier-close-requires t c =
-    let a = c.args in
-    let head = c.put_head-head in
-    let lead = behind-put (head_text a.every a.scope c.value-v.result (eqb c.value-m.result 0)) a.before head.result head.ensures head.auto.out in
-    let sign = behind-put (cond a.every (bytes "=>") (bytes "&")) c.put_tuples-excluded.result c.put_either-sign.result c.put_either-sign.ensures
-    c.put_either-sign.auto.out in
-    let q = quantified a.words.now a.above a.scope a.at c.requires.2 a.every _ _ _ c.requires.1 c.value-v.ensures c.value-m.ensures refl in
-    body-fits q lead c.node.ensures c.node.auto.out c.in_ok-restriction.was
-    (λ t. behind-put _ _ c.put_tuples-excluded.result (c.put_tuples-excluded.ensures t) c.put_tuples-excluded.auto.out)
-    sign c.node-body.ensures c.node-body.auto.out
+    λ h.
+    rw c.from_residual.ensures
+    (quantifier-full (quantified a.words.now a.above a.scope a.at h a.every _ _ _ c.requires.0 c.value-v.ensures c.value-m.ensures refl)
+    c.node.ensures c.put_head.ensures c.in_err-body.was)
 
 pub quantifier-returns : goal.quantifier-returns
 unfolding bytes
 quantifier-returns t c =
     let a = c.args in
-    let head = c.put_head-head in
-    let lead = behind-put (head_text a.every a.scope c.value-v.result (eqb c.value-m.result 0)) a.before head.result head.ensures head.auto.out in
-    let sign = behind-put (cond a.every (bytes "=>") (bytes "&")) c.put_tuples-excluded.result c.put_either-sign.result c.put_either-sign.ensures
-    c.put_either-sign.auto.out in
     λ h.
-    quantifier-stands (quantified a.words.now a.above a.scope a.at h a.every _ _ _ c.requires.1 c.value-v.ensures c.value-m.ensures refl) lead
-    c.node.ensures c.node.auto.out c.in_ok-restriction.was
-    (λ t. behind-put _ _ c.put_tuples-excluded.result (c.put_tuples-excluded.ensures t) c.put_tuples-excluded.auto.out)
-    sign c.node-body.ensures c.node-body.auto.out c.close.ensures c.close.auto.out
+    quantifier-stands (quantified a.words.now a.above a.scope a.at h a.every _ _ _ c.requires.0 c.value-v.ensures c.value-m.ensures refl)
+    c.node.ensures c.in_ok-body.was c.put_head.ensures c.put_tuples.ensures c.either.ensures c.node-next.ensures c.bytes.ensures
 
-pub some-put_head-head-requires : goal.some-put_head-head-requires
-some-put_head-head-requires t c =
+pub some-put_head-requires : goal.some-put_head-requires
+some-put_head-requires t c =
     let a = c.args in
-    let x = something a.words.now a.above a.scope a.at c.requires.2 c.requires.1 in
-    (c.requires.0, omega arith, x.few)
+    let x = something a.words.now a.above a.scope a.at c.requires.1 c.requires.0 in
+    (omega arith, x.few)
 
 pub some-overflow_add-above : goal.some-overflow_add-above
 some-overflow_add-above t c =
     let a = c.args in
-    omega (arith, here-low a.words.now a.above a.scope a.at c.requires.2)
+    omega (arith, here-low a.words.now a.above a.scope a.at c.requires.1)
 
 pub some-overflow_add-scope : goal.some-overflow_add-scope
 some-overflow_add-scope t c =
     let a = c.args in
-    let x = something a.words.now a.above a.scope a.at c.requires.2 c.requires.1 in
+    let x = something a.words.now a.above a.scope a.at c.requires.1 c.requires.0 in
     omega (arith, x.few)
 
-pub some-node-restriction-requires : goal.some-node-restriction-requires
-some-node-restriction-requires t c =
+pub some-node-next-requires : goal.some-node-next-requires
+some-node-next-requires t c =
     let a = c.args in
-    let head = c.put_head-head in
-    let lead = behind-put (head_text false a.scope 1 true) a.before head.result head.ensures head.auto.out in
-    let x = something a.words.now a.above a.scope a.at c.requires.2 c.requires.1 in
-    (omega (arith, here-low a.words.now a.above a.scope a.at c.requires.2, c.decreases), (behind-fits lead, x.restricts))
-
-pub some-close-requires : goal.some-close-requires
-some-close-requires t c =
-    let a = c.args in
-    let head = c.put_head-head in
-    let lead = behind-put (head_text false a.scope 1 true) a.before head.result head.ensures head.auto.out in
-    let x = something a.words.now a.above a.scope a.at c.requires.2 c.requires.1 in
-    some_fits x lead c.node-restriction.ensures c.node-restriction.auto.out
+    let x = something a.words.now a.above a.scope a.at c.requires.1 c.requires.0 in
+    (omega (arith, here-low a.words.now a.above a.scope a.at c.requires.1, c.decreases), x.restricts)
 
 pub some-returns : goal.some-returns
+unfolding bytes
 some-returns t c =
     let a = c.args in
-    let head = c.put_head-head in
-    let lead = behind-put (head_text false a.scope 1 true) a.before head.result head.ensures head.auto.out in
-    λ h. some-stands (something a.words.now a.above a.scope a.at h c.requires.1) lead c.node-restriction.ensures
-    c.node-restriction.auto.out c.close.ensures c.close.auto.out
+    λ h. some-stands (something a.words.now a.above a.scope a.at h c.requires.0) c.put_head.ensures c.node-next.ensures c.bytes.ensures

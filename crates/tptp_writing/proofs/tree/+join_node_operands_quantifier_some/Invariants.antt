@@ -3,7 +3,7 @@
 -- `some` call `node` a level down. The loop of `operands`: the operands behind the first stand up to the one reached, whatever
 -- nodes they are.
 use Prim.Native.Nat.{◌*◌, ◌-◌}
-use Rattle.tptp_writing.specs.Printing.{PrintableAll, wrote}
+use Rattle.tptp_writing.specs.Printing.{PrintableAll}
 use Rattle.tptp_writing.proofs.PrintableLaws.{Headed}
 use Rattle.tptp_writing.proofs.WalkLaws.{More}
 use Rattle.tptp_writing.proofs.tree.+join_node_operands_quantifier_some.Given as goal
@@ -26,4 +26,4 @@ decreases-some l = 191 - 3 * l.above
 abbrev pub invariant-operands-loop : goal.invariant-operands-loop
 invariant-operands-loop l =
     (h : PrintableAll l.words l.above l.scope l.n l.at) (f : Headed l.words l.above l.scope l.n l.at h) →
-    More l.words l.above l.scope l.n l.at l.every h f l.counter (wrote l.initial.nodes) l.initial.out l.out l.nodes
+    More l.words l.above l.scope l.n l.at l.every h f l.counter l.initial.w l.w l.next
