@@ -7,6 +7,7 @@ ghost use Rattle.chains.specs.Key as K;
 
 use crate::key;
 use crate::key::Kind;
+use crate::row::Row;
 use model::ROW_WORDS;
 
 // Link the rows of each key of a kind, in row order: from the last row to the first, each is put in front of the chain of its key.
@@ -21,7 +22,7 @@ pub fn fill(kind: Kind, log: &[i32], keys: &mut [u16], links: &mut [u16])
     let rows = log.len() / ROW_WORDS;
     let heads = key::heads(kind);
     for row in (0..rows).rev() {
-        let key = key::of(kind, log, row);
+        let key = key::of(kind, Row { log, number: row });
         keys[row] = key as u16;
         links[heads + row] = links[key];
         links[key] = (rows - row) as u16;

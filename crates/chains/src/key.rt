@@ -1,8 +1,9 @@
 // The keys of rows: by atom, and of the true ones by predicate, alone and with their first argument.
-ghost use Rattle.std.specs.Prelude.{◌≡◌, ◌+◌, ◌*◌, ◌≤◌, ◌<◌, length};
+ghost use Rattle.std.specs.Prelude.{◌≡◌, ◌+◌, ◌≤◌, ◌<◌, length};
 ghost use Rattle.model.specs.Words as W;
 ghost use Rattle.chains.specs.Key as K;
 
+use crate::row::Row;
 use model::{ARGUMENTS_FROM, ROW_WORDS};
 
 // By what rows are chained: all of them by their atoms; the true ones by their predicates; the true ones by their predicates and
@@ -38,17 +39,17 @@ pub fn of_atom(predicate: usize, words: &[i32], at: usize) -> usize
 }
 
 // The predicate of a row that says true; 256 of any other row.
-fn of_true(log: &[i32], row: usize) -> usize
-    requires { 8 * row + 8 ≤ length log.now }
-    ensures { result ≡ K.true_key log.now row }
+fn of_true(row: Row<'_>) -> usize
+    ensures { result ≡ K.true_key row.entry.log.now row.entry.number }
 {
-    if !words::is(log, ROW_WORDS * row + 1, 1) {
+    let Row { log, number } = row;
+    if !words::is(log, ROW_WORDS * number + 1, 1) {
         return 256;
     }
-    if !words::below(log, ROW_WORDS * row, 256) {
+    if !words::below(log, ROW_WORDS * number, 256) {
         return 256;
     }
-    words::value(log, ROW_WORDS * row)
+    words::value(log, ROW_WORDS * number)
 }
 
 // The key of a predicate with the number at an index as its first argument.
@@ -62,33 +63,33 @@ pub fn of_first(predicate: usize, words: &[i32], at: usize) -> usize
 }
 
 // The key of a row that says true, by its predicate and its first argument; 4,096 of any other row.
-fn of_row(log: &[i32], row: usize) -> usize
-    requires { 8 * row + 8 ≤ length log.now }
-    ensures { result ≡ K.first_key log.now row }
+fn of_row(row: Row<'_>) -> usize
+    ensures { result ≡ K.first_key row.entry.log.now row.entry.number }
 {
-    if !words::is(log, ROW_WORDS * row + 1, 1) {
+    let Row { log, number } = row;
+    if !words::is(log, ROW_WORDS * number + 1, 1) {
         return 4096;
     }
     of_first(
-        words::value(log, ROW_WORDS * row),
+        words::value(log, ROW_WORDS * number),
         log,
-        ROW_WORDS * row + ARGUMENTS_FROM,
+        ROW_WORDS * number + ARGUMENTS_FROM,
     )
 }
 
 // The key of a row, of either kind. By a kind: `fill`, given a closure for it, would ask in each clause what is the contract here.
-pub fn of(kind: Kind, log: &[i32], row: usize) -> usize
-    requires { 8 * row + 8 ≤ length log.now }
-    ensures { result ≡ K.key_by kind log.now row }
+pub fn of(kind: Kind, row: Row<'_>) -> usize
+    ensures { result ≡ K.key_by kind row.entry.log.now row.entry.number }
 {
+    let Row { log, number } = row;
     match kind {
         Kind::Atom => of_atom(
-            words::value(log, ROW_WORDS * row),
+            words::value(log, ROW_WORDS * number),
             log,
-            ROW_WORDS * row + ARGUMENTS_FROM,
+            ROW_WORDS * number + ARGUMENTS_FROM,
         ),
-        Kind::Predicate => of_true(log, row),
-        Kind::First => of_row(log, row),
+        Kind::Predicate => of_true(row),
+        Kind::First => of_row(row),
     }
 }
 

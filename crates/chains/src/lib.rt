@@ -3,4 +3,5 @@
 
 pub mod chain;
 pub mod key;
+pub mod row;
 pub mod search;

@@ -8,27 +8,22 @@ ghost use Rattle.policies.specs.Standing.{terms_at};
 ghost use Rattle.environments.specs.Environment.{Holds};
 ghost use Rattle.matching.specs.Fitting.{Fitted};
 
+use chains::row::Row;
 use environments::environment::Environment;
 use environments::terms;
 use model::{ARGUMENTS_FROM, ROW_WORDS};
 use policies::terms::Terms;
 
 // The environment that the arguments of a row make, set against terms: None, where one of them is unequal. The row is left at the first.
-pub fn fit_row(
-    environment: Environment,
-    terms: Terms<'_>,
-    log: &[i32],
-    row: usize,
-) -> Option<Environment>
-    requires { 8 * row + 8 ≤ length log.now }
+pub fn fit_row(environment: Environment, terms: Terms<'_>, row: Row<'_>) -> Option<Environment>
     ensures { (e : M.Environment) →
         Holds environment e →
-        Fitted (M.fit (terms_at terms.entry.words.now terms.entry.first terms.entry.n) (arguments (row_at log.now row)) e) result }
+        Fitted (M.fit (terms_at terms.entry.words.now terms.entry.first terms.entry.n) (arguments (row_at row.entry.log.now row.entry.number)) e) result }
 {
     let mut bound = environment;
     for i in 0..terms.n {
         let at = terms.first + 2 * i;
-        let argument = log[ROW_WORDS * row + ARGUMENTS_FROM + i];
+        let argument = row.log[ROW_WORDS * row.number + ARGUMENTS_FROM + i];
         if words::is(terms.words, at, 0) {
             if terms::word(terms.words, at + 1) == argument {
                 continue;

@@ -11,6 +11,7 @@ ghost use Rattle.matching.specs.Rows.{Adds};
 
 use crate::fitting;
 use chains::key;
+use chains::row::Row;
 use environments::environment::Environment;
 use logs::links;
 use model::ROW_WORDS;
@@ -94,7 +95,7 @@ fn walk_rows(
         if !words::is(log, ROW_WORDS * row, predicate) {
             continue;
         }
-        let Some(next) = fitting::fit_row(environment, terms, log, row) else {
+        let Some(next) = fitting::fit_row(environment, terms, Row { log, number: row }) else {
             continue;
         };
         if left <= made {

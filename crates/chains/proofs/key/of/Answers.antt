@@ -15,5 +15,5 @@ pub returns-in-Atom : goal.returns-in-Atom
 unfolding row_key
 returns-in-Atom c =
     let a = c.args in
-    by_kind {other = Atom} a.log.now a.row _ c.in-Atom.is
-    (c.of_atom.ensures ∙ ap (λ (p : ℕ). atom_key p a.log.now (8 * a.row + 2)) c.value.ensures)
+    by_kind {other = Atom} a.row.log.now a.row.number _ c.in-Atom.is
+    (c.of_atom.ensures ∙ ap (λ (p : ℕ). atom_key p a.row.log.now (8 * a.row.number + 2)) c.value.ensures)

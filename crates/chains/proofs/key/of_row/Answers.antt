@@ -9,11 +9,11 @@ use Rattle.chains.proofs.key.of_row.Goals as goal
 pub returns-then-not-is : goal.returns-then-not-is
 returns-then-not-is c =
     let a = c.args in
-    first-not a.log.now a.row (sym c.is.ensures ∙ c.if-not-is.true)
+    first-not a.row.log.now a.row.number (sym c.is.ensures ∙ c.if-not-is.true)
 
 pub returns : goal.returns
 returns c =
     let a = c.args in
-    c.of_first.ensures ∙ ap (λ (p : ℕ). first_spread p (word a.log.now (8 * a.row + 2)))
-    c.value.ensures ∙ first-here a.log.now a.row
+    c.of_first.ensures ∙ ap (λ (p : ℕ). first_spread p (word a.row.log.now (8 * a.row.number + 2)))
+    c.value.ensures ∙ first-here a.row.log.now a.row.number
     (sym c.is.ensures ∙ c.if-not-is.false)

@@ -6,16 +6,16 @@ use Rattle.chains.proofs.key.of_true.Goals as goal
 pub returns-then-not-is : goal.returns-then-not-is
 returns-then-not-is c =
     let a = c.args in
-    true-not a.log.now a.row (sym c.is.ensures ∙ c.if-not-is.true)
+    true-not a.row.log.now a.row.number (sym c.is.ensures ∙ c.if-not-is.true)
 
 pub returns-then-not-below : goal.returns-then-not-below
 returns-then-not-below c =
     let a = c.args in
-    true-none a.log.now a.row (sym c.below.ensures ∙ c.if-not-below.true)
+    true-none a.row.log.now a.row.number (sym c.below.ensures ∙ c.if-not-below.true)
 
 pub returns : goal.returns
 returns c =
     c.value.ensures
-    ∙ true-here c.args.log.now c.args.row
+    ∙ true-here c.args.row.log.now c.args.row.number
     (sym c.is.ensures ∙ c.if-not-is.false)
     (sym c.below.ensures ∙ c.if-not-below.false)

@@ -4,4 +4,4 @@ use Rattle.matching.proofs.FitLaws.{Going}
 use Rattle.matching.proofs.fitting.fit_row.Given as goal
 
 abbrev pub invariant-loop-i : goal.invariant-loop-i
-invariant-loop-i l = Going l.terms.words.now l.terms.first l.terms.n l.log l.row l.initial.bound l.bound l.i
+invariant-loop-i l = Going l.terms.words.now l.terms.first l.terms.n l.row.log.now l.row.number l.initial.bound l.bound l.i

@@ -41,11 +41,11 @@ loop-link-preserved-then-not-is c =
           (found-not a.log.now a.predicate (terms_at a.terms.words.now a.terms.first a.terms.n) e _ (sym c.is.ensures ∙ c.if-not-is.true)),
     )
 
-pub fit_row-requires : goal.fit_row-requires
+pub invariant_of-fit_row : goal.invariant_of-fit_row
 unfolding row_count
-fit_row-requires c =
+invariant_of-fit_row c =
     let found = first-row c.loop-link.invariant.0 c.loop-link-test.true in
-    omega (arith, found.0.inside)
+    record { there = omega (arith, found.0.inside) }
 
 pub loop-link-smaller-in_default : goal.loop-link-smaller-in_default
 unfolding row_count
