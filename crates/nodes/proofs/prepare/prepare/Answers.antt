@@ -7,23 +7,28 @@ use lib.ListN.{length}
 use Rattle.model.specs.Level.{restriction}
 use Rattle.model.specs.Listing.{outer}
 use Rattle.policies.specs.Standing.{Here}
+use Rattle.policies.proofs.Standing.{low}
 use Rattle.nodes.proofs.Preparing.{room-asked, room-holds, prepare_short, prepare_inside, prepare_stood}
 use Rattle.nodes.proofs.prepare.prepare.Goals as goal
+
+pub invariant_of-depth-clause-levels : goal.invariant_of-depth-clause-levels
+invariant_of-depth-clause-levels c =
+    let a = c.args in
+    omega (arith, low a.log.now.table.now a.words.now restriction a.level (a.outer.now.scope + a.v) _ c.requires.2)
 
 pub list-requires : goal.list-requires
 list-requires c =
     let a = c.args in
-    let (ρ, o) = c.requires.4 in
     let here =
     subst
-    (λ (m : ℕ). Here a.log.now.table.now a.words.now restriction a.level (a.scope + a.v) (a.at + 3 + a.v * m))
-    (sym c.value-m.ensures) c.requires.3 in
+    (λ (m : ℕ). Here a.log.now.table.now a.words.now restriction a.level (a.outer.now.scope + a.v) (a.at + 3 + a.v * m))
+    (sym c.value-m.ensures) c.requires.2 in
     let places = length a.scratch.now / 17 in (
       here,
-      room-asked a.environment a.scope places a.scratch.now _ _ c.if-places-lt1.false (omega arith) c.room.ensures c.store.ensures c.requires.4,
+      room-asked a.outer.now.environment a.outer.now.scope places a.scratch.now _ _ c.if-places-lt1.false (omega arith) c.room.ensures c.store.ensures (_, a.outer.now.bound),
       (
-        outer ρ ∷ [],
-        room-holds a.environment a.scope places a.scratch.now _ _ c.if-places-lt1.false (omega arith) c.room.ensures c.store.ensures ρ o,
+        outer _ ∷ [],
+        room-holds a.outer.now.environment a.outer.now.scope places a.scratch.now _ _ c.if-places-lt1.false (omega arith) c.room.ensures c.store.ensures _ a.outer.now.bound,
       ),
     )
 
@@ -33,7 +38,7 @@ returns-in_err-to c =
     let places = length a.scratch.now / 17 in
     λ ρ d body o node.
     rw c.from_residual.ensures
-    (prepare_short a.environment a.scope places a.scratch.now _ _ c.if-places-lt1.false (omega arith) c.room.ensures c.store.ensures
+    (prepare_short a.outer.now.environment a.outer.now.scope places a.scratch.now _ _ c.if-places-lt1.false (omega arith) c.room.ensures c.store.ensures
     a.log.now.table.now a.words.now a.log.now.rows.now a.level a.v a.at _ c.value-m.ensures _ _ c.list.ensures c.in_err-to.was ρ d body o node)
 
 pub instances-count-requires : goal.instances-count-requires
@@ -41,16 +46,16 @@ instances-count-requires c =
     let a = c.args in
     let places = length a.scratch.now / 17 in
     let within =
-    prepare_inside a.environment a.scope places a.scratch.now _ _ c.if-places-lt1.false (omega arith) c.room.ensures c.store.ensures
-    a.log.now.table.now a.words.now a.log.now.rows.now a.level a.v a.at _ c.value-m.ensures _ _ c.list.ensures _ c.in_ok-to.was c.requires.4 c.requires.3 in
+    prepare_inside a.outer.now.environment a.outer.now.scope places a.scratch.now _ _ c.if-places-lt1.false (omega arith) c.room.ensures c.store.ensures
+    a.log.now.table.now a.words.now a.log.now.rows.now a.level a.v a.at _ c.value-m.ensures _ _ c.list.ensures _ c.in_ok-to.was (_, a.outer.now.bound) c.requires.2 in
     let long = c.list.auto.scratch in
     let longer = c.store.auto.scratch in
-    (c.requires.1, omega arith)
+    (c.requires.0, omega arith)
 
 pub returns : goal.returns
 returns c =
     let a = c.args in
     let places = length a.scratch.now / 17 in
-    prepare_stood a.environment a.scope places a.scratch.now _ _ c.if-places-lt1.false (omega arith) c.room.ensures c.store.ensures
-    a.log.now.table.now a.words.now a.log.now.rows.now a.level a.v a.at _ c.value-m.ensures _ _ c.list.ensures _ c.in_ok-to.was c.requires.1 _ _
+    prepare_stood a.outer.now.environment a.outer.now.scope places a.scratch.now _ _ c.if-places-lt1.false (omega arith) c.room.ensures c.store.ensures
+    a.log.now.table.now a.words.now a.log.now.rows.now a.level a.v a.at _ c.value-m.ensures _ _ c.list.ensures _ c.in_ok-to.was c.requires.0 _ _
     c.instances-count.ensures
