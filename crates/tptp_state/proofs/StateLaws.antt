@@ -126,17 +126,18 @@ told-asked (Err r) k marks q w g e = e
 
 -- the variable of a "some" is dropped
 pub dropped :
-    (s : State) (scope w : ℕ) {b : Bool} (m : Result (Unit {0}) Refused) (set : Marks) →
+    (s : State) (scope x w : ℕ) {b : Bool} (m : Result (Unit {0}) Refused) (set : Marks) →
     outcome m ≡ (outcome s.moded >>= λ _. ask b Mode w) →
-    b ≡ set_of s.set scope →
-    ((x : ℕ) → set_of set x ≡ (set_of s.set x && not (eqb x scope))) →
+    b ≡ set_of s.set x →
+    x ≡ scope →
+    ((y : ℕ) → set_of set y ≡ (set_of s.set y && not (eqb y scope))) →
     scope < 16 →
     Dropped scope w s (record { words = s.words; asked = s.asked; moded = m; set = set })
-dropped s scope w {b} m set e is without few = record {
+dropped s scope x w {b} m set e is same without few = record {
   words = refl;
   asked = refl;
   modes = λ h.
-      told-ask s.moded m s.set set b Mode w (λ inner. inner scope) (λ inner x. inner x && not (eqb x scope)) e is (fun_ext without);
+      told-ask s.moded m s.set set b Mode w (λ inner. inner scope) (λ inner y. inner y && not (eqb y scope)) e (is ∙ ap (set_of s.set) same) (fun_ext without);
   beyond = λ l. absurd (omega arith);
 }
 
