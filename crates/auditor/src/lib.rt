@@ -75,6 +75,7 @@ pub fn read_log(table: &[i32], text: &[u8], buffer: &mut [i32]) -> Answer
 }
 
 // Write a log as comma-separated text: questions 1, 8 to 10 and 12. Accepted, the count is the number of bytes.
+// This call and the two below are of one form: a function for all three would take a closure, and a contract more than it spares.
 pub fn write_log(table: &[i32], log: &[i32], buffer: &mut [u8]) -> Answer
     ensures answers_as { AnswersAs (C.write_log_call table.now log.now (length buffer.old)).answer result }
     ensures buffer_after { buffer.new ≡ (C.write_log_call table.now log.now (length buffer.old)).buffer }

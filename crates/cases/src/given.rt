@@ -1,6 +1,6 @@
-ghost use Rattle.std.specs.Prelude.{◌≡◌, ◌≤◌, ◌↔◌, [], IfOk, IfSome, IsSome, All};
+ghost use Rattle.std.specs.Prelude.{◌≡◌, ◌≤◌, [], IfOk, IfSome};
 ghost use Rattle.cases.specs.declared.given.TheConstants.{MOST};
-ghost use Rattle.cases.specs.Given.{HasLength};
+ghost use Rattle.cases.specs.Given as G;
 
 use anyhow::{Context, Result, ensure};
 use std::alloc::Global;
@@ -42,7 +42,7 @@ impl Given {
 
 // The length that the text begins with, if its mark stands there.
 fn announced(text: &str) -> Result<Option<usize>>
-    ensures asked { IfOk result (λ found. IsSome found ↔ HasLength text.now) }
+    ensures asked { IfOk result (G.Announced text.now) }
     ensures most { IfOk result (λ found. IfSome found (λ n. n ≤ MOST)) }
 {
     let Some(behind) = text.strip_prefix(MARK) else {
@@ -58,20 +58,28 @@ fn announced(text: &str) -> Result<Option<usize>>
 
 // The numbers that the text begins with, over as many lines as they take; or, if it begins with a length, so many of the filler.
 pub fn words(alloc: Global, text: &str, filler: i32) -> Result<Vec<i32>>
-    ensures filled { IfOk result (λ words. HasLength text.now → All (λ word. word ≡ filler) words.items) }
+    ensures { IfOk result (λ words. G.WordsOf text.now filler words.items) }
 {
     if let Some(n) = announced(text)? {
         return Ok(vec![in alloc; filler; n]?);
     }
-    Ok(
-        text.split_whitespace()
-            .map_while(|word| word.parse().ok())
-            .collect(alloc)?,
-    )
+    let mut words = Vec::new(alloc);
+    for word in text.split_whitespace() {
+        let Ok(number) = word.parse() else {
+            return Ok(words);
+        };
+        words.push(number)?;
+    }
+    Ok(words)
 }
 
-// What a byte means behind a backslash.
-fn meant(b: u8) -> u8 {
+// What a byte means, behind a backslash or behind none.
+fn meant(escaped: bool, b: u8) -> u8
+    ensures { result ≡ G.meant escaped b }
+{
+    if !escaped {
+        return b;
+    }
     match b {
         b'r' => b'\r',
         b'n' => b'\n',
@@ -83,19 +91,23 @@ fn meant(b: u8) -> u8 {
 // The first line of the text, where a backslash and the byte behind it are the byte that they mean; or, if it begins with a length,
 // so many bytes 7.
 pub fn bytes(alloc: Global, text: &str) -> Result<Vec<u8>>
-    ensures filled { IfOk result (λ bytes. HasLength text.now → All (λ b. b ≡ 7) bytes.items) }
+    ensures { IfOk result (λ bytes. G.BytesOf text.now bytes.items) }
 {
     if let Some(n) = announced(text)? {
         return Ok(vec![in alloc; 7; n]?);
     }
-    let (line, _) = text.split_once('\n').unwrap_or((text, ""));
     let mut out = Vec::new(alloc);
     let mut escaped = false;
-    for b in line.bytes() {
-        if b != b'\\' {
-            out.push(if escaped { meant(b) } else { b })?;
+    for b in text.bytes() {
+        if b == b'\n' {
+            return Ok(out);
         }
-        escaped = b == b'\\';
+        if b == b'\\' {
+            escaped = true;
+            continue;
+        }
+        out.push(meant(escaped, b))?;
+        escaped = false;
     }
     Ok(out)
 }

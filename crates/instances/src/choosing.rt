@@ -5,7 +5,9 @@ ghost use Rattle.environments.specs.Listed.{spaced};
 ghost use Rattle.instances.specs.Keyed.{serves};
 ghost use Rattle.instances.specs.Instances.{Chosen};
 
+use crate::excluded::Excluded;
 use crate::seen;
+use crate::seen::Keys;
 use environments::environment::Environment;
 use environments::lists::copy_place;
 use words::equal_words;
@@ -20,18 +22,16 @@ fn stands(a: &[i32], at: usize, b: &[i32], from: usize, step: usize, m: usize, v
 
 // The instances, each tuple compared with all that were seen before it.
 fn by_pairs(
-    words: &[i32],
-    from: usize,
-    m: usize,
-    v: usize,
+    excluded: Excluded<'_>,
     scope: usize,
     scratch: &mut [i32],
     first: usize,
     count: usize,
 ) -> usize
-    requires { (scope + v ≤ 16) × (17 * (first + count) ≤ length scratch.old) × (from + v * m ≤ length words.now) }
-    ensures { Chosen words.now from m v scope scratch.old scratch.new first count result }
+    requires { (scope + excluded.v ≤ 16) × (17 * (first + count) ≤ length scratch.old) }
+    ensures { Chosen excluded.entry.words.now excluded.entry.from excluded.entry.m excluded.entry.v scope scratch.old scratch.new first count result }
 {
+    let Excluded { words, from, m, v } = excluded;
     let start = Environment::WORDS * first + scope;
     let mut found = 0;
     for i in 0..count {
@@ -50,41 +50,34 @@ fn by_pairs(
 }
 
 // The instances, each tuple looked for by its key among those seen before it, in a table that is empty at first.
+// Two functions: the loops differ in what tells a tuple seen, and in what becomes of one that is new.
 fn choose(
-    words: &[i32],
-    from: usize,
-    m: usize,
-    v: usize,
+    excluded: Excluded<'_>,
     scope: usize,
     scratch: &mut [i32],
     first: usize,
     count: usize,
-    heads: &mut [u16],
-    links: &mut [u16],
+    keys: &mut Keys,
 ) -> usize
-    requires { (scope + v ≤ 16)
+    requires { (scope + excluded.v ≤ 16)
         × (17 * (first + count) ≤ length scratch.old)
-        × (from + v * m ≤ length words.now)
-        × (m + count ≤ 8192)
-        × (heads.old ≡ replicate 8192 0)
-        × (length links.old ≡ 8192) }
-    ensures { Chosen words.now from m v scope scratch.old scratch.new first count result }
+        × (excluded.m + count ≤ 8192)
+        × (keys.old.heads ≡ replicate 8192 0) }
+    ensures { Chosen excluded.entry.words.now excluded.entry.from excluded.entry.m excluded.entry.v scope scratch.old scratch.new first count result }
 {
-    seen::enter_excluded(words, from, m, v, heads, links);
+    keys.enter_excluded(excluded);
     let start = Environment::WORDS * first + scope;
     let mut found = 0;
     for i in 0..count {
         let place = first + i;
         let target = first + found;
-        let entry = m + found;
+        let entry = excluded.m + found;
         let at = Environment::WORDS * place + scope;
-        let key = seen::key(scratch, at, v);
-        if seen::seen(
-            words, from, m, v, scratch, start, entry, at, key, heads, links,
-        ) {
+        let key = seen::key(scratch, at, excluded.v);
+        if keys.seen(excluded, scratch, start, entry, at, key) {
             continue;
         }
-        seen::enter(heads, links, key, entry);
+        keys.enter(key, entry);
         copy_place(scratch, place, target);
         found += 1;
     }
@@ -93,24 +86,20 @@ fn choose(
 
 // The instances by key. The table, of 32 KiB, is made here and only here.
 fn by_key(
-    words: &[i32],
-    from: usize,
-    m: usize,
-    v: usize,
+    excluded: Excluded<'_>,
     scope: usize,
     scratch: &mut [i32],
     first: usize,
     count: usize,
 ) -> usize
-    requires { (scope + v ≤ 16) × (17 * (first + count) ≤ length scratch.old) × (from + v * m ≤ length words.now) × (m + count ≤ 8192) }
-    ensures { Chosen words.now from m v scope scratch.old scratch.new first count result }
+    requires { (scope + excluded.v ≤ 16) × (17 * (first + count) ≤ length scratch.old) × (excluded.m + count ≤ 8192) }
+    ensures { Chosen excluded.entry.words.now excluded.entry.from excluded.entry.m excluded.entry.v scope scratch.old scratch.new first count result }
 {
-    // Two arrays with links from one to the other, since no call takes memory: a map would.
-    let mut heads = [0; 8192];
-    let mut links = [0; 8192];
-    choose(
-        words, from, m, v, scope, scratch, first, count, &mut heads, &mut links,
-    )
+    let mut keys = Keys {
+        heads: [0; 8192],
+        links: [0; 8192],
+    };
+    choose(excluded, scope, scratch, first, count, &mut keys)
 }
 
 // Whether m excluded and `count` listed tuples are enough to make a table for, and not more than it has room for.
@@ -122,22 +111,19 @@ fn table_serves(m: usize, count: usize) -> bool
 }
 
 // Of the `count` places from `first` on those of the instances go to the front, and their number is given: the tuples of the
-// v variables from `scope` on that are not among the m excluded ones, each once.
+// v variables from `scope` on that are not among the excluded ones, each once.
 pub fn instances(
-    words: &[i32],
-    from: usize,
-    m: usize,
-    v: usize,
+    excluded: Excluded<'_>,
     scope: usize,
     scratch: &mut [i32],
     first: usize,
     count: usize,
 ) -> usize
-    requires { (scope + v ≤ 16) × (17 * (first + count) ≤ length scratch.old) × (from + v * m ≤ length words.now) }
-    ensures { Chosen words.now from m v scope scratch.old scratch.new first count result }
+    requires { (scope + excluded.v ≤ 16) × (17 * (first + count) ≤ length scratch.old) }
+    ensures { Chosen excluded.entry.words.now excluded.entry.from excluded.entry.m excluded.entry.v scope scratch.old scratch.new first count result }
 {
-    if table_serves(m, count) {
-        return by_key(words, from, m, v, scope, scratch, first, count);
+    if table_serves(excluded.m, count) {
+        return by_key(excluded, scope, scratch, first, count);
     }
-    by_pairs(words, from, m, v, scope, scratch, first, count)
+    by_pairs(excluded, scope, scratch, first, count)
 }

@@ -3,4 +3,5 @@
 
 pub mod choosing;
 pub mod closing;
+pub mod excluded;
 pub mod seen;

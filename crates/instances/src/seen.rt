@@ -1,10 +1,10 @@
 // The tuples seen in the search for instances, found by key: the excluded ones are the first entries of a table, and the instances
-// found those behind them. A head is 1 more than the last entry of its key, a link 1 more than the entry before with the same key;
-// 0 is the end of a chain.
+// found those behind them.
 ghost use Rattle.std.specs.Prelude.{◌≡◌, ◌+◌, ◌*◌, ◌-◌, ◌≤◌, ◌<◌, length, get_or, set, take, drop, replicate};
 ghost use Rattle.model.specs.Words.{equal_all};
 ghost use Rattle.instances.specs.Keyed.{key_of, entry_at, among_first, Keyed};
 
+use crate::excluded::Excluded;
 use environments::environment::Environment;
 use words::equal_words;
 
@@ -21,96 +21,84 @@ pub fn key(words: &[i32], at: usize, v: usize) -> usize
     sum / 524288 % 8192
 }
 
-// An entry is put in front of the chain of its key.
-pub fn enter(heads: &mut [u16], links: &mut [u16], key: usize, entry: usize)
-    requires { (key < length heads.old) × (entry < length links.old) × (entry < 65535) }
-    ensures heads_after { heads.new ≡ set heads.old key (entry + 1) }
-    ensures links_after { links.new ≡ set links.old entry (get_or heads.old key 0) }
-{
-    links[entry] = heads[key];
-    heads[key] = (entry + 1) as u16;
+// A table of entries by their keys. A head is 1 more than the last entry of its key, a link 1 more than the entry before with the same
+// key; 0 is the end of a chain. Two arrays, since no call takes memory: a map would.
+#[derive(Drop)]
+pub struct Keys {
+    pub heads: [u16; 8192],
+    pub links: [u16; 8192],
 }
 
-// The m excluded tuples are entered in an empty table.
-pub fn enter_excluded(
-    words: &[i32],
-    from: usize,
-    m: usize,
-    v: usize,
-    heads: &mut [u16],
-    links: &mut [u16],
-)
-    requires { (from + v * m ≤ length words.now)
-        × (m ≤ 8192)
-        × (heads.old ≡ replicate 8192 0)
-        × (length links.old ≡ 8192) }
-    ensures { Keyed (λ e. take v (drop (from + v * e) words.now)) m heads.new links.new }
-{
-    for e in 0..m {
-        let at = from + v * e;
-        let k = key(words, at, v);
-        enter(heads, links, k, e);
+impl Keys {
+    // An entry is put in front of the chain of its key.
+    pub fn enter(&mut self, key: usize, entry: usize)
+        requires { (key < 8192) × (entry < 8192) }
+        ensures heads { self.new.heads ≡ set self.old.heads key (entry + 1) }
+        ensures links { self.new.links ≡ set self.old.links entry (get_or self.old.heads key 0) }
+    {
+        self.links[entry] = self.heads[key];
+        self.heads[key] = (entry + 1) as u16;
+    }
+
+    // The excluded tuples are entered in an empty table.
+    pub fn enter_excluded(&mut self, excluded: Excluded<'_>)
+        requires { (excluded.m ≤ 8192) × (self.old.heads ≡ replicate 8192 0) }
+        ensures { Keyed (λ e. take excluded.entry.v (drop (excluded.entry.from + excluded.entry.v * e) excluded.entry.words.now)) excluded.entry.m self.new.heads self.new.links }
+    {
+        for e in 0..excluded.m {
+            let at = excluded.from + excluded.v * e;
+            let k = key(excluded.words, at, excluded.v);
+            self.enter(k, e);
+        }
+    }
+
+    // Whether the tuple at an index of scratch, whose key is given, is one of the excluded ones or of the instances found: n entries.
+    pub fn seen(
+        &self,
+        excluded: Excluded<'_>,
+        scratch: &[i32],
+        start: usize,
+        n: usize,
+        at: usize,
+        key: usize,
+    ) -> bool
+        requires { (at + excluded.v ≤ length scratch.now)
+            × (start + 17 * (n - excluded.m) + excluded.v ≤ length scratch.now + 17)
+            × (n ≤ 8192)
+            × (key ≡ key_of (take excluded.v (drop at scratch.now)))
+            × Keyed (entry_at excluded.words.now excluded.from excluded.m excluded.v scratch.now start) n self.now.heads self.now.links }
+        ensures { result
+            ≡ among_first (entry_at excluded.entry.words.now excluded.entry.from excluded.entry.m excluded.entry.v scratch.now start) (take excluded.entry.v (drop at scratch.now)) n }
+    {
+        let mut link = self.heads[key] as usize;
+        // By hand: a chain is followed from link to link.
+        while 0 < link {
+            let e = link - 1;
+            if equal_entry(excluded, scratch, start, e, at) {
+                return true;
+            }
+            link = self.links[e] as usize;
+        }
+        false
     }
 }
 
 // Whether the tuple at an index of scratch is that of an entry.
-fn equal_entry(
-    words: &[i32],
-    from: usize,
-    m: usize,
-    v: usize,
-    scratch: &[i32],
-    start: usize,
-    e: usize,
-    at: usize,
-) -> bool
-    requires { (at + v ≤ length scratch.now)
-        × (e < m → from + v * e + v ≤ length words.now)
-        × (m ≤ e → start + 17 * (e - m) + v ≤ length scratch.now) }
-    ensures { result ≡ equal_all (take v (drop at scratch.now)) (entry_at words.now from m v scratch.now start e) }
+fn equal_entry(excluded: Excluded<'_>, scratch: &[i32], start: usize, e: usize, at: usize) -> bool
+    requires { (at + excluded.v ≤ length scratch.now)
+        × (excluded.m ≤ e → start + 17 * (e - excluded.m) + excluded.v ≤ length scratch.now) }
+    ensures { result
+        ≡ equal_all (take excluded.entry.v (drop at scratch.now)) (entry_at excluded.entry.words.now excluded.entry.from excluded.entry.m excluded.entry.v scratch.now start e) }
 {
-    if e < m {
-        return equal_words(scratch, at, words, from + v * e, v);
+    let v = excluded.v;
+    if e < excluded.m {
+        return equal_words(scratch, at, excluded.words, excluded.from + v * e, v);
     }
     equal_words(
         scratch,
         at,
         scratch,
-        start + Environment::WORDS * (e - m),
+        start + Environment::WORDS * (e - excluded.m),
         v,
     )
-}
-
-// Whether the tuple at an index of scratch, whose key is given, is one of the m excluded ones or of the instances found: n entries.
-pub fn seen(
-    words: &[i32],
-    from: usize,
-    m: usize,
-    v: usize,
-    scratch: &[i32],
-    start: usize,
-    n: usize,
-    at: usize,
-    key: usize,
-    heads: &[u16],
-    links: &[u16],
-) -> bool
-    requires { (at + v ≤ length scratch.now)
-        × (from + v * m ≤ length words.now)
-        × (start + 17 * (n - m) + v ≤ length scratch.now + 17)
-        × (n ≤ 8192)
-        × (key ≡ key_of (take v (drop at scratch.now)))
-        × Keyed (entry_at words.now from m v scratch.now start) n heads.now links.now }
-    ensures { result ≡ among_first (entry_at words.now from m v scratch.now start) (take v (drop at scratch.now)) n }
-{
-    let mut link = heads[key] as usize;
-    // By hand: a chain is followed from link to link.
-    while 0 < link {
-        let e = link - 1;
-        if equal_entry(words, from, m, v, scratch, start, e, at) {
-            return true;
-        }
-        link = links[e] as usize;
-    }
-    false
 }

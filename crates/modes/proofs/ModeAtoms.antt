@@ -16,6 +16,7 @@ use Rattle.policies.specs.Standing.{terms_at}
 use Rattle.modes.specs.Mode.{set_of, with_terms, Binds}
 use Rattle.std.specs.Prelude.{Result, Ok, Err}
 use Rattle.model.specs.declared.Refused.{Refused}
+use Rattle.modes.specs.declared.marks.Marks.{Marks}
 use Rattle.modes.specs.declared.mode.Bound.{Bound}
 use Rattle.policies.proofs.Standing.{AtomWords, atom-words, compare-words}
 use Rattle.modes.proofs.ModeTerms.{and-true}
@@ -51,7 +52,7 @@ module _ (table : Words) (b : Variables) (scope at : ℕ) where
   compare-yes v d x y e = rw (sym (both_of x y) ∙ e)
 
 -- what comes of an atom: pn and nn are the predicate and the number of terms that were read
-module _ (table words : Words) (marks : List Bool) (sixteen : length marks ≡ 16) (at pn nn : ℕ)
+module _ (table words : Words) (marks : Marks) (at pn nn : ℕ)
     (read-p : pn ≡ value words (at + 1)) (read-n : nn ≡ value words (at + 2)) (holds : Bool) where
   -- the terms read are the atom's
   read-terms :
@@ -81,14 +82,14 @@ module _ (table words : Words) (marks : List Bool) (sixteen : length marks ≡ 1
   pub atom_inputs_yes :
       holds ≡ true →
       inputs_bound table pn (set_of marks) 0 (terms_at words (at + 3) nn) ≡ true →
-      (set : List Bool) → length set ≡ 16 →
+      (set : Marks) →
       set_of set ≡ with_terms (set_of marks) (terms_at words (at + 3) nn) →
       After (Ok (record { set = set; next = at + 3 + 2 * nn }))
-  atom_inputs_yes h e set l s p ts scope next a =
+  atom_inputs_yes h e set s p ts scope next a =
       let (ep, et, en) = read-terms p ts next (atom-words words scope at next p ts a) in
       record {
         outcome = ap passed (s ∙ ap (with_terms (set_of marks)) et) ∙ sym (rw h (holds-yes table (set_of marks) scope at p ts (rw (ep, et) at e)));
-        stands = (l, en);
+        stands = en;
       }
 
   pub atom-all-no : holds ≡ false → all (is_bound (set_of marks)) (terms_at words (at + 3) nn) ≡ false → After (Err (refused_at Mode at))
@@ -104,11 +105,11 @@ module _ (table words : Words) (marks : List Bool) (sixteen : length marks ≡ 1
       let (ep, et, en) = read-terms p ts next (atom-words words scope at next p ts a) in
       record {
         outcome = sym (rw h (fails_yes table (set_of marks) scope at p ts (rw et at e)));
-        stands = (sixteen, en);
+        stands = en;
       }
 
 -- what comes of a comparison
-module _ (words : Words) (marks : List Bool) (sixteen : length marks ≡ 16) (at : ℕ) where
+module _ (words : Words) (marks : Marks) (at : ℕ) where
   abbrev AfterCompare : Result Bound Refused → Type 0
   AfterCompare r =
       (table : Words) (b : Bool) (d : ℤ) (x y : Term) (scope next : ℕ) →
@@ -126,5 +127,5 @@ module _ (words : Words) (marks : List Bool) (sixteen : length marks ≡ 16) (at
   compare-all-yes e table b d x y scope next a =
       record {
         outcome = sym (compare-yes table (set_of marks) scope at b d x y (rw (compare-words words scope at next d x y a) at e));
-        stands = (sixteen, sym a.ends);
+        stands = sym a.ends;
       }

@@ -19,6 +19,7 @@ use Rattle.laws.specs.Reading.Nodes.{Node, Nodes}
 use Rattle.laws.specs.Reading.Parts.{first-parts, rest-parts}
 use Rattle.std.specs.Prelude.{Result, Ok, Err}
 use Rattle.model.specs.declared.Refused.{Refused}
+use Rattle.modes.specs.declared.marks.Marks.{Marks}
 use Rattle.modes.specs.declared.mode.Bound.{Bound}
 use Rattle.policies.specs.Standing.{Here, HereAll}
 use Rattle.modes.proofs.ModeLoops.{standing}
@@ -163,7 +164,7 @@ module _ (c f : Tree) (table : Words) (scope v at first : ℕ) where
     both-binds h = rw (e, h)
 
 -- what comes of a quantifier: r is what a walk of its restriction came to, from the outer variables
-module _ (table words : Words) (level scope v at first : ℕ) (outer : List Bool)
+module _ (table words : Words) (level scope v at first : ℕ) (outer : Marks)
     (outside : (x : ℕ) → set_of outer x ≡ ltb x scope)
     (r : Result Bound Refused)
     (came :
@@ -202,7 +203,7 @@ module _ (table words : Words) (level scope v at first : ℕ) (outer : List Bool
         (c f : Tree) (next : ℕ) → Both table words level (scope + v) first c f next →
         Node table words formula level (scope + v) m.next f next
     body-there c f next parts =
-        subst (λ (k : ℕ). Node table words formula level (scope + v) k f next) (sym (standing (came c _ parts.restricts) e).1)
+        subst (λ (k : ℕ). Node table words formula level (scope + v) k f next) (sym (standing (came c _ parts.restricts) e))
         parts.body
 
     pub body-here : HereBoth table words level (scope + v) first → Here table words formula level (scope + v) m.next
@@ -213,5 +214,5 @@ module _ (table words : Words) (level scope v at first : ℕ) (outer : List Bool
     body-asked h s asks c f next parts =
         asks f next (body-there c f next parts)
         ∙ ap (λ (o : Outcome (Unit {0})). told_modes o next)
-        (ap (ask_modes f table (scope + v)) (standing (came c _ parts.restricts) e).1
+        (ap (ask_modes f table (scope + v)) (standing (came c _ parts.restricts) e)
         ∙ sym (both-binds c f table scope v at first (set_of m.set) (binds c _ parts.restricts) h))

@@ -9,13 +9,13 @@ use lib.ListN.{length, set, length-set, replicate, length-replicate, get_or-repl
 use lib.Dec.{ltb, eqb}
 use borrow.Author.Tests.{ltb-true, ltb-false, eqb-true, eqb-false, lt-ltb, le-ltb}
 use Rattle.laws.specs.Words.Tests.{decide}
-use Rattle.modes.specs.Mode.{set_of}
+use Rattle.modes.specs.Mode.{marked}
 use Rattle.modes.proofs.ModeTerms.{set_marked}
 
 -- sixteen marks, those below i set
 pub record Marked (marks : List Bool) (i : ℕ) : Type 0 where
   pub sixteen : length marks ≡ 16
-  pub below : (x : ℕ) → set_of marks x ≡ ltb x i
+  pub below : (x : ℕ) → marked marks x ≡ ltb x i
 
 pub marked_none : Marked (replicate 16 false) 0
 marked_none =

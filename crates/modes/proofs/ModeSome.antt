@@ -1,9 +1,8 @@
 -- The mode rule at a "some": what comes of its child, and what of the node.
 use Prim.Native.Nat.{ℕ, ◌+◌, ◌<◌}
-use native.Mathlib.Omega.{arith}
 use mathlib.Core.Path.{◌≡◌, refl, sym, ap, ◌∙◌, fun_ext}
-use mathlib.Core.Bool.{true, false}
-use lib.ListN.{set, length-set}
+use mathlib.Core.Bool.{true, false, not, ◌&&◌}
+use lib.Dec.{eqb}
 use Rattle.model.specs.declared.Refusal.{Refusal}
 use Rattle.model.specs.declared.Refusal.TheVariants.{Mode}
 use Rattle.model.specs.Words.{Words}
@@ -14,10 +13,10 @@ use Rattle.model.specs.Mode.{Variables, bindings}
 use Rattle.laws.specs.Reading.Nodes.{Node}
 use Rattle.std.specs.Prelude.{Result, Ok, Err}
 use Rattle.model.specs.declared.Refused.{Refused}
+use Rattle.modes.specs.declared.marks.Marks.{Marks}
 use Rattle.modes.specs.declared.mode.Bound.{Bound}
 use Rattle.modes.specs.Mode.{set_of, told, Binds}
 use Rattle.modes.proofs.ModeLoops.{standing, Child}
-use Rattle.modes.proofs.ModeTerms.{set_dropped}
 
 module _ (table words : Words) (above scope at : ℕ) (v : Variables) (r : Result Bound Refused) (child : Child table words (above + 1) (scope + 1) (at + 1) v r) where
   abbrev Comes : Result Bound Refused → Type 0
@@ -45,15 +44,16 @@ module _ (table words : Words) (above scope at : ℕ) (v : Variables) (r : Resul
         stands = tt;
       }
 
-  -- the child passed and bound it
+  -- the child passed and bound it: z is its set without the variable
   pub some-bound :
-      {m : Bound} → r ≡ Ok m → set_of m.set scope ≡ true → scope < 16 →
-      Comes (Ok (record { set = set m.set scope false; next = m.next }))
+      {m : Bound} → r ≡ Ok m → set_of m.set scope ≡ true →
+      {z : Marks} → ((x : ℕ) → set_of z x ≡ (set_of m.set x && not (eqb x scope))) →
+      Comes (Ok (record { set = z; next = m.next }))
   unfolding bindings ◌>>=◌ ask
-  some-bound {m} e is small c next node =
+  some-bound {m} e is {z} dropped c next node =
       let came = child c next node in
       let out : bindings c table v (scope + 1) (at + 1) ≡ passed (set_of m.set) = sym came.outcome ∙ ap told e in
       record {
-        outcome = sym (rw out (rw is (ap passed (fun_ext (λ x. sym (set_dropped m.set scope x (omega (arith, (standing came e).0))))))));
-        stands = (length-set m.set scope false ∙ (standing came e).0, (standing came e).1);
+        outcome = sym (rw out (rw is (ap passed (fun_ext (λ x. sym (dropped x))))));
+        stands = standing came e;
       }

@@ -22,7 +22,7 @@ use Rattle.laws.specs.Lists.Membership.{all_map}
 use Rattle.std.specs.List.{list_all, range_with_len}
 use Rattle.policies.specs.Standing.{terms_at}
 use Rattle.policies.proofs.NodeTerms.{all_places}
-use Rattle.modes.specs.Mode.{set_of, with_terms}
+use Rattle.modes.specs.Mode.{marked, with_terms}
 
 -- the term at an index
 module _ (words : Words) (i : ℕ) where
@@ -94,7 +94,7 @@ with_constant b k ts = refl
 pub with_variable :
     (marks : List Bool) (v : ℕ) (ts : List Term) →
     v < length marks →
-    with_terms (set_of marks) (variable v ∷ ts) ≡ with_terms (set_of (set marks v true)) ts
+    with_terms (marked marks) (variable v ∷ ts) ≡ with_terms (marked (set marks v true)) ts
 unfolding with_terms any is_variable
 with_variable marks v ts h =
     fun_ext (λ x.
@@ -170,7 +170,7 @@ joining-keep a b marks i e j =
       left = λ x k. j.left x (omega arith);
     }
 
-pub joining_end : (a b marks : List Bool) (i : ℕ) → 16 ≤ i → length a ≡ 16 → Joining a b marks i → (x : ℕ) → set_of marks x ≡ (set_of a x && set_of b x)
+pub joining_end : (a b marks : List Bool) (i : ℕ) → 16 ≤ i → length a ≡ 16 → Joining a b marks i → (x : ℕ) → marked marks x ≡ (marked a x && marked b x)
 joining_end a b marks i h l j x =
     ⊎_elim
     (λ q. j.done x (ltb-true x i q))

@@ -8,7 +8,7 @@ use lib.ListN.{length}
 use lib.IntN.{ℤ, nat_abs}
 use Rattle.model.specs.Words.{Words, word, value}
 use Rattle.model.specs.Tag.{Tag, tag_of}
-use Rattle.model.specs.Tree.{Term, Tree, Trees, atom, compare, some, count}
+use Rattle.model.specs.Tree.{Term, Tree, Trees, atom, compare, join, some, count}
 use Rattle.model.specs.Level.{restriction, under}
 use Rattle.model.specs.Reading.{is_formula}
 use Rattle.model.specs.Mode.{Variables, bindings}
@@ -18,9 +18,10 @@ use Rattle.laws.specs.Reading.Parts.{AtomParts, CompareParts, atom-parts, compar
 use Rattle.laws.specs.Reading.Parts.{plain-parts}
 use Rattle.std.specs.Prelude.{Result, Ok}
 use Rattle.model.specs.declared.Refused.{Refused}
+use Rattle.modes.specs.declared.marks.Marks.{Marks}
 use Rattle.modes.specs.declared.mode.Bound.{Bound}
 use Rattle.policies.proofs.Standing.{has}
-use Rattle.modes.specs.Mode.{set_of, Binds, BindsAll, BindsAny}
+use Rattle.modes.specs.Mode.{set_of, Binds, BindsJoin}
 
 -- the tags that the walk of a restriction has no case for
 abbrev pub Other : (tag : Tag) → Type 0
@@ -59,25 +60,19 @@ module _ (table words : Words) (above scope at : ℕ) where
         subst (λ (t : Tree). Binds t table v scope at next r) (sym is)
         (h table b d x y scope next (compare-parts table words restriction above scope at next b d x y (subst (λ (t : Tree). Restricts t next) is node)))
 
-    pub from_all :
-        Tag.join true ≡ tag_of (word words at) →
-        ((ts : Trees) (next : ℕ) → Nodes table words restriction (above + 1) scope (at + 2) ts next → count ts ≡ value words (at + 1) → BindsAll ts table v scope (at + 2) next r) →
+    pub from-join :
+        (b : Bool) → Tag.join b ≡ tag_of (word words at) →
+        ((ts : Trees) (next : ℕ) → Nodes table words restriction (above + 1) scope (at + 2) ts next → count ts ≡ value words (at + 1) → BindsJoin b ts table v scope (at + 2) next r) →
         Comes
-    unfolding value bindings under
-    from_all e h c next node =
-        let (ts, is) = has table words restriction above scope at (Tag.join true) e c next node in
-        let a = join-parts table words restriction above scope at next true ts (subst (λ (t : Tree). Restricts t next) is node) in
-        subst (λ (t : Tree). Binds t table v scope at next r) (sym is) (h ts next a.children (sym (ap nat_abs a.number)))
-
-    pub from-any :
-        Tag.join false ≡ tag_of (word words at) →
-        ((ts : Trees) (next : ℕ) → Nodes table words restriction (above + 1) scope (at + 2) ts next → count ts ≡ value words (at + 1) → BindsAny ts table v scope (at + 2) next r) →
-        Comes
-    unfolding value bindings under
-    from-any e h c next node =
-        let (ts, is) = has table words restriction above scope at (Tag.join false) e c next node in
-        let a = join-parts table words restriction above scope at next false ts (subst (λ (t : Tree). Restricts t next) is node) in
-        subst (λ (t : Tree). Binds t table v scope at next r) (sym is) (h ts next a.children (sym (ap nat_abs a.number)))
+    unfolding value under bindings
+    from-join b e h c next node =
+        let (ts, is) = has table words restriction above scope at (Tag.join b) e c next node in
+        let a = join-parts table words restriction above scope at next b ts (subst (λ (t : Tree). Restricts t next) is node) in
+        subst (λ (t : Tree). Binds t table v scope at next r) (sym is) (go b ts next (h ts next a.children (sym (ap nat_abs a.number))))
+      where
+        go : (b : Bool) (ts : Trees) (next : ℕ) → BindsJoin b ts table v scope (at + 2) next r → Binds (join b ts) table v scope at next r
+        go true ts next came = came
+        go false ts next came = came
 
     pub from_some :
         Tag.some ≡ tag_of (word words at) →
@@ -90,21 +85,21 @@ module _ (table words : Words) (above scope at : ℕ) where
 
   -- a plain node, the only other one in a restriction
   pub from-plain :
-      (tag : Tag) → tag ≡ tag_of (word words at) → Other tag → (marks : List Bool) → length marks ≡ 16 →
-      (c : Tree) (next : ℕ) → Restricts c next → Binds c table (set_of marks) scope at next (Ok (record { set = marks; next = at + 1 }))
+      (tag : Tag) → tag ≡ tag_of (word words at) → Other tag → (set : Marks) →
+      (c : Tree) (next : ℕ) → Restricts c next → Binds c table (set_of set) scope at next (Ok (record { set = set; next = at + 1 }))
   unfolding bindings Formed is_formula
-  from-plain (Tag.plain b) e o marks l c next node =
+  from-plain (Tag.plain b) e o set c next node =
       let is = has table words restriction above scope at (Tag.plain b) e c next node in
-      subst (λ (t : Tree). Binds t table (set_of marks) scope at next (Ok (record { set = marks; next = at + 1 }))) (sym is)
+      subst (λ (t : Tree). Binds t table (set_of set) scope at next (Ok (record { set = set; next = at + 1 }))) (sym is)
       (record {
         outcome = refl;
-        stands = (l, sym (plain-parts table words restriction above scope at next b (subst (λ (t : Tree). Restricts t next) is node)));
+        stands = sym (plain-parts table words restriction above scope at next b (subst (λ (t : Tree). Restricts t next) is node));
       })
-  from-plain (Tag.atom b) e o marks l c next node = absurd o
-  from-plain (Tag.compare b) e o marks l c next node = absurd o
-  from-plain (Tag.join b) e o marks l c next node = absurd o
-  from-plain (Tag.quantifier b) e o marks l c next node =
+  from-plain (Tag.atom b) e o set c next node = absurd o
+  from-plain (Tag.compare b) e o set c next node = absurd o
+  from-plain (Tag.join b) e o set c next node = absurd o
+  from-plain (Tag.quantifier b) e o set c next node =
       let (v, excluded, d, f, is) = has table words restriction above scope at (Tag.quantifier b) e c next node in
       absurd (false≢true (subst (λ (t : Tree). Restricts t next) is node).formed.0)
-  from-plain Tag.some e o marks l c next node = absurd o
-  from-plain Tag.unused e o marks l c next node = absurd (has table words restriction above scope at Tag.unused e c next node)
+  from-plain Tag.some e o set c next node = absurd o
+  from-plain Tag.unused e o set c next node = absurd (has table words restriction above scope at Tag.unused e c next node)

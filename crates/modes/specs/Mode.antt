@@ -1,5 +1,5 @@
 -- What the code's sets of variables and its walks say, as those of model.
-use Rattle.std.specs.Prelude.{ℕ, ◌+◌, ◌≡◌, Bool, false, ◌||◌, List, length, get_or, ltb, Result, Ok, Err}
+use Rattle.std.specs.Prelude.{ℕ, ◌+◌, ◌≡◌, Bool, true, false, ◌||◌, ◌&&◌, List, get_or, ltb, Result, Ok, Err}
 use Rattle.std.specs.Result.{IfOk}
 use Rattle.model.specs.Words.{Words}
 use Rattle.model.specs.declared.Refusal.TheVariants.{Mode}
@@ -10,11 +10,20 @@ use Rattle.model.specs.Tree.{Term, Tree, Trees, count}
 use Rattle.model.specs.Mode.{Variables, is_variable, size, bindings, bindings_all, bindings_any, ask_modes, ask_modes_all}
 use Rattle.laws.specs.Reading.Nodes.{Node, Nodes}
 use Rattle.model.specs.declared.Refused.{Refused}
+use Rattle.modes.specs.declared.marks.Marks.{Marks}
 use Rattle.modes.specs.declared.mode.Bound.{Bound}
 
 -- the variables whose marks are set
-abbrev pub set_of : (marks : List Bool) → Variables
-set_of marks = λ x. get_or marks x false
+abbrev pub marked : (marks : List Bool) → Variables
+marked marks = λ x. get_or marks x false
+
+abbrev pub set_of : (set : Marks) → Variables
+set_of set = marked set.marks
+
+-- the set behind an operand of an all-of (true) or any-of: its own, or the variables bound by all so far
+pub record Joint (every : Bool) (before own joint : Marks) : Type 0 where
+  pub kept : every ≡ true → joint ≡ own
+  pub common : every ≡ false → (x : ℕ) → set_of joint x ≡ (set_of before x && set_of own x)
 
 -- a set with the variables among terms
 unfoldable pub with_terms : Variables → List Term → Variables
@@ -25,19 +34,21 @@ abbrev pub told : (r : Result Bound Refused) → Outcome Variables
 told (Ok b) = passed (set_of b.set)
 told (Err e) = refused e.0 e.1
 
--- a walk came to what the mode rule says; and, if it passed, its marks are sixteen, and it came to the index behind
+-- a walk came to what the mode rule says; and, if it passed, to the index behind
 pub record Came (o : Outcome Variables) (next : ℕ) (r : Result Bound Refused) : Type 0 where
   pub outcome : told r ≡ o
-  pub stands : IfOk r (λ b. (length b.set ≡ 16) × (b.next ≡ next))
+  pub stands : IfOk r (λ b. b.next ≡ next)
 
 abbrev pub Binds : (c : Tree) (table : Words) (b : Variables) (scope at next : ℕ) (r : Result Bound Refused) → Type 0
 Binds c table b scope at next r = Came (bindings c table b scope at) next r
 
-abbrev pub BindsAll : (ts : Trees) (table : Words) (b : Variables) (scope at next : ℕ) (r : Result Bound Refused) → Type 0
-BindsAll ts table b scope at next r = Came (bindings_all ts table b scope at) next r
+-- what the operands of an all-of (true) or any-of bind
+abbrev pub bindings_join : (every : Bool) → Trees → Words → Variables → ℕ → ℕ → Outcome Variables
+bindings_join true ts table b scope at = bindings_all ts table b scope at
+bindings_join false ts table b scope at = bindings_any ts table b scope at
 
-abbrev pub BindsAny : (ts : Trees) (table : Words) (b : Variables) (scope at next : ℕ) (r : Result Bound Refused) → Type 0
-BindsAny ts table b scope at next r = Came (bindings_any ts table b scope at) next r
+abbrev pub BindsJoin : (every : Bool) (ts : Trees) (table : Words) (b : Variables) (scope at next : ℕ) (r : Result Bound Refused) → Type 0
+BindsJoin every ts table b scope at next r = Came (bindings_join every ts table b scope at) next r
 
 -- what a walk of formulas says: that the mode rule passed, and the index behind them; or where it was refused
 unfoldable pub told_modes : Outcome (Unit {0}) → ℕ → Result ℕ Refused

@@ -11,6 +11,7 @@ ghost use Rattle.nodes.specs.Prepare as P;
 
 use environments::environment::Environment;
 use instances::choosing;
+use instances::excluded::Excluded;
 use listing::restriction;
 use listing::room::{Made, Room};
 use logs::accepted::AcceptedLog;
@@ -87,7 +88,13 @@ pub fn prepare(
         room: to,
         next: body,
     } = restriction::list(log, words, scratch, room(places), depth, at + 3 + v * m)?;
-    let count = choosing::instances(words, at + 3, m, v, scope, scratch, to.from, to.count);
+    let excluded = Excluded {
+        words,
+        from: at + 3,
+        m,
+        v,
+    };
+    let count = choosing::instances(excluded, scope, scratch, to.from, to.count);
     Some(Placed {
         from: to.from,
         count,

@@ -23,7 +23,7 @@ use Rattle.laws.specs.Reading.Items.{two-places}
 use Rattle.laws.specs.Words.Standing.{below-value, below-pos}
 use Rattle.laws.specs.Reading.Nodes.{Node, Nodes}
 use Rattle.laws.specs.Reading.Parts.{root, root_tag, AtomParts, CompareParts, atom-parts, compare-parts, join-parts, some-parts}
-use Rattle.policies.specs.Standing.{terms_at, Here, HereAll, HereAtom}
+use Rattle.policies.specs.Standing.{terms_at, Here, HereAll, HereAtom, HereTerms}
 
 -- what a tag says of a tree that has it at its root
 abbrev pub Has : (tag : Tag) (c : Tree) → Type 0
@@ -114,6 +114,25 @@ module _ (table words : Words) (above scope at : ℕ) where
   abbrev Restricts : Tree → ℕ → Type 0
   Restricts c next = Node table words restriction above scope at c next
 
+  -- the terms of an atom
+  pub here-terms :
+      scope ≤ 16 →
+      (b : Bool) →
+      Tag.atom b ≡ tag_of (word words at) →
+      Here table words restriction above scope at →
+      length words < 2 ^ 64 →
+      HereTerms words at
+  unfolding Formed value
+  here-terms small b e (c, next, node) long =
+      let (p, ts, is) = has table words restriction above scope at (Tag.atom b) e c next node in
+      let node' = subst (λ (t : Tree). Restricts t next) is node in
+      let a = atom-parts table words restriction above scope at next b p ts node' in
+      let n : value words (at + 2) ≡ length ts = ap nat_abs a.number in (
+        subst (λ (k : ℕ). k ≤ 6) (sym n) node'.formed.3,
+        subst (λ (k : ℕ). at + 3 + 2 * k < 2 ^ 64) (sym n) (omega (arith, a.ends, node'.stands.fits)),
+        subst (λ (k : ℕ). all (in_scope words 16) (places (at + 3) k) ≡ true) (sym n) (scope-more words scope (at + 3) (length ts) small a.reads.range),
+      )
+
   -- what the walk of an atom asks
   pub here-atom :
       predicates table ≤ 256 →
@@ -128,12 +147,11 @@ module _ (table words : Words) (above scope at : ℕ) where
       let (p, ts, is) = has table words restriction above scope at (Tag.atom b) e c next node in
       let node' = subst (λ (t : Tree). Restricts t next) is node in
       let a = atom-parts table words restriction above scope at next b p ts node' in
-      let formed = node'.formed in
-      let n : value words (at + 2) ≡ length ts = ap nat_abs a.number in (
-        subst (λ (k : ℕ). k < 256) (sym (ap nat_abs a.predicate)) (omega (arith, formed.0)),
-        subst (λ (k : ℕ). k ≤ 6) (sym n) formed.3,
-        subst (λ (k : ℕ). at + 3 + 2 * k < 2 ^ 64) (sym n) (omega (arith, a.ends, node'.stands.fits)),
-        subst (λ (k : ℕ). all (in_scope words 16) (places (at + 3) k) ≡ true) (sym n) (scope-more words scope (at + 3) (length ts) small a.reads.range),
+      let terms = here-terms small b e (c, next, node) long in (
+        subst (λ (k : ℕ). k < 256) (sym (ap nat_abs a.predicate)) (omega (arith, node'.formed.0)),
+        terms.0,
+        terms.1,
+        terms.2,
       )
 
   -- a comparison

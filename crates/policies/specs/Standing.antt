@@ -11,7 +11,7 @@ use Rattle.laws.specs.Reading.Nodes.{Node, Nodes}
 unfoldable pub terms_at : Words → ℕ → ℕ → List Term
 terms_at words first n = map (term_at words) (places first n)
 
--- a node stands at a place; nodes stand there; an atom's own words stand there
+-- a node stands at a place; nodes stand there; an atom's own words stand there; its terms
 abbrev pub Here : (table words : Words) (role : Role) (above scope at : ℕ) → Type 0
 Here table words role above scope at = (tree : Tree) × (next : ℕ) × Node table words role above scope at tree next
 
@@ -23,5 +23,11 @@ abbrev pub HereAtom : (words : Words) (at : ℕ) → Type 0
 HereAtom words at =
     (value words (at + 1) < 256)
     × (value words (at + 2) ≤ 6)
+    × (at + 3 + 2 * value words (at + 2) < 2 ^ 64)
+    × (all (in_scope words 16) (places (at + 3) (value words (at + 2))) ≡ true)
+
+abbrev pub HereTerms : (words : Words) (at : ℕ) → Type 0
+HereTerms words at =
+    (value words (at + 2) ≤ 6)
     × (at + 3 + 2 * value words (at + 2) < 2 ^ 64)
     × (all (in_scope words 16) (places (at + 3) (value words (at + 2))) ≡ true)

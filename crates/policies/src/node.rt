@@ -9,6 +9,7 @@ ghost use Rattle.model.specs.Reading.{places, good_kind, in_scope, is_formula};
 ghost use Rattle.tables.specs.Checked.{outcome};
 ghost use Rattle.policies.specs.Node.{as_tag, as_role, There, Room, Sized, Shaped, Known, Scoped};
 
+use crate::depth::Depth;
 use model::{Refusal, Refused};
 use tables::table;
 
@@ -245,36 +246,35 @@ fn known(table: &[i32], words: &[i32], tag: Tag, at: usize) -> bool
 }
 
 // Question 6 at a node whose own words are there.
-fn scoped(words: &[i32], tag: Tag, scope: usize, at: usize) -> bool
-    requires { (scope ≤ W.scope_limit) × There words.now (as_tag tag) at }
-    ensures { Scoped words.now (as_tag tag) scope at result }
+fn scoped(words: &[i32], tag: Tag, depth: Depth, at: usize) -> bool
+    requires { There words.now (as_tag tag) at }
+    ensures { Scoped words.now (as_tag tag) depth.scope at result }
 {
     match tag {
-        Tag::Atom(_) => variables(words, scope, at + 3, words::value(words, at + 2)),
-        Tag::Compare(_) => variables(words, scope, at + 2, 2),
-        Tag::Quantifier(_) => words::value(words, at + 1) <= SCOPE_LIMIT - scope,
-        Tag::Some => scope < SCOPE_LIMIT,
+        Tag::Atom(_) => variables(words, depth.scope, at + 3, words::value(words, at + 2)),
+        Tag::Compare(_) => variables(words, depth.scope, at + 2, 2),
+        Tag::Quantifier(_) => words::value(words, at + 1) <= SCOPE_LIMIT - depth.scope,
+        Tag::Some => depth.scope < SCOPE_LIMIT,
         _ => true,
     }
 }
 
-// Questions 3, 4, 5 and 6 at one node, which stands under a node at the level above.
+// Questions 3, 4, 5 and 6 at one node.
 pub fn questions(
     table: &[i32],
     words: &[i32],
     tag: Tag,
     role: Role,
-    above: usize,
-    scope: usize,
+    depth: Depth,
     at: usize,
 ) -> Result<(), Refused>
-    requires { (at ≤ length words.now) × (above ≤ W.level_limit) × (scope ≤ W.scope_limit) }
-    ensures { outcome result ≡ R.questions table.now words.now (as_tag tag) (as_role role) above scope at }
+    requires { at ≤ length words.now }
+    ensures { outcome result ≡ R.questions table.now words.now (as_tag tag) (as_role role) depth.level depth.scope at }
 {
     if !shape(words, tag, role, at) {
         return Err(Refused(Refusal::Shape, at));
     }
-    let left = LEVEL_LIMIT - above;
+    let left = LEVEL_LIMIT - depth.level;
     let spent = cost(role, tag);
     let named = known(table, words, tag, at);
     if left < spent {
@@ -283,7 +283,7 @@ pub fn questions(
     if !named {
         return Err(Refused(Refusal::Predicate, at));
     }
-    if !scoped(words, tag, scope, at) {
+    if !scoped(words, tag, depth, at) {
         return Err(Refused(Refusal::Variable, at));
     }
     Ok(())

@@ -1,10 +1,10 @@
 // Policies: one walk over the words of a policy, front to back, asks questions 2 to 6 and finds the greatest level.
 ghost use Rattle.std.specs.Prelude.{◌≡◌, ◌≤◌, max, length};
-ghost use Rattle.model.specs.Words as W;
 ghost use Rattle.model.specs.Reading.{read_policy};
 ghost use Rattle.policies.specs.Node.{as_role};
 ghost use Rattle.policies.specs.Policy.{NodeTold, NodesTold, BothTold, told_policy};
 
+use crate::depth::Depth;
 use crate::node;
 use crate::node::{Role, Tag};
 use model::{POLICY_LIMIT, Refusal, Refused};
@@ -16,77 +16,83 @@ pub struct Walked {
     pub level: usize,
 }
 
-// n nodes one behind another, in one role under a node at the level above.
+// n nodes one behind another, in one role.
 #[cycle(children_quantified_walk)]
 fn children(
     table: &[i32],
     words: &[i32],
     role: Role,
-    above: usize,
-    scope: usize,
+    depth: Depth,
     n: usize,
     at: usize,
 ) -> Result<Walked, Refused>
-    requires { (at ≤ length words.now) × (above ≤ W.level_limit) × (scope ≤ W.scope_limit) }
-    ensures { NodesTold table.now words.now (as_role role) above scope n at result }
+    requires { at ≤ length words.now }
+    ensures { NodesTold table.now words.now (as_role role) depth.level depth.scope n at result }
 {
     let mut next = at;
-    let mut level = above;
+    let mut level = depth.level;
     for _ in 0..n {
-        let child = walk(table, words, role, above, scope, next)?;
+        let child = walk(table, words, role, depth, next)?;
         next = child.next;
         level = level.max(child.level);
     }
     Ok(Walked { next, level })
 }
 
-// The restriction of a quantifier at a level, and the body behind it.
+// The restriction of a quantifier, and the body behind it.
 #[cycle(children_quantified_walk)]
-fn quantified(
-    table: &[i32],
-    words: &[i32],
-    level: usize,
-    scope: usize,
-    at: usize,
-) -> Result<Walked, Refused>
-    requires { (at ≤ length words.now) × (level ≤ W.level_limit) × (scope ≤ W.scope_limit) }
-    ensures { BothTold table.now words.now level scope at result }
+fn quantified(table: &[i32], words: &[i32], depth: Depth, at: usize) -> Result<Walked, Refused>
+    requires { at ≤ length words.now }
+    ensures { BothTold table.now words.now depth.level depth.scope at result }
 {
-    let restriction = walk(table, words, Role::Restriction, level, scope, at)?;
-    let body = walk(table, words, Role::Formula, level, scope, restriction.next)?;
+    let restriction = walk(table, words, Role::Restriction, depth, at)?;
+    let body = walk(table, words, Role::Formula, depth, restriction.next)?;
     Ok(Walked {
         next: body.next,
         level: restriction.level.max(body.level),
     })
 }
 
-// The node at an index, under a node at the level above, and the nodes below it.
+// The node at an index, and the nodes below it.
 #[cycle(children_quantified_walk)]
 fn walk(
     table: &[i32],
     words: &[i32],
     role: Role,
-    above: usize,
-    scope: usize,
+    depth: Depth,
     at: usize,
 ) -> Result<Walked, Refused>
-    requires { (at ≤ length words.now) × (above ≤ W.level_limit) × (scope ≤ W.scope_limit) }
-    ensures { NodeTold table.now words.now (as_role role) above scope at result }
+    requires { at ≤ length words.now }
+    ensures { NodeTold table.now words.now (as_role role) depth.level depth.scope at result }
 {
     let tag = node::tag_at(words, at);
-    node::questions(table, words, tag, role, above, scope, at)?;
-    let level = above + node::cost(role, tag);
+    node::questions(table, words, tag, role, depth, at)?;
+    let level = depth.level + node::cost(role, tag);
     let next = at + node::size(words, tag, at);
     match tag {
         Tag::Join(b) => {
             let n = words::value(words, at + 1);
-            children(table, words, node::under(role, b), level, scope, n, next)
+            let below = Depth {
+                level,
+                scope: depth.scope,
+            };
+            children(table, words, node::under(role, b), below, n, next)
         }
         Tag::Quantifier(_) => {
             let v = words::value(words, at + 1);
-            quantified(table, words, level, scope + v, next)
+            let below = Depth {
+                level,
+                scope: depth.scope + v,
+            };
+            quantified(table, words, below, next)
         }
-        Tag::Some => walk(table, words, Role::Restriction, level, scope + 1, next),
+        Tag::Some => {
+            let below = Depth {
+                level,
+                scope: depth.scope + 1,
+            };
+            walk(table, words, Role::Restriction, below, next)
+        }
         _ => Ok(Walked { next, level }),
     }
 }
@@ -102,7 +108,7 @@ pub fn ask_policy(table: &[i32], policy: &[i32]) -> Result<Walked, Refused>
     if POLICY_LIMIT < n {
         return Err(Refused(Refusal::PolicyLength, 0));
     }
-    let root = walk(table, policy, Role::Formula, 0, 0, 0)?;
+    let root = walk(table, policy, Role::Formula, Depth::ROOT, 0)?;
     if root.next != n {
         return Err(Refused(Refusal::Shape, root.next));
     }

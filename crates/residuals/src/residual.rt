@@ -20,7 +20,7 @@ use model::{Answer, POLICY_LIMIT, Refusal, Refused};
 use policies::node::Role;
 use reduction::walk;
 
-// So many words of a buffer are lent to the walk: no residual has more.
+// So many words of a buffer are lent to the walk: no residual has more. A function of its own, since the caller's proof names the number.
 fn lendable(words: usize) -> usize
     ensures { result ≡ R.lendable words }
 {

@@ -202,11 +202,10 @@ module _
 
     -- in a formula nothing is bound
     pub leaf-formula :
-        is_formula role ≡ true → length s.set ≡ 16 →
+        is_formula role ≡ true →
         Told table t role above scope s (record { words = words; asked = asked; moded = s.moded; set = s.set }) out out'
-    leaf-formula f marks = record {
+    leaf-formula f = record {
       counted = counted;
-      marks = marks;
       passes = passes;
       settled = λ _. record {
         asked = questions-told;
@@ -226,7 +225,6 @@ module _
         Told table t role above scope s (record { words = words; asked = b.asked; moded = b.moded; set = b.set }) out out'
     leaf-restricted f b bound node = record {
       counted = counted;
-      marks = bound.marks;
       passes = λ p. passes (sym bound.asked ∙ p);
       settled = λ _. record {
         asked = ap outcome bound.asked ∙ questions-told;

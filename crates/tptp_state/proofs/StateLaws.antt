@@ -23,11 +23,10 @@ use Rattle.std.proofs.lemmas.Result.{err_from_is_err_and}
 use Rattle.model.specs.declared.Refused.{Refused}
 use Rattle.laws.specs.Answer.{refused-passed}
 use Rattle.laws.specs.Reading.Nodes.{Node}
-use Rattle.policies.specs.Standing.{Here}
 use Rattle.modes.specs.Mode.{set_of, Binds}
+use Rattle.modes.specs.declared.marks.Marks.{Marks}
 use Rattle.modes.specs.declared.mode.Bound.{Bound}
-use Rattle.modes.proofs.ModeTerms.{set_dropped}
-use Rattle.tptp_state.specs.Told.{Passed, told, moved, Ready, LeafBound, Dropped, Introduced}
+use Rattle.tptp_state.specs.Told.{Passed, told, moved, LeafBound, Dropped, Introduced}
 use Rattle.tptp_state.specs.declared.state.State.{State}
 use Rattle.tptp_tokens.proofs.LayingLaws.{sets_last}
 
@@ -59,13 +58,12 @@ carried (refused q p) = refused q p
 carried (passed u) = passed (λ x. false)
 
 -- question 7 of a node whose words stand apart
-module _ (table own : Words) (above scope : ℕ) (s : State) (ready : Ready table above scope s) where
+module _ (table own : Words) (above scope : ℕ) (s : State) where
   pub bound-moded : {q : Refused} → s.moded ≡ Err q → LeafBound table own above scope s s
   unfolding ◌>>=◌
   bound-moded e = record {
     words = refl;
     asked = refl;
-    marks = ready.marks;
     modes = λ passes c next node.
         subst
         (λ (m : Result (Unit {0}) Refused). told m s.set ≡ (told m s.set >>= λ bound. moved s.words (bindings c table bound scope 0)))
@@ -76,13 +74,11 @@ module _ (table own : Words) (above scope : ℕ) (s : State) (ready : Ready tabl
   pub bound-leaf :
       s.asked ≡ Passed → s.moded ≡ Passed → (b : Bound) →
       ((c : Tree) (next : ℕ) → Node table own restriction above scope 0 c next → Binds c table (set_of s.set) scope 0 next (Ok b)) →
-      Here table own restriction above scope 0 →
       LeafBound table own above scope s (record { words = s.words; asked = s.asked; moded = s.moded; set = b.set })
   unfolding ◌>>=◌ moved
-  bound-leaf passes modes b binds (c₀, next₀, node₀) = record {
+  bound-leaf passes modes b binds = record {
     words = refl;
     asked = refl;
-    marks = (binds c₀ next₀ node₀).stands.0;
     modes = λ _ c next node. rw (modes, sym (binds c next node).outcome);
   }
 
@@ -94,7 +90,6 @@ module _ (table own : Words) (above scope : ℕ) (s : State) (ready : Ready tabl
   bound_refused passes modes e binds = record {
     words = refl;
     asked = refl;
-    marks = ready.marks;
     modes = λ _ c next node. rw (modes, sym (binds c next node).outcome);
   }
 
@@ -107,7 +102,7 @@ asked-passed a (Err q) k e p = refused-passed (sym e ∙ ap outcome p)
 
 -- a question of what is bound, and what is bound behind it
 told-ask :
-    (m k : Result (Unit {0}) Refused) (marks marks' : List Bool) (b : Bool) (q : Refusal) (w : ℕ) (g : Variables → Bool) (f : Variables → Variables) →
+    (m k : Result (Unit {0}) Refused) (marks marks' : Marks) (b : Bool) (q : Refusal) (w : ℕ) (g : Variables → Bool) (f : Variables → Variables) →
     outcome k ≡ (outcome m >>= λ _. ask b q w) →
     b ≡ g (set_of marks) →
     set_of marks' ≡ f (set_of marks) →
@@ -122,7 +117,7 @@ told-ask (Err r) (Err s) marks marks' b q w g f e is same = ap carried e
 
 -- a question of what is bound
 told-asked :
-    (m k : Result (Unit {0}) Refused) (marks : List Bool) (q : Refusal) (w : ℕ) (g : Variables → Bool) →
+    (m k : Result (Unit {0}) Refused) (marks : Marks) (q : Refusal) (w : ℕ) (g : Variables → Bool) →
     outcome k ≡ (outcome m >>= λ _. ask (g (set_of marks)) q w) →
     outcome k ≡ (told m marks >>= λ bound. ask (g bound) q w)
 unfolding ◌>>=◌
@@ -131,19 +126,17 @@ told-asked (Err r) k marks q w g e = e
 
 -- the variable of a "some" is dropped
 pub dropped :
-    (s : State) (scope x w : ℕ) (m : Result (Unit {0}) Refused) →
-    outcome m ≡ (outcome s.moded >>= λ _. ask (get_or s.set x false) Mode w) →
-    x ≡ scope →
+    (s : State) (scope w : ℕ) {b : Bool} (m : Result (Unit {0}) Refused) (set : Marks) →
+    outcome m ≡ (outcome s.moded >>= λ _. ask b Mode w) →
+    b ≡ set_of s.set scope →
+    ((x : ℕ) → set_of set x ≡ (set_of s.set x && not (eqb x scope))) →
     scope < 16 →
-    Dropped scope w s (record { words = s.words; asked = s.asked; moded = m; set = set s.set scope false })
-dropped s scope x w m e is few = record {
+    Dropped scope w s (record { words = s.words; asked = s.asked; moded = m; set = set })
+dropped s scope w {b} m set e is without few = record {
   words = refl;
   asked = refl;
-  marks = λ long. length-set s.set scope false ∙ long;
-  modes = λ long h.
-      told-ask s.moded m s.set (set s.set scope false) (get_or s.set x false) Mode w (λ inner. inner scope)
-      (λ inner y. inner y && not (eqb y scope)) e (ap (λ (k : ℕ). get_or s.set k false) is)
-      (fun_ext λ y. set_dropped s.set scope y (omega (arith, long)));
+  modes = λ h.
+      told-ask s.moded m s.set set b Mode w (λ inner. inner scope) (λ inner x. inner x && not (eqb x scope)) e is (fun_ext without);
   beyond = λ l. absurd (omega arith);
 }
 

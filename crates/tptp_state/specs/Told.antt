@@ -14,6 +14,7 @@ use Rattle.laws.specs.Reading.Nodes.{Node}
 use Rattle.laws.specs.Reading.Trees.{ask_tree}
 use Rattle.tables.specs.Checked.{outcome}
 use Rattle.model.specs.declared.Refusal.TheVariants.{Level, Variable, Mode}
+use Rattle.modes.specs.declared.marks.Marks.{Marks}
 use Rattle.modes.specs.Mode.{set_of}
 use Rattle.model.specs.declared.Refused.{Refused}
 use Rattle.tptp_tokens.specs.Laying.{most_words}
@@ -25,21 +26,19 @@ abbrev pub Passed : Result (Unit {0}) Refused
 Passed = Ok tt
 
 -- what question 7 comes to: the variables that are bound, by their marks, or a refusal
-abbrev pub told : (moded : Result (Unit {0}) Refused) (marks : List Bool) → Outcome Variables
-told (Ok u) marks = passed (set_of marks)
-told (Err e) marks = refused e.0 e.1
+abbrev pub told : (moded : Result (Unit {0}) Refused) (set : Marks) → Outcome Variables
+told (Ok u) set = passed (set_of set)
+told (Err e) set = refused e.0 e.1
 
 -- the same refusal at another place
 unfoldable pub moved : {A : Type 0} → ℕ → Outcome A → Outcome A
 moved place (refused q p) = refused q place
 moved place (passed a) = passed a
 
--- what a reading may begin with: the words are counted within their limit, there are sixteen marks, and a node that stands under a level
--- and with variables beyond the limits was refused
-pub record Ready (table : Words) (above scope : ℕ) (s : State) : Type 0 where
-  pub few : predicates table ≤ 256
+-- what a reading may begin with: the words are counted within their limit, and a node that stands under a level and with variables
+-- beyond the limits was refused
+pub record Ready (above scope : ℕ) (s : State) : Type 0 where
   pub counted : s.words ≤ most_words
-  pub marks : length s.set ≡ 16
   pub level : s.asked ≡ Passed → above ≤ level_limit
   pub range : s.asked ≡ Passed → scope ≤ scope_limit
 
@@ -58,7 +57,6 @@ pub record Settled (table : Words) (t : Tree) (role : Role) (above scope : ℕ) 
 -- a tree was read in a role, under a node at a level, with so many variables in scope
 pub record Told (table : Words) (t : Tree) (role : Role) (above scope : ℕ) (s r : State) (out out' : Words) : Type 0 where
   pub counted : r.words ≡ min (s.words + size t) most_words
-  pub marks : length r.set ≡ 16
   pub passes : r.asked ≡ Passed → s.asked ≡ Passed
   pub settled : s.words + size t ≤ policy_limit → Settled table t role above scope s r out out'
 
@@ -66,7 +64,6 @@ pub record Told (table : Words) (t : Tree) (role : Role) (above scope : ℕ) (s 
 pub record LeafBound (table own : Words) (above scope : ℕ) (s r : State) : Type 0 where
   pub words : r.words ≡ s.words
   pub asked : r.asked ≡ s.asked
-  pub marks : length r.set ≡ 16
   pub modes :
       s.asked ≡ Passed → (c : Tree) (next : ℕ) →
       Node table own restriction above scope 0 c next →
@@ -78,7 +75,7 @@ LeafTold table own role above scope s r out out' =
     (t : Tree) → LeafStands own t → good_tree t (is_formula role) ≡ true → Told table t role above scope s r out out'
 
 -- behind the first words of a node, which are so many: questions 4 and 6 at it, and the marks for what is below
-pub record Entered (n : ℕ) (level range : Bool) (marks : List Bool) (s r : State) : Type 0 where
+pub record Entered (n : ℕ) (level range : Bool) (marks : Marks) (s r : State) : Type 0 where
   pub words : r.words ≡ min (s.words + n) most_words
   pub asked : outcome r.asked ≡ (outcome s.asked >>= λ _. ask level Level s.words >>= λ _. ask range Variable s.words)
   pub moded : r.moded ≡ s.moded
@@ -88,9 +85,8 @@ pub record Entered (n : ℕ) (level range : Bool) (marks : List Bool) (s r : Sta
 pub record Dropped (scope w : ℕ) (s r : State) : Type 0 where
   pub words : r.words ≡ s.words
   pub asked : r.asked ≡ s.asked
-  pub marks : length s.set ≡ 16 → length r.set ≡ 16
   pub modes :
-      length s.set ≡ 16 → scope < scope_limit →
+      scope < scope_limit →
       told r.moded r.set
       ≡ (told s.moded s.set >>= λ inner. ask (inner scope) Mode w >>= λ _. passed (λ x. inner x && not (eqb x scope)))
   pub beyond : scope_limit ≤ scope → r ≡ s
@@ -106,20 +102,18 @@ pub record Introduced (scope v w : ℕ) (s r : State) : Type 0 where
   pub beyond : scope_limit < scope + v → r.moded ≡ s.moded
 
 -- the marks of the variables below a number, if it is at most sixteen, else none
-pub record Outer (scope : ℕ) (marks : List Bool) : Type 0 where
-  pub sixteen : length marks ≡ 16
-  pub holds : scope ≤ scope_limit → (x : ℕ) → set_of marks x ≡ ltb x scope
-  pub beyond : scope_limit < scope → marks ≡ replicate 16 false
+pub record Outer (scope : ℕ) (set : Marks) : Type 0 where
+  pub holds : scope ≤ scope_limit → (x : ℕ) → set_of set x ≡ ltb x scope
+  pub beyond : scope_limit < scope → set.marks ≡ replicate 16 false
 
 -- what an operand of an all-of (true) or any-of is handed: the marks of the one before, or those of the start
-abbrev pub Handed : (b : Bool) (start : List Bool) (s r : State) → Type 0
+abbrev pub Handed : (b : Bool) (start : Marks) (s r : State) → Type 0
 Handed b start s r = r ≡ record { words = s.words; asked = s.asked; moded = s.moded; set = cond b s.set start }
 
 -- what is known behind an operand: as behind it, with the marks of those bound by all so far
-pub record Joined (b : Bool) (before : List Bool) (child r : State) : Type 0 where
+pub record Joined (b : Bool) (before : Marks) (child r : State) : Type 0 where
   pub words : r.words ≡ child.words
   pub asked : r.asked ≡ child.asked
   pub moded : r.moded ≡ child.moded
-  pub marks : length child.set ≡ 16 → length r.set ≡ 16
   pub every : b ≡ true → r.set ≡ child.set
   pub some : b ≡ false → (x : ℕ) → set_of r.set x ≡ (set_of before x && set_of child.set x)

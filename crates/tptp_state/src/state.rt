@@ -16,7 +16,9 @@ ghost use Rattle.tptp_leaves.specs.Leaves.{LeafStands};
 ghost use Rattle.tptp_state.specs.Told as T;
 
 use model::{Refusal, Refused};
+use modes::marks::Marks;
 use modes::mode;
+use policies::depth::Depth;
 use policies::node;
 use policies::node::Role;
 use tptp_tokens::laying::more_words;
@@ -28,7 +30,7 @@ pub struct State {
     pub words: usize,
     pub asked: Result<(), Refused>,
     pub moded: Result<(), Refused>,
-    pub set: [bool; 16],
+    pub set: Marks,
 }
 
 // A question behind others: the first refusal stands.
@@ -55,6 +57,7 @@ fn at_place(asked: Result<(), Refused>, place: usize) -> Result<(), Refused>
 }
 
 // Questions 4 to 6 of a node with none below it, whose words stand apart, behind others.
+// Level and scope are numbers, here and below: a text is read on behind a refusal, beyond the limits of a `Depth`.
 fn ask_leaf(
     table: &[i32],
     own: &[i32],
@@ -70,7 +73,11 @@ fn ask_leaf(
 {
     before?;
     let tag = node::tag_at(own, 0);
-    let asked = node::questions(table, own, tag, role, above, scope, 0);
+    let depth = Depth {
+        level: above,
+        scope,
+    };
+    let asked = node::questions(table, own, tag, role, depth, 0);
     at_place(asked, place)
 }
 
@@ -96,19 +103,19 @@ fn lay_own(out: &mut [i32], w: usize, own: &[i32], n: usize)
 }
 
 // The variables in scope, if they are at most sixteen.
-pub fn outer_variables(scope: usize) -> [bool; 16]
+pub fn outer_variables(scope: usize) -> Marks
     ensures { T.Outer scope result }
 {
     if node::SCOPE_LIMIT < scope {
-        return [false; 16];
+        return Marks::NONE;
     }
-    mode::outer(scope)
+    Marks::outer(scope)
 }
 
 impl State {
     // Question 7 of a node of a restriction with none below it, whose words stand apart, behind others.
     fn bind_leaf(&mut self, table: &[i32], own: &[i32], above: usize, scope: usize)
-        requires { T.Ready table.now above scope self.old
+        requires { T.Ready above scope self.old
             × (self.old.asked ≡ T.Passed → Here table.now own.now L.Role.restriction above scope 0) }
         ensures { T.LeafBound table.now own.now above scope self.old self.new }
     {
@@ -118,12 +125,13 @@ impl State {
         if let Err(_) = self.moded {
             return;
         }
-        let bound = mode::bind(table, own, self.set, above, scope, 0);
+        let depth = Depth {
+            level: above,
+            scope,
+        };
+        let bound = mode::bind(table, own, self.set, depth, 0);
         match bound {
-            Ok(behind) => {
-                let marks = behind.set;
-                self.set = marks;
-            }
+            Ok(behind) => self.set = behind.set,
             Err(Refused(q, _)) => self.moded = Err(Refused(q, self.words)),
         }
     }
@@ -138,7 +146,7 @@ impl State {
         scope: usize,
         out: &mut [i32],
     )
-        requires { T.Ready table.now above scope self.old
+        requires { T.Ready above scope self.old
             × ((t : Tree) × LeafStands own.now t × (good_tree t (is_formula (as_role role)) ≡ true))
             × (length own.now ≡ 16) }
         ensures { T.LeafTold table.now own.now (as_role role) above scope self.old self.new out.old out.new }
@@ -158,7 +166,7 @@ impl State {
     }
 
     // Behind the first words of a node, which are so many: whether its level and its variables fit is asked there.
-    pub fn enter(&mut self, n: usize, level: bool, range: bool, set: [bool; 16])
+    pub fn enter(&mut self, n: usize, level: bool, range: bool, set: Marks)
         requires { (self.old.words ≤ most_words) × (n ≤ 3) }
         ensures { T.Entered n level range set self.old self.new }
     {
@@ -176,8 +184,8 @@ impl State {
         if scope >= node::SCOPE_LIMIT {
             return;
         }
-        self.moded = then_ask(self.moded, self.set[scope], Refusal::Mode, w);
-        self.set[scope] = false;
+        self.moded = then_ask(self.moded, self.set.has(scope), Refusal::Mode, w);
+        self.set = self.set.without(scope);
     }
 
     // The variables of a quantifier are bound by its restriction.
@@ -188,26 +196,21 @@ impl State {
         if node::SCOPE_LIMIT < scope + v {
             return;
         }
-        let bound = mode::introduced(self.set, scope, v);
+        let bound = self.set.introduced(scope, v);
         self.moded = then_ask(self.moded, bound, Refusal::Mode, w);
     }
 
     // What an operand is handed: the marks behind the one before, or those of the start.
-    // By an if, here and in `join`, since the text says which: closures would be chosen by an if too.
-    pub fn hand(&mut self, every: bool, start: [bool; 16])
+    pub fn hand(&mut self, every: bool, start: Marks)
         ensures { T.Handed every start self.old self.new }
     {
-        if !every {
-            self.set = start;
-        }
+        self.set = self.set.handed(every, start);
     }
 
     // The marks behind an operand: its own, or those of the variables bound by all so far.
-    pub fn join(&mut self, every: bool, before: [bool; 16])
+    pub fn join(&mut self, every: bool, before: Marks)
         ensures { T.Joined every before self.old self.new }
     {
-        if !every {
-            self.set = mode::both(before, self.set);
-        }
+        self.set = self.set.joined(every, before);
     }
 }

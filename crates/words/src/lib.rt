@@ -11,7 +11,7 @@ ghost use Rattle.std.specs.Int.Signed.{lt_z};
 ghost use Rattle.model.specs.Words as W;
 ghost use Rattle.words.specs.Offset as O;
 
-// The magnitude of a word.
+// The magnitude of a word. A function of its own, so that no other holds a signed number.
 fn magnitude(x: i32) -> usize
     ensures { result ≡ nat_abs x }
 {
@@ -47,7 +47,8 @@ pub fn negative(s: &[i32], i: usize) -> bool
     if i < s.len() { s[i] < 0 } else { false }
 }
 
-// The word at an index of one slice is that at an index of another.
+// The word at an index of one slice is that at an index of another. A function of its own, as the tests below: `==` of signed numbers is
+// one of their bits to a proof, and only here.
 pub fn same(s: &[i32], i: usize, t: &[i32], j: usize) -> bool
     requires { (i < length s.now) × (j < length t.now) }
     ensures { result ≡ W.equal (W.word s.now i) (W.word t.now j) }
@@ -103,7 +104,7 @@ pub fn is(s: &[i32], i: usize, n: usize) -> bool
     value(s, i) == n
 }
 
-// Whether n words of one slice from an index on are those of another from an index on.
+// Whether n words of one slice from an index on are those of another from an index on. A function of its own, for the same reason.
 pub fn equal_words(a: &[i32], at: usize, b: &[i32], from: usize, n: usize) -> bool
     requires { (at + n ≤ length a.now) × (from + n ≤ length b.now) }
     ensures { result ≡ W.equal_all (take n (drop at a.now)) (take n (drop from b.now)) }

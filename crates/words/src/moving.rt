@@ -1,4 +1,5 @@
-// Words of a buffer that make room for a header of two words, or take the room of one.
+// Words of a buffer that make room for a header of two words, or take the room of one. Functions of their own: each leaves one `laid`, which the
+// callers' proofs put together.
 ghost use Rattle.std.specs.Prelude.{◌≡◌, ◌+◌, ◌≤◌, length, take, drop};
 ghost use Rattle.words.specs.Laying.{laid};
 

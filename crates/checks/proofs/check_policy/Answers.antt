@@ -1,7 +1,6 @@
 -- `checks::check_policy` meets its contract, from what the three checks ensure.
 use mathlib.Core.Path.{sym, ap, ◌∙◌}
 use Rattle.laws.specs.Answer.{answers, passed_on}
-use Rattle.laws.specs.Table.{accepted}
 use Rattle.laws.specs.Reading.Encoded.{read-node}
 use Rattle.tables.specs.Checked.{outcome}
 use Rattle.checks.proofs.Calls.{policy-table-refused, policy-refused, tree-read, modes-refused, policy-accepted}
@@ -12,7 +11,7 @@ check_modes-requires c =
     let a = c.args in
     let e = sym c.check_table.ensures ∙ ap outcome c.in_ok-check_table.was in
     let (tree, is, level) = tree-read a.table.now a.policy.now e (sym c.in_ok-walked.was ∙ c.ask_policy.ensures) in
-    ((accepted a.table.now e).few, (tree, _, read-node a.table.now a.policy.now tree is))
+    (tree, _, read-node a.table.now a.policy.now tree is)
 
 pub returns-in_err-check_table : goal.returns-in_err-check_table
 returns-in_err-check_table c =

@@ -7,7 +7,7 @@ use Rattle.instances.proofs.choosing.by_pairs.Goals as goal
 pub loop-i-init : goal.loop-i-init
 loop-i-init c =
     let a = c.args in
-    going_first a.words.now a.from a.m a.v a.scope a.scratch.now a.first a.count
+    going_first a.excluded.words.now a.excluded.from a.excluded.m a.excluded.v a.scope a.scratch.now a.first a.count
 
 pub loop-i-preserved-then-stands : goal.loop-i-preserved-then-stands
 loop-i-preserved-then-stands c =
@@ -29,5 +29,5 @@ loop-i-preserved c =
 pub returns : goal.returns
 returns c =
     let a = c.args in
-    going_last a.words.now a.from a.m a.v a.scope a.scratch.now c.loop-i.scratch a.first a.count
+    going_last a.excluded.words.now a.excluded.from a.excluded.m a.excluded.v a.scope a.scratch.now c.loop-i.scratch a.first a.count
     c.loop-i.found c.loop-i.i (omega arith) c.loop-i.invariant

@@ -5,4 +5,4 @@ use Rattle.instances.proofs.choosing.by_pairs.Given as goal
 
 abbrev pub invariant-loop-i : goal.invariant-loop-i
 invariant-loop-i l =
-    Going l.words l.from l.m l.v l.scope l.initial.scratch l.scratch l.first l.count l.found l.i
+    Going l.excluded.words.now l.excluded.from l.excluded.m l.excluded.v l.scope l.initial.scratch l.scratch l.first l.count l.found l.i

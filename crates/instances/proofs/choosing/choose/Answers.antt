@@ -10,8 +10,8 @@ use Rattle.instances.proofs.choosing.choose.Goals as goal
 pub loop-i-init : goal.loop-i-init
 loop-i-init c =
     let a = c.args in (
-      going_first a.words.now a.from a.m a.v a.scope a.scratch.now a.first a.count,
-      keyed-excluded a.words.now a.from a.m a.v a.scratch.now (17 * a.first + a.scope) _ _
+      going_first a.excluded.words.now a.excluded.from a.excluded.m a.excluded.v a.scope a.scratch.now a.first a.count,
+      keyed-excluded a.excluded.words.now a.excluded.from a.excluded.m a.excluded.v a.scratch.now (17 * a.first + a.scope) _ _
           c.enter_excluded.ensures,
     )
 
@@ -23,24 +23,20 @@ loop-i-preserved-then-seen c =
 pub enter-requires : goal.enter-requires
 enter-requires c =
     let t = turn c.requires.0 c.requires.1 c.loop-i-test.true c.loop-i.invariant.0 in
-    let g = c.loop-i.invariant.0 in (
-      omega (arith, c.key-key.ensures, key-small 0 (next t), c.loop-i.invariant.1.keys),
-      omega
-          (arith, g.few, c.requires.3, c.loop-i.invariant.1.room),
-      omega (arith, g.few, c.requires.3),
-    )
+    let g = c.loop-i.invariant.0 in
+    (omega (arith, c.key-key.ensures, key-small 0 (next t)), omega (arith, g.few, c.requires.2))
 
 pub loop-i-preserved : goal.loop-i-preserved
 loop-i-preserved c =
     let t = turn c.requires.0 c.requires.1 c.loop-i-test.true c.loop-i.invariant.0 in (
       on_new t c.seen.result c.seen.ensures c.if-seen.false _ c.copy_place.ensures,
       keyed_on
-          t _ c.copy_place.ensures c.key-key.result c.loop-i.heads c.loop-i.links _ _ c.requires.3 c.key-key.ensures
-          c.loop-i.invariant.1 c.enter.ensures.heads_after c.enter.ensures.links_after,
+          t _ c.copy_place.ensures c.key-key.result c.loop-i.keys.heads c.loop-i.keys.links _ _ c.requires.2 c.key-key.ensures
+          c.loop-i.invariant.1 c.enter.ensures.heads c.enter.ensures.links,
     )
 
 pub returns : goal.returns
 returns c =
     let a = c.args in
-    going_last a.words.now a.from a.m a.v a.scope a.scratch.now c.loop-i.scratch a.first a.count
+    going_last a.excluded.words.now a.excluded.from a.excluded.m a.excluded.v a.scope a.scratch.now c.loop-i.scratch a.first a.count
     c.loop-i.found c.loop-i.i (omega arith) c.loop-i.invariant.0

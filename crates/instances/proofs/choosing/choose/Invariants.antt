@@ -7,5 +7,5 @@ use Rattle.instances.proofs.choosing.choose.Given as goal
 
 abbrev pub invariant-loop-i : goal.invariant-loop-i
 invariant-loop-i l =
-    Going l.words l.from l.m l.v l.scope l.initial.scratch l.scratch l.first l.count l.found l.i
-    × Keyed (entry_at l.words l.from l.m l.v l.scratch (17 * l.first + l.scope)) (l.m + l.found) l.heads l.links
+    Going l.excluded.words.now l.excluded.from l.excluded.m l.excluded.v l.scope l.initial.scratch l.scratch l.first l.count l.found l.i
+    × Keyed (entry_at l.excluded.words.now l.excluded.from l.excluded.m l.excluded.v l.scratch (17 * l.first + l.scope)) (l.excluded.m + l.found) l.keys.heads l.keys.links

@@ -5,16 +5,16 @@ use Rattle.model.specs.Words.{equal_all}
 use Rattle.instances.proofs.SeenLaws.{entry_excluded, entry_found}
 use Rattle.instances.proofs.seen.equal_entry.Goals as goal
 
-pub returns-then-e-m : goal.returns-then-e-m
-returns-then-e-m c =
+pub returns-then-e-excluded : goal.returns-then-e-excluded
+returns-then-e-excluded c =
     let a = c.args in
-    c.equal_words.ensures ∙ ap (equal_all (take a.v (drop a.at a.scratch.now)))
+    c.equal_words.ensures ∙ ap (equal_all (take a.excluded.v (drop a.at a.scratch.now)))
     (sym
-    (entry_excluded a.words.now a.from a.m a.v a.scratch.now a.start a.e c.if-e-m.true))
+    (entry_excluded a.excluded.words.now a.excluded.from a.excluded.m a.excluded.v a.scratch.now a.start a.e c.if-e-excluded.true))
 
 pub returns : goal.returns
 returns c =
     let a = c.args in
-    c.equal_words-2.ensures ∙ ap (equal_all (take a.v (drop a.at a.scratch.now)))
+    c.equal_words-2.ensures ∙ ap (equal_all (take a.excluded.v (drop a.at a.scratch.now)))
     (sym
-    (entry_found a.words.now a.from a.m a.v a.scratch.now a.start a.e c.if-e-m.false))
+    (entry_found a.excluded.words.now a.excluded.from a.excluded.m a.excluded.v a.scratch.now a.start a.e c.if-e-excluded.false))

@@ -28,78 +28,76 @@ leaf (Quantifier b) k = absurd (k.1 b refl)
 leaf Some k = tt
 leaf Unused k = tt
 
-pub formula-overflow_add-level : goal.formula-overflow_add-level
-formula-overflow_add-level t c =
-    omega (arith, level-fits _ _ _ _ _ _ c.requires.4 (as_tag c.tag_at-tag.result) c.tag_at-tag.ensures, c.cost.ensures)
+pub formula-overflow_add-below : goal.formula-overflow_add-below
+formula-overflow_add-below t c =
+    omega (arith, level-fits _ _ _ _ _ _ c.requires.1 (as_tag c.tag_at-tag.result) c.tag_at-tag.ensures, c.cost.ensures)
+
+pub formula-invariant_of-below : goal.formula-invariant_of-below
+formula-invariant_of-below t c = record {
+  levels = omega (arith, level-fits _ _ _ _ _ _ c.requires.1 (as_tag c.tag_at-tag.result) c.tag_at-tag.ensures, c.cost.ensures);
+  scopes = c.args.depth.scopes;
+}
+
+pub formula-invariant_of-below-in-Quantifier : goal.formula-invariant_of-below-in-Quantifier
+formula-invariant_of-below-in-Quantifier t c = record {
+  levels = omega (arith, level-fits _ _ _ _ _ _ c.requires.1 (as_tag c.tag_at-tag.result) c.tag_at-tag.ensures, c.cost.ensures);
+  scopes = c.args.depth.scopes;
+}
 
 pub formula-size-requires : goal.formula-size-requires
 formula-size-requires t c =
-    own-fits c.args.table.now c.args.words.now (as_role c.args.role) c.args.above c.args.scope c.args.at
-    c.requires.4
+    own-fits c.args.table.now c.args.words.now (as_role c.args.role) c.args.depth.level c.args.depth.scope c.args.at
+    c.requires.1
     (as_tag c.tag_at-tag.result)
     c.tag_at-tag.ensures
 
 pub formula-overflow_add-next : goal.formula-overflow_add-next
 formula-overflow_add-next t c =
-    let node = stood c.requires.3 c.requires.4 c.tag_at-tag.ensures c.cost.ensures c.size.ensures in
+    let node = stood c.requires.0 c.requires.1 c.tag_at-tag.ensures c.cost.ensures c.size.ensures in
     omega (arith, next_in node)
 
 pub formula-formulas-requires : goal.formula-formulas-requires
 formula-formulas-requires t c =
-    let node = stood c.requires.3 c.requires.4 c.tag_at-tag.ensures c.cost.ensures c.size.ensures in
+    let node = stood c.requires.0 c.requires.1 c.tag_at-tag.ensures c.cost.ensures c.size.ensures in
     let e = ap as_tag c.in-Join.is in (
       omega (arith, level_down node, level_in node, c.decreases),
-      (
-        c.requires.0,
-        level_in node,
-        c.requires.2,
-        join-kind node e c.under.ensures c.value-n.ensures,
-        join-here node e c.under.ensures c.value-n.ensures,
-      ),
+      (join-kind node e c.under.ensures c.value-n.ensures, join-here node e c.under.ensures c.value-n.ensures),
     )
 
 pub formula-quantified-requires : goal.formula-quantified-requires
 formula-quantified-requires t c =
-    let node = stood c.requires.3 c.requires.4 c.tag_at-tag.ensures c.cost.ensures c.size.ensures in
+    let node = stood c.requires.0 c.requires.1 c.tag_at-tag.ensures c.cost.ensures c.size.ensures in
     let e = ap as_tag c.in-Quantifier.is in (
       omega (arith, level_down node, level_in node, c.decreases),
-      (
-        c.requires.0,
-        level_in node,
-        quantifier-range node e c.value-v.ensures,
-        quantifier-here node e c.value-v.ensures,
-      ),
+      (quantifier-range node e c.value-v.ensures, quantifier-here node e c.value-v.ensures),
     )
 
 pub formula-returns-in-Join : goal.formula-returns-in-Join
 formula-returns-in-Join t c =
-    let node = stood c.requires.3 c.requires.4 c.tag_at-tag.ensures c.cost.ensures c.size.ensures in
+    let node = stood c.requires.0 c.requires.1 c.tag_at-tag.ensures c.cost.ensures c.size.ensures in
     join_asks node (ap as_tag c.in-Join.is) c.under.ensures c.value-n.ensures
     c.formulas.ensures
 
 pub formula-returns-in-Quantifier : goal.formula-returns-in-Quantifier
 formula-returns-in-Quantifier t c =
-    let node = stood c.requires.3 c.requires.4 c.tag_at-tag.ensures c.cost.ensures c.size.ensures in
+    let node = stood c.requires.0 c.requires.1 c.tag_at-tag.ensures c.cost.ensures c.size.ensures in
     quantifier_asks node (ap as_tag c.in-Quantifier.is) c.value-v.ensures c.quantified.ensures
 
 pub formula-returns-in_default : goal.formula-returns-in_default
 formula-returns-in_default t c =
-    let node = stood c.requires.3 c.requires.4 c.tag_at-tag.ensures c.cost.ensures c.size.ensures in
+    let node = stood c.requires.0 c.requires.1 c.tag_at-tag.ensures c.cost.ensures c.size.ensures in
     leaf_asks node (leaf c.tag_at-tag.result (c.in_default.not-Join, c.in_default.not-Quantifier))
 
 pub formulas-formula-requires : goal.formulas-formula-requires
 formulas-formula-requires t c =
     let s = c.args in (
-      omega (arith, c.decreases, c.requires.1),
+      omega (arith, c.decreases),
       (
         c.requires.0,
-        c.requires.1,
-        c.requires.2,
-        c.requires.3,
-        next_here s.table.now s.words.now (as_role s.role) s.above s.scope s.n s.at c.loop.counter c.loop.next
+        next_here s.table.now s.words.now (as_role s.role) s.depth.level s.depth.scope s.n s.at c.loop.counter c.loop.next
             c.loop.invariant.1
             c.loop-test.true
-            c.requires.4,
+            c.requires.1,
       ),
     )
 
@@ -107,7 +105,7 @@ pub formulas-returns-in_err-next : goal.formulas-returns-in_err-next
 formulas-returns-in_err-next t c =
     let s = c.args in
     rw (passed_on _ c.from_residual.ensures.1)
-    (next-refused s.table.now s.words.now (as_role s.role) s.above s.scope s.n s.at c.loop.counter c.loop.next
+    (next-refused s.table.now s.words.now (as_role s.role) s.depth.level s.depth.scope s.n s.at c.loop.counter c.loop.next
     c.loop.invariant.1
     c.loop-test.true
     c.in_err-next.was
@@ -117,7 +115,7 @@ pub formulas-loop-preserved : goal.formulas-loop-preserved
 formulas-loop-preserved t c =
     let s = c.args in (
       omega (arith, c.loop-test.true),
-      next-passed s.table.now s.words.now (as_role s.role) s.above s.scope s.n s.at c.loop.counter c.loop.next
+      next-passed s.table.now s.words.now (as_role s.role) s.depth.level s.depth.scope s.n s.at c.loop.counter c.loop.next
           c.loop.invariant.1
           c.loop-test.true
           c.in_ok-next.was
@@ -127,7 +125,7 @@ formulas-loop-preserved t c =
 pub formulas-returns : goal.formulas-returns
 formulas-returns t c =
     let s = c.args in
-    all-passed s.table.now s.words.now (as_role s.role) s.above s.scope s.n s.at c.loop.counter c.loop.next
+    all-passed s.table.now s.words.now (as_role s.role) s.depth.level s.depth.scope s.n s.at c.loop.counter c.loop.next
     c.loop.invariant.1
     c.loop-test.false
 
@@ -135,9 +133,9 @@ pub quantified-returns-in_err-restriction : goal.quantified-returns-in_err-restr
 quantified-returns-in_err-restriction t c =
     let s = c.args in
     rw (passed_on _ c.from_residual.ensures.1)
-    (restriction-refused s.table.now s.words.now s.level s.scope s.v s.at s.first
+    (restriction-refused s.table.now s.words.now s.depth.level s.depth.scope s.v s.at s.first
     c.outer.result
-    c.outer.ensures.1
+    c.outer.ensures
     c.bind.result
     c.bind.ensures
     c.in_err-restriction.was)
@@ -145,39 +143,39 @@ quantified-returns-in_err-restriction t c =
 pub quantified-returns-then-not-introduced : goal.quantified-returns-then-not-introduced
 quantified-returns-then-not-introduced t c =
     let s = c.args in
-    variables-missed s.table.now s.words.now s.level s.scope s.v s.at s.first
+    variables-missed s.table.now s.words.now s.depth.level s.depth.scope s.v s.at s.first
     c.outer.result
-    c.outer.ensures.1
+    c.outer.ensures
     c.bind.result
     c.bind.ensures
     c.in_ok-restriction.was
     (sym c.introduced.ensures ∙ c.if-not-introduced.true)
 
+pub quantified-invariant_of-below : goal.quantified-invariant_of-below
+quantified-invariant_of-below t c = record { levels = c.args.depth.levels; scopes = c.requires.0 }
+
 pub quantified-formula-requires : goal.quantified-formula-requires
 quantified-formula-requires t c =
     let s = c.args in (
-      omega (arith, c.decreases, c.requires.1),
+      omega (arith, c.decreases),
       (
-        c.requires.0,
-        c.requires.1,
-        c.requires.2,
         formula-kind,
-        body-here s.table.now s.words.now s.level s.scope s.v s.at s.first
+        body-here s.table.now s.words.now s.depth.level s.depth.scope s.v s.at s.first
             c.outer.result
-            c.outer.ensures.1
+            c.outer.ensures
             c.bind.result
             c.bind.ensures
             c.in_ok-restriction.was
-            c.requires.3,
+            c.requires.1,
       ),
     )
 
 pub quantified-returns : goal.quantified-returns
 quantified-returns t c =
     let s = c.args in
-    body-asked s.table.now s.words.now s.level s.scope s.v s.at s.first
+    body-asked s.table.now s.words.now s.depth.level s.depth.scope s.v s.at s.first
     c.outer.result
-    c.outer.ensures.1
+    c.outer.ensures
     c.bind.result
     c.bind.ensures
     c.in_ok-restriction.was

@@ -7,14 +7,14 @@ use Rattle.modes.proofs.ModeFormulaLoops.{SoFar}
 use Rattle.modes.proofs.mode.+formula_formulas_quantified.Given as goal
 
 abbrev pub decreases-formula : goal.decreases-formula
-decreases-formula l = 130 - 2 * l.above
+decreases-formula l = 130 - 2 * l.depth.level
 
 abbrev pub decreases-formulas : goal.decreases-formulas
-decreases-formulas l = 131 - 2 * l.above
+decreases-formulas l = 131 - 2 * l.depth.level
 
 abbrev pub decreases-quantified : goal.decreases-quantified
-decreases-quantified l = 131 - 2 * l.level
+decreases-quantified l = 131 - 2 * l.depth.level
 
 abbrev pub invariant-formulas-loop : goal.invariant-formulas-loop
 invariant-formulas-loop l =
-    (l.counter ≤ l.n) × SoFar l.table l.words (as_role l.role) l.above l.scope l.n l.at l.counter l.next
+    (l.counter ≤ l.n) × SoFar l.table l.words (as_role l.role) l.depth.level l.depth.scope l.n l.at l.counter l.next

@@ -1,5 +1,4 @@
 -- `modes::mode::check_modes` meets its contract, by that of `formula` at the policy's root.
-use native.Mathlib.Omega.{arith}
 use mathlib.Core.Path.{sym, ap, ◌∙◌}
 use Rattle.laws.specs.Answer.{passed_on}
 use Rattle.tables.specs.Checked.{outcome}
@@ -8,7 +7,7 @@ use Rattle.modes.proofs.ModeFormulaLoops.{told-passed, told-refused}
 use Rattle.modes.proofs.mode.check_modes.Goals as goal
 
 pub formula-requires : goal.formula-requires
-formula-requires c = (c.requires.0, omega arith, omega arith, formula-kind, c.requires.1)
+formula-requires c = (formula-kind, c.requires)
 
 pub returns-in_err-formula : goal.returns-in_err-formula
 returns-in_err-formula c = λ tree next node.

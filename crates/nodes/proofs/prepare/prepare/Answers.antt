@@ -35,11 +35,8 @@ instances-count-requires c =
     a.log.now.table.now a.words.now a.log.now.rows.now a.level a.v a.at _ c.value-m.ensures _ _ c.list.ensures _ c.in_ok-to.was c.requires.3 in
     let made = c.in_ok-to.to in
     let long = c.list.auto.scratch in
-    let longer = c.store.auto.scratch in (
-      c.requires.1,
-      omega (arith, within, made.before, made.counted),
-      subst (λ (k : ℕ). a.at + 3 + a.v * k ≤ length a.words.now) (sym c.value-m.ensures) c.requires.2,
-    )
+    let longer = c.store.auto.scratch in
+    (c.requires.1, omega (arith, within, made.before, made.counted))
 
 pub returns : goal.returns
 returns c =

@@ -12,23 +12,23 @@ use Rattle.policies.proofs.node.questions.Goals as goal
 pub returns-then-not-shape : goal.returns-then-not-shape
 returns-then-not-shape c =
     let a = c.args in
-    shape-no a.table.now a.words.now (as_tag a.tag) (as_role a.role) a.above a.scope a.at
+    shape-no a.table.now a.words.now (as_tag a.tag) (as_role a.role) a.depth.level a.depth.scope a.at
     c.shape.ensures
     (ap not c.if-not-shape.true)
 
 pub returns-then-left-spent : goal.returns-then-left-spent
 returns-then-left-spent c =
     let a = c.args in
-    level-no a.table.now a.words.now (as_tag a.tag) (as_role a.role) a.above a.scope a.at
+    level-no a.table.now a.words.now (as_tag a.tag) (as_role a.role) a.depth.level a.depth.scope a.at
     c.shape.ensures
     (ap not c.if-not-shape.false)
-    (omega (arith, c.cost-spent.ensures, c.if-left-spent.true, c.requires))
+    (omega (arith, c.cost-spent.ensures, c.if-left-spent.true))
 
 pub returns-then-not-named : goal.returns-then-not-named
 returns-then-not-named c =
-    let shallow : c.args.above + cost (as_role c.args.role) (as_tag c.args.tag) ≤ level_limit = omega (arith, c.cost-spent.ensures, c.requires) in
+    let shallow : c.args.depth.level + cost (as_role c.args.role) (as_tag c.args.tag) ≤ level_limit = omega (arith, c.cost-spent.ensures) in
     let a = c.args in
-    predicate-no a.table.now a.words.now (as_tag a.tag) (as_role a.role) a.above a.scope a.at
+    predicate-no a.table.now a.words.now (as_tag a.tag) (as_role a.role) a.depth.level a.depth.scope a.at
     c.shape.ensures
     (ap not c.if-not-shape.false)
     (shallow)
@@ -37,16 +37,14 @@ returns-then-not-named c =
 
 pub scoped-requires : goal.scoped-requires
 scoped-requires c =
-    let a = c.args in (
-      c.requires.2,
-      shaped_there a.words.now (as_tag a.tag) (as_role a.role) a.scope a.at c.shape.ensures (ap not c.if-not-shape.false),
-    )
+    let a = c.args in
+    shaped_there a.words.now (as_tag a.tag) (as_role a.role) a.depth.scope a.at c.shape.ensures (ap not c.if-not-shape.false)
 
 pub returns-then-not-scoped : goal.returns-then-not-scoped
 returns-then-not-scoped c =
-    let shallow : c.args.above + cost (as_role c.args.role) (as_tag c.args.tag) ≤ level_limit = omega (arith, c.cost-spent.ensures, c.requires) in
+    let shallow : c.args.depth.level + cost (as_role c.args.role) (as_tag c.args.tag) ≤ level_limit = omega (arith, c.cost-spent.ensures) in
     let a = c.args in
-    variable-no a.table.now a.words.now (as_tag a.tag) (as_role a.role) a.above a.scope a.at
+    variable-no a.table.now a.words.now (as_tag a.tag) (as_role a.role) a.depth.level a.depth.scope a.at
     c.shape.ensures
     (ap not c.if-not-shape.false)
     (shallow)
@@ -57,9 +55,9 @@ returns-then-not-scoped c =
 
 pub returns : goal.returns
 returns c =
-    let shallow : c.args.above + cost (as_role c.args.role) (as_tag c.args.tag) ≤ level_limit = omega (arith, c.cost-spent.ensures, c.requires) in
+    let shallow : c.args.depth.level + cost (as_role c.args.role) (as_tag c.args.tag) ≤ level_limit = omega (arith, c.cost-spent.ensures) in
     let a = c.args in
-    all_yes a.table.now a.words.now (as_tag a.tag) (as_role a.role) a.above a.scope a.at
+    all_yes a.table.now a.words.now (as_tag a.tag) (as_role a.role) a.depth.level a.depth.scope a.at
     c.shape.ensures
     (ap not c.if-not-shape.false)
     (shallow)

@@ -35,19 +35,19 @@ pub children-loop-init : goal.children-loop-init
 children-loop-init t c =
     let s = c.args in (
       search rules,
-      c.requires.0,
+      c.requires,
       search rules,
-      left-first s.table.now s.words.now (as_role s.role) s.above s.scope s.n s.at,
+      left-first s.table.now s.words.now (as_role s.role) s.depth.level s.depth.scope s.n s.at,
     )
 
 pub children-walk-requires : goal.children-walk-requires
-children-walk-requires t c = (omega (arith, c.decreases, c.requires), (c.loop.invariant.1, c.requires.1, c.requires.2))
+children-walk-requires t c = (omega (arith, c.decreases), c.loop.invariant.1)
 
 pub children-returns-in_err-child : goal.children-returns-in_err-child
 children-returns-in_err-child t c =
     let s = c.args in
     rw (passed_on _ c.from_residual.ensures.1)
-    (left-refused s.table.now s.words.now (as_role s.role) s.above s.scope s.n s.at
+    (left-refused s.table.now s.words.now (as_role s.role) s.depth.level s.depth.scope s.n s.at
     c.loop.counter
     c.loop.next
     c.loop.level
@@ -61,10 +61,10 @@ children-loop-preserved t c =
     let s = c.args in
     let l = c.loop in (
       omega (arith, c.loop-test.true),
-      read_fits s.table.now s.words.now (as_role s.role) s.above s.scope l.next c.in_ok-child.was c.walk.ensures,
+      read_fits s.table.now s.words.now (as_role s.role) s.depth.level s.depth.scope l.next c.in_ok-child.was c.walk.ensures,
       omega (arith, c.max-level.ensures, c.loop.invariant.2),
       rw c.max-level.ensures
-          (left-read s.table.now s.words.now (as_role s.role) s.above s.scope s.n s.at
+          (left-read s.table.now s.words.now (as_role s.role) s.depth.level s.depth.scope s.n s.at
           l.counter
           l.next
           l.level
@@ -77,7 +77,7 @@ children-loop-preserved t c =
 pub children-returns : goal.children-returns
 children-returns t c =
     let s = c.args in
-    left-last s.table.now s.words.now (as_role s.role) s.above s.scope s.n s.at
+    left-last s.table.now s.words.now (as_role s.role) s.depth.level s.depth.scope s.n s.at
     c.loop.counter
     c.loop.next
     c.loop.level
@@ -89,27 +89,26 @@ pub quantified-returns-in_err-restriction : goal.quantified-returns-in_err-restr
 quantified-returns-in_err-restriction t c =
     let s = c.args in
     rw (passed_on _ c.from_residual.ensures.1)
-    (restriction-refused s.table.now s.words.now s.level s.scope s.at c.walk.ensures c.in_err-restriction.was)
+    (restriction-refused s.table.now s.words.now s.depth.level s.depth.scope s.at c.walk.ensures c.in_err-restriction.was)
 
 pub quantified-walk-requires-2 : goal.quantified-walk-requires-2
 quantified-walk-requires-2 t c =
-    let p = c.requires in
     let s = c.args in (
-      omega (arith, c.decreases, p),
-      (read_fits s.table.now s.words.now restriction s.level s.scope s.at c.in_ok-restriction.was c.walk.ensures, p.1, p.2),
+      omega (arith, c.decreases),
+      read_fits s.table.now s.words.now restriction s.depth.level s.depth.scope s.at c.in_ok-restriction.was c.walk.ensures,
     )
 
 pub quantified-returns-in_err-body : goal.quantified-returns-in_err-body
 quantified-returns-in_err-body t c =
     let s = c.args in
     rw (passed_on _ c.from_residual-in_err-body.ensures.1)
-    (body_refused s.table.now s.words.now s.level s.scope s.at c.walk.ensures c.in_ok-restriction.was c.walk-2.ensures c.in_err-body.was)
+    (body_refused s.table.now s.words.now s.depth.level s.depth.scope s.at c.walk.ensures c.in_ok-restriction.was c.walk-2.ensures c.in_err-body.was)
 
 pub quantified-returns : goal.quantified-returns
 quantified-returns t c =
     let s = c.args in
     rw c.max.ensures
-    (both_read s.table.now s.words.now s.level s.scope s.at c.walk.ensures c.in_ok-restriction.was
+    (both_read s.table.now s.words.now s.depth.level s.depth.scope s.at c.walk.ensures c.in_ok-restriction.was
     c.walk-2.ensures
     c.in_ok-body.was)
 
@@ -117,7 +116,7 @@ pub walk-returns-in_err-questions : goal.walk-returns-in_err-questions
 walk-returns-in_err-questions t c =
     let s = c.args in
     rw (passed_on _ c.from_residual.ensures.1)
-    (refused-tells s.table.now s.words.now (as_role s.role) s.above s.scope s.at c.requires.1 (as_tag c.tag_at-tag.result)
+    (refused-tells s.table.now s.words.now (as_role s.role) s.depth.level s.depth.scope s.at c.args.depth.levels (as_tag c.tag_at-tag.result)
     c.tag_at-tag.ensures
     c.in_err-questions.was
     c.questions.ensures)
@@ -130,57 +129,66 @@ pub walk-size-requires : goal.walk-size-requires
 walk-size-requires t c =
     let asks = ap outcome (sym c.in_ok-questions.was) ∙ c.questions.ensures in
     let s = c.args in
-    fits-there s.words.now (as_tag c.tag_at-tag.result) (as_role s.role) s.scope s.at (asked _ _ _ _ _ _ _ (sym asks)).fits
+    fits-there s.words.now (as_tag c.tag_at-tag.result) (as_role s.role) s.depth.scope s.at (asked _ _ _ _ _ _ _ (sym asks)).fits
 
 pub walk-overflow_add-next : goal.walk-overflow_add-next
 walk-overflow_add-next t c =
-    let node = entered c.requires.1 c.tag_at-tag.ensures c.in_ok-questions.was c.questions.ensures c.cost.ensures c.size.ensures in
+    let node = entered c.args.depth.levels c.tag_at-tag.ensures c.in_ok-questions.was c.questions.ensures c.cost.ensures c.size.ensures in
     omega (arith, next_fits node)
+
+pub walk-invariant_of-below : goal.walk-invariant_of-below
+walk-invariant_of-below t c =
+    let node = entered c.args.depth.levels c.tag_at-tag.ensures c.in_ok-questions.was c.questions.ensures c.cost.ensures c.size.ensures in
+    record { levels = level-fits node; scopes = c.args.depth.scopes }
 
 pub walk-children-requires : goal.walk-children-requires
 walk-children-requires t c =
-    let node = entered c.requires.1 c.tag_at-tag.ensures c.in_ok-questions.was c.questions.ensures c.cost.ensures c.size.ensures in
-    (omega (arith, level_down node, level-fits node, c.decreases), (next_fits node, level-fits node, c.requires.2))
+    let node = entered c.args.depth.levels c.tag_at-tag.ensures c.in_ok-questions.was c.questions.ensures c.cost.ensures c.size.ensures in
+    (omega (arith, level_down node, level-fits node, c.decreases), next_fits node)
 
-pub walk-overflow_add-scope : goal.walk-overflow_add-scope
-walk-overflow_add-scope t c =
-    let node = entered c.requires.1 c.tag_at-tag.ensures c.in_ok-questions.was c.questions.ensures c.cost.ensures c.size.ensures in
+pub walk-overflow_add-below : goal.walk-overflow_add-below
+walk-overflow_add-below t c =
+    let node = entered c.args.depth.levels c.tag_at-tag.ensures c.in_ok-questions.was c.questions.ensures c.cost.ensures c.size.ensures in
     omega (arith, quantifier-range node (ap as_tag c.in-Quantifier.is), c.value-v.ensures)
+
+pub walk-invariant_of-below-in-Quantifier : goal.walk-invariant_of-below-in-Quantifier
+walk-invariant_of-below-in-Quantifier t c =
+    let node = entered c.args.depth.levels c.tag_at-tag.ensures c.in_ok-questions.was c.questions.ensures c.cost.ensures c.size.ensures in record {
+      levels = level-fits node;
+      scopes = omega (arith, quantifier-range node (ap as_tag c.in-Quantifier.is), c.value-v.ensures);
+    }
 
 pub walk-quantified-requires : goal.walk-quantified-requires
 walk-quantified-requires t c =
-    let node = entered c.requires.1 c.tag_at-tag.ensures c.in_ok-questions.was c.questions.ensures c.cost.ensures c.size.ensures in (
-      omega (arith, level_down node, level-fits node, c.decreases),
-      (
-        next_fits node,
-        level-fits node,
-        omega (arith, quantifier-range node (ap as_tag c.in-Quantifier.is), c.value-v.ensures),
-      ),
-    )
+    let node = entered c.args.depth.levels c.tag_at-tag.ensures c.in_ok-questions.was c.questions.ensures c.cost.ensures c.size.ensures in
+    (omega (arith, level_down node, level-fits node, c.decreases), next_fits node)
+
+pub walk-invariant_of-below-in-Some : goal.walk-invariant_of-below-in-Some
+walk-invariant_of-below-in-Some t c =
+    let node = entered c.args.depth.levels c.tag_at-tag.ensures c.in_ok-questions.was c.questions.ensures c.cost.ensures c.size.ensures in
+    record { levels = level-fits node; scopes = some-range node (ap as_tag c.in-Some.is) }
 
 pub walk-walk-requires : goal.walk-walk-requires
 walk-walk-requires t c =
-    let node = entered c.requires.1 c.tag_at-tag.ensures c.in_ok-questions.was c.questions.ensures c.cost.ensures c.size.ensures in (
-      omega (arith, level_down node, level-fits node, c.decreases),
-      (next_fits node, level-fits node, some-range node (ap as_tag c.in-Some.is)),
-    )
+    let node = entered c.args.depth.levels c.tag_at-tag.ensures c.in_ok-questions.was c.questions.ensures c.cost.ensures c.size.ensures in
+    (omega (arith, level_down node, level-fits node, c.decreases), next_fits node)
 
 pub walk-returns-in-Join : goal.walk-returns-in-Join
 walk-returns-in-Join t c =
-    let node = entered c.requires.1 c.tag_at-tag.ensures c.in_ok-questions.was c.questions.ensures c.cost.ensures c.size.ensures in
+    let node = entered c.args.depth.levels c.tag_at-tag.ensures c.in_ok-questions.was c.questions.ensures c.cost.ensures c.size.ensures in
     join-tells node (ap as_tag c.in-Join.is) c.under.ensures c.value-n.ensures c.children.ensures
 
 pub walk-returns-in-Quantifier : goal.walk-returns-in-Quantifier
 walk-returns-in-Quantifier t c =
-    let node = entered c.requires.1 c.tag_at-tag.ensures c.in_ok-questions.was c.questions.ensures c.cost.ensures c.size.ensures in
-    quantifier-tells node (ap as_tag c.in-Quantifier.is) (ap (λ (n : ℕ). c.args.scope + n) c.value-v.ensures) c.quantified.ensures
+    let node = entered c.args.depth.levels c.tag_at-tag.ensures c.in_ok-questions.was c.questions.ensures c.cost.ensures c.size.ensures in
+    quantifier-tells node (ap as_tag c.in-Quantifier.is) (ap (λ (n : ℕ). c.args.depth.scope + n) c.value-v.ensures) c.quantified.ensures
 
 pub walk-returns-in-Some : goal.walk-returns-in-Some
 walk-returns-in-Some t c =
-    let node = entered c.requires.1 c.tag_at-tag.ensures c.in_ok-questions.was c.questions.ensures c.cost.ensures c.size.ensures in
+    let node = entered c.args.depth.levels c.tag_at-tag.ensures c.in_ok-questions.was c.questions.ensures c.cost.ensures c.size.ensures in
     some-tells node (ap as_tag c.in-Some.is) c.walk.ensures
 
 pub walk-returns-in_default : goal.walk-returns-in_default
 walk-returns-in_default t c =
-    let node = entered c.requires.1 c.tag_at-tag.ensures c.in_ok-questions.was c.questions.ensures c.cost.ensures c.size.ensures in
+    let node = entered c.args.depth.levels c.tag_at-tag.ensures c.in_ok-questions.was c.questions.ensures c.cost.ensures c.size.ensures in
     leaf-tells node (leaf c.tag_at-tag.result (c.in_default.not-Join, c.in_default.not-Quantifier, c.in_default.not-Some))

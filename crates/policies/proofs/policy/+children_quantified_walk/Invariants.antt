@@ -8,17 +8,17 @@ use Rattle.policies.proofs.PolicyRead.{Left}
 use Rattle.policies.proofs.policy.+children_quantified_walk.Given as goal
 
 abbrev pub decreases-children : goal.decreases-children
-decreases-children l = 131 - 2 * l.above
+decreases-children l = 131 - 2 * l.depth.level
 
 abbrev pub decreases-quantified : goal.decreases-quantified
-decreases-quantified l = 131 - 2 * l.level
+decreases-quantified l = 131 - 2 * l.depth.level
 
 abbrev pub decreases-walk : goal.decreases-walk
-decreases-walk l = 130 - 2 * l.above
+decreases-walk l = 130 - 2 * l.depth.level
 
 abbrev pub invariant-children-loop : goal.invariant-children-loop
 invariant-children-loop l =
     (l.counter ≤ l.n)
     × (l.next ≤ length l.words)
-    × (l.above ≤ l.level)
-    × Left l.table l.words (as_role l.role) l.above l.scope l.n l.at l.counter l.next l.level
+    × (l.depth.level ≤ l.level)
+    × Left l.table l.words (as_role l.role) l.depth.level l.depth.scope l.n l.at l.counter l.next l.level

@@ -53,7 +53,6 @@ returns-then-is_formula c =
     a.table.now a.own.now tree (as_role a.role) a.above a.scope a.self.now a.out.now
     c.lay_own.new.out c.size-n.result c.more_words-words.result c.ask_leaf-self.result stand good c.requires.2 n
     c.more_words-words.ensures c.lay_own.ensures c.ask_leaf-self.ensures (sym c.is_formula.ensures ∙ c.if-is_formula.true)
-    c.requires.0.marks
 
 pub bind_leaf-requires : goal.bind_leaf-requires
 bind_leaf-requires c =
@@ -62,9 +61,7 @@ bind_leaf-requires c =
     let ready = c.requires.0 in
     let passes = asked-passed c.ask_leaf-self.result a.self.now.asked _ c.ask_leaf-self.ensures in (
       record {
-        few = ready.few;
         counted = ready.counted;
-        marks = ready.marks;
         level = λ p. ready.level (passes p).0;
         range
             = λ p. ready.range (passes p).0;

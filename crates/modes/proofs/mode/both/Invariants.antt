@@ -1,7 +1,0 @@
--- `modes::mode::both` meets its contract. The loop's invariant: the marks below i are those of both sets.
-use Prim.Native.Nat.{◌≤◌}
-use Rattle.modes.proofs.ModeTerms.{Joining}
-use Rattle.modes.proofs.mode.both.Given as goal
-
-abbrev pub invariant-loop-i : goal.invariant-loop-i
-invariant-loop-i l = (l.i ≤ 16) × Joining l.initial.set l.b l.set l.i
