@@ -58,21 +58,20 @@ fn lead(environment: Environment, terms: Terms<'_>, predicate: usize) -> Way
     }
 }
 
-// The environments that the rows of a chain make of one environment, in row order, from a place on: at most so many. The rows
-// of other predicates are passed over. Tells how many there are, or None if the places ran out.
+// The environments that the rows of a chain make of one environment, in row order, from a place on: at most so many. The links are
+// lent from where the chain's begin; the rows of other predicates are passed over. Tells how many there are, or None if the places ran out.
 fn walk_rows(
     environment: Environment,
     terms: Terms<'_>,
     log: &[i32],
     links: &[u16],
-    keys: usize,
-    key: usize,
+    way: Way,
     predicate: usize,
     scratch: &mut [i32],
     base: usize,
     left: usize,
 ) -> Option<usize>
-    requires { Leads terms.words.now log.now links.now keys key predicate terms.first terms.n environment
+    requires { Leads terms.words.now log.now links.now way.keys way.key predicate terms.first terms.n environment
         × (17 * (base + left) ≤ length scratch.old) }
     ensures few { IfSome result (λ n. n ≤ left) }
     ensures adds { (e : M.Environment) →
@@ -87,11 +86,11 @@ fn walk_rows(
 {
     let rows = log.len() / ROW_WORDS;
     let mut made = 0;
-    let mut link = links[key] as usize;
+    let mut link = links[way.key] as usize;
     // By hand: each turn goes to where the link of its row leads.
     while link != 0 {
         let row = rows - link;
-        link = links[keys + row] as usize;
+        link = links[way.keys + row] as usize;
         if !words::is(log, ROW_WORDS * row, predicate) {
             continue;
         }
@@ -142,8 +141,7 @@ pub fn match_rows(
         terms,
         log,
         &links[from..],
-        way.keys,
-        way.key,
+        way,
         predicate,
         scratch,
         base,

@@ -11,18 +11,18 @@ pub loop-link-init : goal.loop-link-init
 loop-link-init c =
     let a = c.args in
     let lead = c.requires.0 in (
-      record { key = lead.key; chained = lead.chained; from = 0; linked = lead.chained.heads a.key lead.inside },
+      record { key = lead.key; chained = lead.chained; from = 0; linked = lead.chained.heads a.way.key lead.inside },
       omega arith,
-      λ e h. far_start a.log.now a.predicate (terms_at a.terms.words.now a.terms.first a.terms.n) e lead.key a.key (lead.whole e h) a.base a.scratch.now,
+      λ e h. far_start a.log.now a.predicate (terms_at a.terms.words.now a.terms.first a.terms.n) e lead.key a.way.key (lead.whole e h) a.base a.scratch.now,
     )
 
 pub overflow_sub-row : goal.overflow_sub-row
 unfolding row_count
 overflow_sub-row c = (first-row c.loop-link.invariant.0 c.loop-link-test.true).1
 
-pub bounds-links-keys : goal.bounds-links-keys
+pub bounds-links-way-in-loop-link : goal.bounds-links-way-in-loop-link
 unfolding row_count
-bounds-links-keys c =
+bounds-links-way-in-loop-link c =
     let w = c.loop-link.invariant.0 in
     omega (arith, w.chained.within, (first-row w c.loop-link-test.true).0.inside)
 
