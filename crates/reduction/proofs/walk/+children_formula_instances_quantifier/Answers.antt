@@ -19,7 +19,7 @@ use Rattle.policies.proofs.Standing.{low}
 use Rattle.policies.proofs.Stood.{formula-kind, level-fits, own-fits, next_in, level_in, level_down}
 use Rattle.reduction.specs.Walk.{ReducesNode}
 use Rattle.joining.proofs.Lending.{rest, rest-long, lent_long}
-use Rattle.reduction.proofs.WalkChildren.{children-start, children-within, children-here, children-short}
+use Rattle.reduction.proofs.WalkChildren.{children-start, children-lent, children-here, children-short}
 use Rattle.reduction.proofs.WalkChildren.{children_adding, children-next, children_end}
 use denote.Enum.Bare.{same_true, same_false}
 use borrow.Author.Rules.{rules}
@@ -52,81 +52,40 @@ other_tag Some k = inl refl
 other_tag Unused k = inr refl
 
 pub children-loop-init : goal.children-loop-init
-children-loop-init t c =
-    let a = c.args in
-    children-start a.log.now.table.now a.words.now a.log.now.rows.now a.kind a.above a.outer.now.scope a.outer.now.environment (length a.scratch.now / 17) a.n a.at
-    c.new-join.ensures
+children-loop-init t c = children-start c.args.log.now.rows.now c.new-join.ensures
 
 pub children-formula-child-requires : goal.children-formula-child-requires
 children-formula-child-requires t c =
     let a = c.args in
-    let here =
-    children-here a.log.now.table.now a.words.now a.log.now.rows.now a.kind a.above a.outer.now.scope a.outer.now.environment
-    (length a.scratch.now / 17) a.n a.at c.loop.counter c.loop.next c.loop.join c.loop.out c.loop.invariant
-    c.loop-test.true c.requires.1 (_, a.outer.now.bound) in (
-      omega (arith, c.decreases, low a.log.now.table.now a.words.now (L.Role.operand a.kind) a.above a.outer.now.scope _ here),
+    let here = children-here a.log.now.rows.now _ c.loop.invariant c.loop-test.true c.requires.1 (_, a.outer.now.bound) in (
+      omega (arith, c.decreases, low _ _ _ _ _ _ here),
       (omega (arith, rest-long c.loop.out c.loop.join.words, c.loop.auto.out, c.requires.0), operand-kind a.kind, here),
     )
 
 pub children-returns-in-Short : goal.children-returns-in-Short
 children-returns-in-Short t c =
     let a = c.args in
-    let child =
-    subst
-    (λ (n : ℕ). ReducesNode a.log.now.table.now a.words.now a.log.now.rows.now (L.Role.operand a.kind) a.above
-    a.outer.now.scope c.loop.next a.outer.now.environment (n / 17) (rest c.loop.out c.loop.join.words)
-    c.formula-child.new.out c.formula-child.result) c.loop.auto.scratch c.formula-child.ensures in
-    children-short a.log.now.table.now a.words.now a.log.now.rows.now a.kind a.above a.outer.now.scope a.outer.now.environment
-    (length a.scratch.now / 17) a.n a.at c.loop.counter c.loop.next c.loop.join c.loop.out c.loop.invariant
-    c.loop-test.true c.formula-child.new.out c.formula-child.result child c.in-Short.is
-    (lent_long c.loop.out c.loop.join.words c.formula-child.new.out
-    (children-within a.log.now.table.now a.words.now a.log.now.rows.now a.kind a.above a.outer.now.scope a.outer.now.environment
-    (length a.scratch.now / 17) a.n a.at c.loop.counter c.loop.next c.loop.join c.loop.out c.loop.invariant
-    c.requires.1 (_, a.outer.now.bound)) c.formula-child.auto.out ∙ c.loop.auto.out) _ c.in-Short.is
+    let long = children-lent a.log.now.rows.now _ c.loop.invariant c.requires.1 (_, a.outer.now.bound) _ c.formula-child.auto.out in
+    children-short a.log.now.rows.now _ c.loop.invariant c.loop-test.true
+    (ap (λ (n : ℕ). n / 17) c.loop.auto.scratch) c.formula-child.ensures c.in-Short.is (long ∙ c.loop.auto.out) c.in-Short.is
 
 pub children-add-join-requires : goal.children-add-join-requires
 children-add-join-requires t c =
     let a = c.args in
-    let child =
-    subst
-    (λ (n : ℕ). ReducesNode a.log.now.table.now a.words.now a.log.now.rows.now (L.Role.operand a.kind) a.above
-    a.outer.now.scope c.loop.next a.outer.now.environment (n / 17) (rest c.loop.out c.loop.join.words)
-    c.formula-child.new.out c.formula-child.result) c.loop.auto.scratch c.formula-child.ensures in (
-      omega (
-        arith,
-        lent_long c.loop.out c.loop.join.words c.formula-child.new.out
-            (children-within a.log.now.table.now a.words.now a.log.now.rows.now a.kind a.above a.outer.now.scope a.outer.now.environment
-            (length a.scratch.now / 17) a.n a.at c.loop.counter c.loop.next c.loop.join c.loop.out c.loop.invariant
-            c.requires.1 (_, a.outer.now.bound)) c.formula-child.auto.out,
-        c.loop.auto.out,
-        c.requires.0,
-      ),
-      children_adding a.log.now.table.now a.words.now a.log.now.rows.now a.kind a.above a.outer.now.scope a.outer.now.environment
-          (length a.scratch.now / 17) a.n a.at c.loop.counter c.loop.next c.loop.join c.loop.out c.loop.invariant
-          c.loop-test.true c.formula-child.new.out c.formula-child.result child
-          c.requires.1 (_, a.outer.now.bound),
+    let long = children-lent a.log.now.rows.now _ c.loop.invariant c.requires.1 (_, a.outer.now.bound) _ c.formula-child.auto.out in (
+      omega (arith, long, c.loop.auto.out, c.requires.0),
+      children_adding a.log.now.rows.now _ c.loop.invariant c.loop-test.true
+          (ap (λ (n : ℕ). n / 17) c.loop.auto.scratch) c.formula-child.ensures c.requires.1 (_, a.outer.now.bound),
     )
 
 pub children-loop-preserved : goal.children-loop-preserved
 children-loop-preserved t c =
-    let a = c.args in
-    let child =
-    subst
-    (λ (n : ℕ). ReducesNode a.log.now.table.now a.words.now a.log.now.rows.now (L.Role.operand a.kind) a.above
-    a.outer.now.scope c.loop.next a.outer.now.environment (n / 17) (rest c.loop.out c.loop.join.words)
-    c.formula-child.new.out c.formula-child.result) c.loop.auto.scratch c.formula-child.ensures in
-    children-next
-    a.log.now.table.now a.words.now a.log.now.rows.now a.kind a.above a.outer.now.scope a.outer.now.environment
-    (length a.scratch.now / 17) a.n a.at c.loop.counter c.loop.next c.loop.join c.loop.out c.loop.invariant
-    c.loop-test.true c.formula-child.new.out c.formula-child.result child
-    c.in_default.not-Short _ _ c.add-join.ensures
+    children-next c.args.log.now.rows.now _ c.loop.invariant c.loop-test.true
+    (ap (λ (n : ℕ). n / 17) c.loop.auto.scratch) c.formula-child.ensures c.in_default.not-Short c.add-join.ensures
 
 pub children-returns : goal.children-returns
 children-returns t c =
-    let a = c.args in
-    children_end a.log.now.table.now a.words.now a.log.now.rows.now a.kind a.above a.outer.now.scope a.outer.now.environment
-    (length a.scratch.now / 17) a.n a.at c.loop.counter c.loop.next c.loop.join c.loop.out c.loop.invariant
-    c.loop-test.false c.loop.auto.out _ _ c.finish-answer.ensures
+    children_end c.args.log.now.rows.now _ c.loop.invariant c.loop-test.false c.loop.auto.out c.finish-answer.ensures
 
 pub formula-overflow_add-level : goal.formula-overflow_add-level
 formula-overflow_add-level t c =
