@@ -26,5 +26,5 @@ invariant-children-loop l =
 
 abbrev pub invariant-instances-loop-i : goal.invariant-instances-loop-i
 invariant-instances-loop-i l =
-    ScratchKept l.log.table.now l.words l.log.rows.now l.kind l.level l.outer.scope l.v l.body l.from l.k l.used l.outer.environment l.initial.scratch l.scratch
-    × InstancesSoFar l.log.table.now l.words l.log.rows.now l.kind l.level l.outer.scope l.v l.body l.from l.k l.used l.outer.environment l.initial.scratch l.i l.next l.join l.out
+    ScratchKept l.used l.initial.scratch l.scratch
+    × InstancesSoFar l.log.table.now l.words l.log.rows.now l.kind l.level l.outer.scope l.v l.body l.from l.k l.outer.environment l.initial.scratch (length l.initial.scratch / 17 - l.used) l.i l.next l.join l.out
