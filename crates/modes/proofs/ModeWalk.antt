@@ -4,7 +4,6 @@ use Prim.Native.Nat.{ℕ, ◌+◌}
 use mathlib.Core.Path.{◌≡◌, refl, sym, ap, subst}
 use mathlib.Core.Bool.{Bool, true, false, false≢true}
 use mathlib.Core.List.{List}
-use lib.ListN.{length}
 use lib.IntN.{ℤ, nat_abs}
 use Rattle.model.specs.Words.{Words, word, value}
 use Rattle.model.specs.Tag.{Tag, tag_of}

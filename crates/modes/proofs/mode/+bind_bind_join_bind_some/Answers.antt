@@ -150,9 +150,6 @@ bind_join-returns t c =
     all-passed c.loop.invariant.1 c.loop-test.false
     (left_none a.table.now a.depth.scope a.every (set_of a.bound) (set_of c.loop.set) c.loop.next)
 
-pub bind_some-invariant_of-below : goal.bind_some-invariant_of-below
-bind_some-invariant_of-below t c = record { levels = omega (arith, c.requires.0); scopes = omega (arith, c.requires.1) }
-
 pub bind_some-returns-in_err-child : goal.bind_some-returns-in_err-child
 bind_some-returns-in_err-child t c =
     rw (passed_on _ c.from_residual.ensures.1)
