@@ -19,7 +19,7 @@ use Rattle.policies.specs.Standing.{Here, HereAll}
 use Rattle.policies.proofs.Standing.{first-left, none_left}
 use Rattle.modes.specs.declared.marks.Marks.{Marks}
 use Rattle.modes.specs.declared.mode.Bound.{Bound}
-use Rattle.modes.specs.Mode.{set_of, Joint, told, Came, Binds, bindings_join}
+use Rattle.modes.specs.Mode.{set_of, Joint, told, Came, Binds, bindings_of}
 use Rattle.modes.proofs.ModeTerms.{and-true}
 
 -- what stands where a walk passed
@@ -60,16 +60,16 @@ module _ (table : Words) (scope : ℕ) where
   pub first-passed :
       (every : Bool) (bound : Variables) (set : Variables) (t : Tree) (us : Trees) (at : ℕ) →
       bindings t table bound scope at ≡ passed set →
-      bindings_join every (cons t us) table bound scope at ≡ Left every table scope bound set us (at + size t)
-  unfolding Left meets bindings_all bindings_any ◌>>=◌
+      bindings_of every (cons t us) table bound scope at ≡ Left every table scope bound set us (at + size t)
+  unfolding Left meets bindings_of bindings_all bindings_any ◌>>=◌
   first-passed true bound set t us at e = rw e
   first-passed false bound set t us at e = rw e
 
   pub first-refused :
       (every : Bool) (bound : Variables) (t : Tree) (us : Trees) (at : ℕ) {q : Refusal} {p : ℕ} →
       bindings t table bound scope at ≡ refused q p →
-      bindings_join every (cons t us) table bound scope at ≡ refused q p
-  unfolding bindings_all bindings_any ◌>>=◌
+      bindings_of every (cons t us) table bound scope at ≡ refused q p
+  unfolding bindings_of bindings_all bindings_any ◌>>=◌
   first-refused true bound t us at e = rw e
   first-refused false bound t us at e = rw e
 

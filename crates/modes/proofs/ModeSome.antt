@@ -1,5 +1,5 @@
 -- The mode rule at a "some": what comes of its child, and what of the node.
-use Prim.Native.Nat.{ℕ, ◌+◌, ◌<◌}
+use Prim.Native.Nat.{ℕ, ◌+◌}
 use mathlib.Core.Path.{◌≡◌, refl, sym, ap, ◌∙◌, fun_ext}
 use mathlib.Core.Bool.{true, false, not, ◌&&◌}
 use lib.Dec.{eqb}

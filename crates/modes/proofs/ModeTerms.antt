@@ -119,21 +119,6 @@ pub and-true : (c : Bool) → c ≡ (c && true)
 and-true true = refl
 and-true false = refl
 
--- a mark is dropped
-pub set_dropped : (marks : List Bool) (v x : ℕ) → v < length marks → get_or (set marks v false) x false ≡ (get_or marks x false && not (eqb x v))
-set_dropped marks v x h =
-    ⊎_elim
-    (λ e.
-    ap (λ (y : ℕ). get_or (set marks v false) y false) (eqb-true x v e)
-    ∙ get_or-set_same marks v false false h
-    ∙ and-false (get_or marks x false)
-    ∙ ap (λ (b : Bool). get_or marks x false && not b) (sym e))
-    (λ e.
-    get_or-set_other marks v x false false (eqb-false x v e)
-    ∙ and-true (get_or marks x false)
-    ∙ ap (λ (b : Bool). get_or marks x false && not b) (sym e))
-    (decide (eqb x v))
-
 pub joining-start : (a b : List Bool) → length a ≡ 16 → Joining a b a 0
 joining-start a b l = record { sixteen = l; done = λ x h. absurd (omega arith); left = λ x h. refl }
 

@@ -4,7 +4,6 @@ use Prim.Native.Nat.{ℕ, ◌+◌}
 use mathlib.Core.Path.{◌≡◌, refl, sym, ap, subst}
 use mathlib.Core.Bool.{Bool, true, false, false≢true}
 use mathlib.Core.List.{List}
-use lib.ListN.{length}
 use lib.IntN.{ℤ, nat_abs}
 use Rattle.model.specs.Words.{Words, word, value}
 use Rattle.model.specs.Tag.{Tag, tag_of}
@@ -21,7 +20,7 @@ use Rattle.model.specs.declared.Refused.{Refused}
 use Rattle.modes.specs.declared.marks.Marks.{Marks}
 use Rattle.modes.specs.declared.mode.Bound.{Bound}
 use Rattle.policies.proofs.Standing.{has}
-use Rattle.modes.specs.Mode.{set_of, Binds, BindsJoin}
+use Rattle.modes.specs.Mode.{set_of, Binds, BindsJoin, bindings_of}
 
 -- the tags that the walk of a restriction has no case for
 abbrev pub Other : (tag : Tag) → Type 0
@@ -64,7 +63,7 @@ module _ (table words : Words) (above scope at : ℕ) where
         (b : Bool) → Tag.join b ≡ tag_of (word words at) →
         ((ts : Trees) (next : ℕ) → Nodes table words restriction (above + 1) scope (at + 2) ts next → count ts ≡ value words (at + 1) → BindsJoin b ts table v scope (at + 2) next r) →
         Comes
-    unfolding value under bindings
+    unfolding value under bindings bindings_of
     from-join b e h c next node =
         let (ts, is) = has table words restriction above scope at (Tag.join b) e c next node in
         let a = join-parts table words restriction above scope at next b ts (subst (λ (t : Tree). Restricts t next) is node) in

@@ -46,13 +46,13 @@ pub record Came (o : Outcome Variables) (next : ℕ) (r : Result Bound Refused) 
 abbrev pub Binds : (c : Tree) (table : Words) (b : Variables) (scope at next : ℕ) (r : Result Bound Refused) → Type 0
 Binds c table b scope at next r = Came (bindings c table b scope at) next r
 
--- what the operands of an all-of (true) or any-of bind
-abbrev pub bindings_join : (every : Bool) → Trees → Words → Variables → ℕ → ℕ → Outcome Variables
-bindings_join true ts table b scope at = bindings_all ts table b scope at
-bindings_join false ts table b scope at = bindings_any ts table b scope at
+-- question 7 of the operands of an all-of (true) or any-of
+unfoldable pub bindings_of : Bool → Trees → Words → Variables → ℕ → ℕ → Outcome Variables
+bindings_of true ts table bound next at = bindings_all ts table bound next at
+bindings_of false ts table bound next at = bindings_any ts table bound next at
 
 abbrev pub BindsJoin : (every : Bool) (ts : Trees) (table : Words) (b : Variables) (scope at next : ℕ) (r : Result Bound Refused) → Type 0
-BindsJoin every ts table b scope at next r = Came (bindings_join every ts table b scope at) next r
+BindsJoin every ts table b scope at next r = Came (bindings_of every ts table b scope at) next r
 
 -- what a walk of formulas says: that the mode rule passed, and the index behind them; or where it was refused
 unfoldable pub told_modes : Outcome (Unit {0}) → ℕ → Result ℕ Refused

@@ -12,7 +12,7 @@ pub struct Marks {
 }
 
 impl Marks {
-    ghost use Rattle.std.specs.Prelude.{Bool, true, false, ◌&&◌, not, cond, eqb, ltb, ℕ, ◌+◌, ◌*◌, ◌^◌, ◌≤◌, ◌<◌};
+    ghost use Rattle.std.specs.Prelude.{true, ◌&&◌, not, cond, eqb, ltb, ℕ, ◌+◌, ◌^◌, ◌≤◌, ◌<◌};
     ghost use Rattle.model.specs.Lists.{all, span};
     ghost use Rattle.model.specs.Mode.{is_bound, inputs_bound};
     ghost use Rattle.model.specs.Reading.{term_at, in_scope};
@@ -73,6 +73,7 @@ impl Marks {
     }
 
     // What an operand of an all-of (true) or any-of is handed: the set behind the one before, or that of the start.
+    // By an if, here and in `joined`, since the policy says which: closures would be chosen by an if too.
     pub fn handed(self, every: bool, start: Marks) -> Marks
         ensures { result ≡ cond every self start }
     {

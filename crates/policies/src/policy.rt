@@ -1,5 +1,5 @@
 // Policies: one walk over the words of a policy, front to back, asks questions 2 to 6 and finds the greatest level.
-ghost use Rattle.std.specs.Prelude.{◌≡◌, ◌≤◌, max, length};
+ghost use Rattle.std.specs.Prelude.{◌≡◌, ◌≤◌, length};
 ghost use Rattle.model.specs.Reading.{read_policy};
 ghost use Rattle.policies.specs.Node.{as_role};
 ghost use Rattle.policies.specs.Policy.{NodeTold, NodesTold, BothTold, told_policy};

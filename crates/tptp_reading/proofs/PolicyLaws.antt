@@ -1,14 +1,13 @@
 -- Laws for the reading of a whole text: what stands before its formula, and what behind it.
 use Prim.Native.Nat.{ℕ, ◌≤◌, ◌<◌}
 use native.Mathlib.Omega.{arith}
-use mathlib.Core.Path.{◌≡◌, refl, sym, ◌∙◌, subst}
+use mathlib.Core.Path.{◌≡◌, sym, ◌∙◌, subst}
 use mathlib.Core.Bool.{true, false}
 use mathlib.Core.List.{[], ◌∷◌}
 use lib.ListN.{length, drop, replicate}
 use Rattle.model.specs.Words.{Words}
 use Rattle.model.specs.Bytes.{Text, bytes}
 use Rattle.model.specs.Answer.{refused}
-use Rattle.model.specs.Table.{predicates}
 use Rattle.model.specs.Tree.{Tree}
 use Rattle.model.specs.Level.{formula}
 use Rattle.std.specs.Prelude.{Ok}
@@ -22,7 +21,7 @@ use Rattle.model.specs.declared.Refusal.TheVariants.{Tptp}
 use Rattle.tptp_tokens.specs.Steps.{from, got, Skips, Reads, Value}
 use Rattle.tptp_state.specs.Told.{Passed, Told}
 use Rattle.tptp_reading.specs.Formula.{closed}
-use Rattle.tptp_reading.specs.Policy.{blanks_ending, start_state, PolicyRead}
+use Rattle.tptp_reading.specs.Policy.{blanks_ending, PolicyRead}
 use Rattle.tptp_tokens.proofs.TokenLaws.{here, over, onward, halt, grouped, closed_then}
 
 -- a text that was read with no variable bound at the start

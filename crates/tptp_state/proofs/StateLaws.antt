@@ -4,8 +4,7 @@ use native.Mathlib.Numerals.{add-one}
 use native.Mathlib.Omega.{arith}
 use mathlib.Core.Path.{◌≡◌, refl, sym, ap, subst, fun_ext, ◌∙◌}
 use mathlib.Core.Bool.{Bool, true, false, not, ◌&&◌}
-use mathlib.Core.List.{List}
-use lib.ListN.{length, take, set, get_or, length-set}
+use lib.ListN.{length, take, set, get_or}
 use lib.Seq.{sets, take-suc, length-take-le}
 use lib.Dec.{eqb}
 use lib.IntN.{pos}

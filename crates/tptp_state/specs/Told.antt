@@ -1,10 +1,9 @@
 -- What is known behind a part of a policy that was read.
-use Rattle.std.specs.Prelude.{ℕ, ◌+◌, ◌≤◌, ◌<◌, min, ◌≡◌, Bool, true, false, cond, not, ◌&&◌, List, length, replicate, ltb, eqb, Result, Ok, Err}
+use Rattle.std.specs.Prelude.{ℕ, ◌+◌, ◌≤◌, ◌<◌, min, ◌≡◌, Bool, true, false, cond, not, ◌&&◌, ltb, eqb, Result, Ok, Err}
 use Rattle.std.proofs.lemmas.List.Edits.{sets}
 use Rattle.model.specs.Words.{Words, policy_limit, level_limit, scope_limit}
 use Rattle.model.specs.Lists.{span, all}
 use Rattle.model.specs.Answer.{Outcome, passed, refused, ask, ◌>>=◌}
-use Rattle.model.specs.Table.{predicates}
 use Rattle.model.specs.Tree.{Tree, encode}
 use Rattle.model.specs.Level.{Role, restriction}
 use Rattle.model.specs.Reading.{is_formula}

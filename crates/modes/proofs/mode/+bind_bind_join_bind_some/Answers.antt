@@ -13,7 +13,7 @@ use Rattle.policies.specs.Node.{as_tag}
 use Rattle.policies.specs.declared.node.Tag.{Tag}
 use Rattle.policies.specs.declared.node.Tag.TheVariants.{Plain, Atom, Compare, Join, Quantifier, Some, Unused}
 use Rattle.policies.proofs.Standing.{here-terms, here-compare, here-join, here-some, low}
-use Rattle.modes.specs.Mode.{set_of, bindings_join}
+use Rattle.modes.specs.Mode.{set_of, bindings_of}
 use Rattle.modes.proofs.ModeWalk.{Other, from-atom, from-compare, from-join, from_some, from-plain}
 use Rattle.modes.proofs.ModeLoops.{none-yet, one-here, one-passes, one-stops, all-passed}
 use Rattle.modes.proofs.ModeLoops.{first-passed, first-refused, next-passed, next-refused, left_none}
@@ -104,7 +104,7 @@ bind-returns-in_default t c =
 pub bind_join-bind-requires : goal.bind_join-bind-requires
 bind_join-bind-requires t c =
     let a = c.args in
-    (omega (arith, c.decreases), one-here (none-yet _ _ _ _ _ _ (λ ts. bindings_join a.every ts a.table.now (set_of a.bound) a.depth.scope a.at)) c.requires.0 c.requires.1)
+    (omega (arith, c.decreases), one-here (none-yet _ _ _ _ _ _ (λ ts. bindings_of a.every ts a.table.now (set_of a.bound) a.depth.scope a.at)) c.requires.0 c.requires.1)
 
 pub bind_join-returns-in_err-first : goal.bind_join-returns-in_err-first
 bind_join-returns-in_err-first t c =
@@ -149,9 +149,6 @@ bind_join-returns t c =
     let a = c.args in
     all-passed c.loop.invariant.1 c.loop-test.false
     (left_none a.table.now a.depth.scope a.every (set_of a.bound) (set_of c.loop.set) c.loop.next)
-
-pub bind_some-invariant_of-below : goal.bind_some-invariant_of-below
-bind_some-invariant_of-below t c = record { levels = omega (arith, c.requires.0); scopes = omega (arith, c.requires.1) }
 
 pub bind_some-returns-in_err-child : goal.bind_some-returns-in_err-child
 bind_some-returns-in_err-child t c =

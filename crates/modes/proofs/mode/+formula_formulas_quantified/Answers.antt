@@ -151,9 +151,6 @@ quantified-returns-then-not-introduced t c =
     c.in_ok-restriction.was
     (sym c.introduced.ensures ∙ c.if-not-introduced.true)
 
-pub quantified-invariant_of-below : goal.quantified-invariant_of-below
-quantified-invariant_of-below t c = record { levels = c.args.depth.levels; scopes = c.requires.0 }
-
 pub quantified-formula-requires : goal.quantified-formula-requires
 quantified-formula-requires t c =
     let s = c.args in (
