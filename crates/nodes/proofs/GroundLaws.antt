@@ -1,6 +1,6 @@
 -- Ground atoms and comparisons under the environment that binds the outer variables alone: the numbers of their terms, what
 -- the code asks of their words in any role, and their answers. The environment with one outer variable more is a bound one.
-use Prim.Native.Nat.{ℕ, zero, suc, ◌+◌, ◌*◌, ◌^◌, ◌≤◌, ◌<◌}
+use Prim.Native.Nat.{ℕ, zero, suc, ◌+◌, ◌*◌, ◌-◌, ◌^◌, ◌≤◌, ◌<◌}
 use native.Mathlib.Omega.{arith}
 use native.Mathlib.Nat.{add-zero}
 use native.Mathlib.Numerals.{add-one}
@@ -81,6 +81,10 @@ outer-numbers {held} {scope} {ρ} small o =
     ∙ ext_get_or (pos 0) (take scope ns) ρ (long ∙ sym o.1) (λ x h.
     let l : x < scope = omega arith in
     get_or-take scope ns x (pos 0) l ∙ number_at (outer ρ) x (omega arith) ∙ outer-number ρ x)
+
+-- it binds them to its own first numbers
+pub outer-own : {held : Held} {scope : ℕ} (ρ : List ℤ) → scope ≤ 16 → Outer held scope ρ → Outer held scope (take scope held.numbers)
+outer-own {held} {scope} ρ small o = subst (Outer held scope) (sym (outer-numbers small o)) o
 
 -- one outer variable more
 bind-outer : (ρ : List ℤ) (k : ℤ) → bind (outer ρ) (length ρ) k ≡ outer (ρ ++ k ∷ [])
@@ -174,13 +178,18 @@ module _
 
   -- as the code copies them
   pub instance-binds :
-      (n : ℕ) (ns : Words) (ms : List Bool) → n ≡ v → ns ≡ given → ms ≡ replicate v true →
-      Binding scratch from scope start (record { numbers = put_mid scope n start.numbers ns; marks = put_mid scope n start.marks ms }) v
-  instance-binds n ns ms is p q =
+      (ns : Words) (ms : List Bool) →
+      ns ≡ take (from + v - from) (drop from scratch) →
+      ms ≡ replicate (length (take (scope + v - scope) (drop scope start.marks))) true →
+      Binding scratch from scope start (record { numbers = put_mid scope (scope + v - scope) start.numbers ns; marks = put_mid scope (scope + v - scope) start.marks ms }) v
+  instance-binds ns ms p q =
+      let n : scope + v - scope ≡ v = omega arith in
+      let m : from + v - from ≡ v = omega arith in
+      let all : length (take (scope + v - scope) (drop scope start.marks)) ≡ v = length-take-le _ (drop scope start.marks) (rw length-drop (omega arith)) ∙ n in
       subst (λ (held : Held). Binding scratch from scope start held v)
       (ap₂ (λ (xs : Words) (ys : List Bool). let held : Held = record { numbers = xs; marks = ys } in held)
-      (sym (put_mid-paste scope n start.numbers ns given v p (sym is) (sym given-long)))
-      (sym (put_mid-paste scope n start.marks ms (replicate v true) v q (sym is) (sym (length-replicate v true)))))
+      (sym (put_mid-paste scope (scope + v - scope) start.numbers ns given v (p ∙ ap (λ (k : ℕ). take k (drop from scratch)) m) (sym n) (sym given-long)))
+      (sym (put_mid-paste scope (scope + v - scope) start.marks ms (replicate v true) v (q ∙ ap (λ (k : ℕ). replicate k true) all) (sym n) (sym (length-replicate v true)))))
       (copied-binds v (omega arith))
 
 -- an atom or a comparison stands in any role as in a restriction

@@ -3,8 +3,8 @@ ghost use Rattle.std.specs.Prelude.{◌+◌, ◌*◌, ◌≤◌, length};
 ghost use Rattle.nodes.specs.Conclude.{Concluding, concluded};
 
 use crate::last;
+use crate::outer::Outer;
 use crate::prepare::Placed;
-use environments::environment::Environment;
 use instances::closing;
 use joining::answer::Reduced;
 use joining::join::Join;
@@ -15,17 +15,16 @@ pub fn conclude(
     words: &[i32],
     scratch: &[i32],
     out: &mut [i32],
-    environment: Environment,
+    outer: &Outer,
     join: Join,
-    scope: usize,
     at: usize,
     next: usize,
     placed: Placed,
 ) -> Reduced
     requires { (length out.old ≤ 1048576)
         × (17 * (placed.from + placed.count) ≤ length scratch.now)
-        × Concluding table.now words.now scratch.now out.old environment scope at placed.body next placed.from placed.count join }
-    ensures { (a : Concluding table.now words.now scratch.now out.old environment scope at placed.body next placed.from placed.count join) →
+        × Concluding table.now words.now scratch.now out.old outer.now.environment outer.now.scope at placed.body next placed.from placed.count join }
+    ensures { (a : Concluding table.now words.now scratch.now out.old outer.now.environment outer.now.scope at placed.body next placed.from placed.count join) →
         concluded a out.new result }
 {
     let v = words::value(words, at + 1);
@@ -37,8 +36,8 @@ pub fn conclude(
     let answer = last::last(
         words,
         scratch,
-        environment,
-        scope,
+        outer.environment,
+        outer.scope,
         at,
         next,
         placed,

@@ -1,6 +1,6 @@
-// The reduction of ground atoms and comparisons, all of whose variables are outer ones, and the environment of an instance.
-ghost use Rattle.std.specs.Prelude.{List, ◌++◌, ◌+◌, ◌*◌, ◌≤◌, length, take, drop, ℤ};
-ghost use Rattle.nodes.specs.Ground.{Outer, HereLiteral, GrownAtom, HereCompare, Stays, ReducesAtom, ReducesCompare};
+// The reduction of ground atoms and comparisons, all of whose variables are outer ones.
+ghost use Rattle.std.specs.Prelude.{◌≤◌};
+ghost use Rattle.nodes.specs.Ground.{HereLiteral, GrownAtom, HereCompare, Stays, ReducesAtom, ReducesCompare};
 
 use environments::environment::Environment;
 use environments::terms;
@@ -61,24 +61,4 @@ pub fn compare(words: &[i32], environment: Environment, holds: bool, at: usize) 
     ensures { ReducesCompare words.now environment holds at result }
 {
     Reduced::Plain(holds == terms::compare(environment, words, at))
-}
-
-// The environment with v variables more, bound to the numbers of an instance in a place of scratch.
-pub fn instance(
-    environment: Environment,
-    scratch: &[i32],
-    place: usize,
-    scope: usize,
-    v: usize,
-) -> Environment
-    requires { (scope + v ≤ 16) × (17 * place + 17 ≤ length scratch.now) }
-    ensures { (ρ : List ℤ) →
-        Outer environment scope ρ →
-        Outer result (scope + v) (ρ ++ take v (drop (17 * place + scope) scratch.now)) }
-{
-    let from = Environment::WORDS * place + scope;
-    let mut bound = environment;
-    bound.numbers[scope..scope + v].copy_from_slice(&scratch[from..from + v]);
-    bound.marks[scope..scope + v].fill(true);
-    bound
 }

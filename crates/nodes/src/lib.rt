@@ -5,4 +5,5 @@
 pub mod conclude;
 pub mod ground;
 pub mod last;
+pub mod outer;
 pub mod prepare;

@@ -6,9 +6,10 @@ ghost use Rattle.model.specs.Level as L;
 ghost use Rattle.laws.specs.Reading.Nodes.{Node};
 ghost use Rattle.policies.specs.Standing.{Here};
 ghost use Rattle.listing.specs.Restrictions.{Numbers};
-ghost use Rattle.nodes.specs.Ground.{Outer};
+ghost use Rattle.nodes.specs.Ground as G;
 ghost use Rattle.nodes.specs.Prepare as P;
 
+use crate::outer::Outer;
 use environments::environment::Environment;
 use instances::choosing;
 use instances::excluded::Excluded;
@@ -46,25 +47,22 @@ pub fn prepare(
     log: &AcceptedLog<'_>,
     words: &[i32],
     scratch: &mut [i32],
-    environment: Environment,
+    outer: &Outer,
     level: usize,
-    scope: usize,
     v: usize,
     at: usize,
 ) -> Option<Placed>
-    requires { (level ≤ 64)
-        × (scope + v ≤ 16)
+    requires { (outer.now.scope + v ≤ 16)
         × (at + 3 + v * W.value words.now (at + 2) ≤ length words.now)
-        × Here log.now.table.now words.now L.Role.restriction level (scope + v) (at + 3 + v * W.value words.now (at + 2))
-        × ((ρ : List ℤ) × Outer environment scope ρ) }
+        × Here log.now.table.now words.now L.Role.restriction level (outer.now.scope + v) (at + 3 + v * W.value words.now (at + 2)) }
     ensures { (ρ : List ℤ) (c : Tree) (body : ℕ) →
-        Outer environment scope ρ →
-        Node log.now.table.now words.now L.Role.restriction level (scope + v) (at + 3 + v * W.value words.now (at + 2)) c body →
+        G.Outer outer.now.environment outer.now.scope ρ →
+        Node log.now.table.now words.now L.Role.restriction level (outer.now.scope + v) (at + 3 + v * W.value words.now (at + 2)) c body →
         P.InstancesTell
         log.now.table.now
         words.now
         log.now.rows.now
-        scope
+        outer.now.scope
         v
         at
         c
@@ -78,11 +76,11 @@ pub fn prepare(
     if places < 1 {
         return None;
     }
-    environment.store(scratch, 0);
+    outer.environment.store(scratch, 0);
     let m = words::value(words, at + 2);
     let depth = Depth {
         level,
-        scope: scope + v,
+        scope: outer.scope + v,
     };
     let Made {
         room: to,
@@ -94,7 +92,7 @@ pub fn prepare(
         m,
         v,
     };
-    let count = choosing::instances(excluded, scope, scratch, to.from, to.count);
+    let count = choosing::instances(excluded, outer.scope, scratch, to.from, to.count);
     Some(Placed {
         from: to.from,
         count,

@@ -6,7 +6,7 @@ ghost use Rattle.model.specs.Reading.{is_formula};
 ghost use Rattle.laws.specs.Reading.Nodes.{Node};
 ghost use Rattle.policies.specs.Standing.{Here, HereAll};
 ghost use Rattle.policies.specs.Node.{as_role};
-ghost use Rattle.nodes.specs.Ground.{Outer};
+ghost use Rattle.nodes.specs.Ground as G;
 ghost use Rattle.nodes.specs.Last.{Found};
 ghost use Rattle.reduction.specs.Walk as R;
 
@@ -14,6 +14,7 @@ use environments::environment::Environment;
 use joining::answer::Reduced;
 use joining::join::{Join, State};
 use logs::accepted::AcceptedLog;
+use nodes::outer::Outer;
 use nodes::prepare::Placed;
 use nodes::{conclude, ground, prepare};
 use policies::node;
@@ -41,19 +42,15 @@ fn children(
     words: &[i32],
     scratch: &mut [i32],
     out: &mut [i32],
-    environment: Environment,
+    outer: &Outer,
     kind: bool,
     above: usize,
-    scope: usize,
     n: usize,
     at: usize,
 ) -> Walked
-    requires { (above ≤ 64)
-        × (scope ≤ 16)
-        × (length out.old ≤ 1048576)
-        × HereAll log.now.table.now words.now (L.Role.operand kind) above scope n at
-        × ((ρ : List ℤ) × Outer environment scope ρ) }
-    ensures { R.ReducesJoin kind log.now.table.now words.now log.now.rows.now above scope n at environment (length scratch.old / 17) out.old out.new result }
+    requires { (length out.old ≤ 1048576)
+        × HereAll log.now.table.now words.now (L.Role.operand kind) above outer.now.scope n at }
+    ensures { R.ReducesJoin kind log.now.table.now words.now log.now.rows.now above outer.now.scope n at outer.now.environment (length scratch.old / 17) out.old out.new result }
 {
     let mut join = Join::new(kind);
     let mut next = at;
@@ -64,10 +61,9 @@ fn children(
             words,
             scratch,
             &mut out[from..],
-            environment,
+            outer,
             Role::Operand(kind),
             above,
-            scope,
             next,
         );
         let answer = child.answer;
@@ -88,25 +84,22 @@ fn instances(
     words: &[i32],
     scratch: &mut [i32],
     out: &mut [i32],
-    environment: Environment,
+    outer: &Outer,
     kind: bool,
     level: usize,
-    scope: usize,
     v: usize,
     placed: Placed,
 ) -> Worked
-    requires { (level ≤ 64)
-        × (scope + v ≤ 16)
+    requires { (outer.now.scope + v ≤ 16)
         × (length out.old ≤ 1048576)
-        × Here log.now.table.now words.now L.Role.formula level (scope + v) placed.body
+        × Here log.now.table.now words.now L.Role.formula level (outer.now.scope + v) placed.body
         × (placed.from + placed.count ≤ placed.used)
         × (17 * placed.used ≤ length scratch.old)
-        × ((ρ : List ℤ) × Outer environment scope ρ)
-        × ((found : List (List ℤ)) × Found scratch.old scope placed.from v placed.count found) }
+        × ((found : List (List ℤ)) × Found scratch.old outer.now.scope placed.from v placed.count found) }
     ensures works { (ρ : List ℤ) (found : List (List ℤ)) (f : Tree) (next : ℕ) →
-        Outer environment scope ρ →
-        Found scratch.old scope placed.from v placed.count found →
-        Node log.now.table.now words.now L.Role.formula level (scope + v) placed.body f next →
+        G.Outer outer.now.environment outer.now.scope ρ →
+        Found scratch.old outer.now.scope placed.from v placed.count found →
+        Node log.now.table.now words.now L.Role.formula level (outer.now.scope + v) placed.body f next →
         R.Works kind log.now.table.now log.now.rows.now f ρ found (length scratch.old / 17 - placed.used) next out.new result }
     ensures scratch_unchanged { take (17 * placed.used) scratch.new ≡ take (17 * placed.used) scratch.old }
 {
@@ -117,7 +110,7 @@ fn instances(
     let mut join = Join::new(kind);
     let mut next = body;
     for i in 0..k {
-        let bound = ground::instance(environment, scratch, from + i, scope, v);
+        let bound = outer.instance(scratch, from + i, v);
         let room = Environment::WORDS * used;
         let start = join.words;
         let child = formula(
@@ -125,10 +118,9 @@ fn instances(
             words,
             &mut scratch[room..],
             &mut out[start..],
-            bound,
+            &bound,
             Role::Formula,
             level,
-            scope + v,
             body,
         );
         let reduced = child.answer;
@@ -154,21 +146,17 @@ fn quantifier(
     words: &[i32],
     scratch: &mut [i32],
     out: &mut [i32],
-    environment: Environment,
+    outer: &Outer,
     kind: bool,
     level: usize,
-    scope: usize,
     at: usize,
 ) -> Walked
-    requires { (level ≤ 64)
-        × (scope ≤ 16)
-        × (length out.old ≤ 1048576)
-        × R.HereQuantified log.now.table.now words.now kind level scope at
-        × ((ρ : List ℤ) × Outer environment scope ρ) }
-    ensures { R.ReducesQuantifier kind log.now.table.now words.now log.now.rows.now level scope at environment (length scratch.old / 17) out.old out.new result }
+    requires { (length out.old ≤ 1048576)
+        × R.HereQuantified log.now.table.now words.now kind level outer.now.scope at }
+    ensures { R.ReducesQuantifier kind log.now.table.now words.now log.now.rows.now level outer.now.scope at outer.now.environment (length scratch.old / 17) out.old out.new result }
 {
     let v = words::value(words, at + 1);
-    let prepared = prepare::prepare(log, words, scratch, environment, level, scope, v, at);
+    let prepared = prepare::prepare(log, words, scratch, outer, level, v, at);
     let Some(placed) = prepared else {
         return Walked {
             answer: Reduced::Short,
@@ -180,10 +168,9 @@ fn quantifier(
         words,
         scratch,
         out,
-        environment,
+        outer,
         kind,
         level,
-        scope,
         v,
         placed,
     );
@@ -200,9 +187,8 @@ fn quantifier(
         words,
         scratch,
         out,
-        environment,
+        outer,
         join,
-        scope,
         at,
         next,
         placed,
@@ -217,19 +203,15 @@ pub fn formula(
     words: &[i32],
     scratch: &mut [i32],
     out: &mut [i32],
-    environment: Environment,
+    outer: &Outer,
     role: Role,
     above: usize,
-    scope: usize,
     at: usize,
 ) -> Walked
-    requires { (above ≤ 64)
-        × (scope ≤ 16)
-        × (length out.old ≤ 1048576)
+    requires { (length out.old ≤ 1048576)
         × (is_formula (as_role role) ≡ true)
-        × Here log.now.table.now words.now (as_role role) above scope at
-        × ((ρ : List ℤ) × Outer environment scope ρ) }
-    ensures { R.ReducesNode log.now.table.now words.now log.now.rows.now (as_role role) above scope at environment (length scratch.old / 17) out.old out.new result }
+        × Here log.now.table.now words.now (as_role role) above outer.now.scope at }
+    ensures { R.ReducesNode log.now.table.now words.now log.now.rows.now (as_role role) above outer.now.scope at outer.now.environment (length scratch.old / 17) out.old out.new result }
 {
     let tag = node::tag_at(words, at);
     let level = above + node::cost(role, tag);
@@ -240,39 +222,20 @@ pub fn formula(
             next,
         },
         Tag::Atom(b) => Walked {
-            answer: ground::atom(log, words, environment, scope, b, at, out),
+            answer: ground::atom(log, words, outer.environment, outer.scope, b, at, out),
             next,
         },
         Tag::Compare(b) => Walked {
-            answer: ground::compare(words, environment, b, at),
+            answer: ground::compare(words, outer.environment, b, at),
             next,
         },
         Tag::Join(b) => {
             let n = words::value(words, at + 1);
-            children(
-                log,
-                words,
-                scratch,
-                out,
-                environment,
-                b,
-                level,
-                scope,
-                n,
-                next,
-            )
+            children(log, words, scratch, out, outer, b, level, n, next)
         }
-        Tag::Quantifier(b) => quantifier(
-            log,
-            words,
-            scratch,
-            out,
-            environment,
-            b,
-            level,
-            scope,
-            at,
-        ),
+        Tag::Quantifier(b) => {
+            quantifier(log, words, scratch, out, outer, b, level, at)
+        }
         _ => Walked {
             answer: Reduced::Plain(false),
             next,

@@ -17,6 +17,7 @@ use joining::answer::Reduced;
 use logs::accepted::AcceptedLog;
 use logs::links;
 use model::{Answer, POLICY_LIMIT, Refusal, Refused};
+use nodes::outer::Outer;
 use policies::node::Role;
 use reduction::walk;
 
@@ -40,14 +41,17 @@ fn walk_policy(
         R.Walked (length scratch.old / place_words) (need log.now.table.now (rows log.now.rows.now) tree []) (reduce log.now.table.now (rows log.now.rows.now) tree []) buffer.new result }
 {
     let room = lendable(buffer.len());
+    let outer = Outer {
+        environment: Environment::empty(),
+        scope: 0,
+    };
     let walked = walk::formula(
         log,
         policy,
         scratch,
         &mut buffer[..room],
-        Environment::empty(),
+        &outer,
         Role::Formula,
-        0,
         0,
         0,
     );

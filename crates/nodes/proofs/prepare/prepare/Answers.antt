@@ -5,16 +5,22 @@ use mathlib.Core.Path.{sym, subst}
 use lib.ListN.{length}
 use Rattle.model.specs.Level.{restriction}
 use Rattle.policies.specs.Standing.{Here}
+use Rattle.policies.proofs.Standing.{low}
 use Rattle.nodes.proofs.Preparing.{prepare_short, prepare_inside, prepare_stood}
 use Rattle.nodes.proofs.prepare.prepare.Goals as goal
+
+pub invariant_of-depth-clause-levels : goal.invariant_of-depth-clause-levels
+invariant_of-depth-clause-levels c =
+    let a = c.args in
+    omega (arith, low a.log.now.table.now a.words.now restriction a.level (a.outer.now.scope + a.v) _ c.requires.2)
 
 pub list-requires : goal.list-requires
 list-requires c =
     let a = c.args in
     let here =
     subst
-    (λ (m : ℕ). Here a.log.now.table.now a.words.now restriction a.level (a.scope + a.v) (a.at + 3 + a.v * m))
-    (sym c.value-m.ensures) c.requires.3 in
+    (λ (m : ℕ). Here a.log.now.table.now a.words.now restriction a.level (a.outer.now.scope + a.v) (a.at + 3 + a.v * m))
+    (sym c.value-m.ensures) c.requires.2 in
     (here, omega (arith, c.room.ensures.is-limit, c.store.auto.scratch))
 
 pub returns-in_err-to : goal.returns-in_err-to
@@ -23,7 +29,7 @@ returns-in_err-to c =
     let places = length a.scratch.now / 17 in
     λ ρ d body o node.
     rw c.from_residual.ensures
-    (prepare_short a.environment a.scope places a.scratch.now _ _ c.if-places-lt1.false (omega arith) c.room.ensures c.store.ensures
+    (prepare_short a.outer.now.environment a.outer.now.scope places a.scratch.now _ _ c.if-places-lt1.false (omega arith) c.room.ensures c.store.ensures
     a.log.now.table.now a.words.now a.log.now.rows.now a.level a.v a.at _ c.value-m.ensures _ _ c.list.ensures c.in_err-to.was ρ d body o node)
 
 pub instances-count-requires : goal.instances-count-requires
@@ -31,17 +37,17 @@ instances-count-requires c =
     let a = c.args in
     let places = length a.scratch.now / 17 in
     let within =
-    prepare_inside a.environment a.scope places a.scratch.now _ _ c.if-places-lt1.false (omega arith) c.room.ensures c.store.ensures
-    a.log.now.table.now a.words.now a.log.now.rows.now a.level a.v a.at _ c.value-m.ensures _ _ c.list.ensures _ c.in_ok-to.was c.requires.3 in
+    prepare_inside a.outer.now.environment a.outer.now.scope places a.scratch.now _ _ c.if-places-lt1.false (omega arith) c.room.ensures c.store.ensures
+    a.log.now.table.now a.words.now a.log.now.rows.now a.level a.v a.at _ c.value-m.ensures _ _ c.list.ensures _ c.in_ok-to.was c.requires.2 in
     let made = c.in_ok-to.to in
     let long = c.list.auto.scratch in
     let longer = c.store.auto.scratch in
-    (c.requires.1, omega (arith, within, made.before, made.counted))
+    (c.requires.0, omega (arith, within, made.before, made.counted))
 
 pub returns : goal.returns
 returns c =
     let a = c.args in
     let places = length a.scratch.now / 17 in
-    prepare_stood a.environment a.scope places a.scratch.now _ _ c.if-places-lt1.false (omega arith) c.room.ensures c.store.ensures
-    a.log.now.table.now a.words.now a.log.now.rows.now a.level a.v a.at _ c.value-m.ensures _ _ c.list.ensures _ c.in_ok-to.was c.requires.1 _ _
+    prepare_stood a.outer.now.environment a.outer.now.scope places a.scratch.now _ _ c.if-places-lt1.false (omega arith) c.room.ensures c.store.ensures
+    a.log.now.table.now a.words.now a.log.now.rows.now a.level a.v a.at _ c.value-m.ensures _ _ c.list.ensures _ c.in_ok-to.was c.requires.0 _ _
     c.instances-count.ensures

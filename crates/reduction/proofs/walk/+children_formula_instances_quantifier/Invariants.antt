@@ -22,9 +22,9 @@ decreases-quantifier l = 202 - 3 * l.level
 
 abbrev pub invariant-children-loop : goal.invariant-children-loop
 invariant-children-loop l =
-    ChildrenSoFar l.log.table.now l.words l.log.rows.now l.kind l.above l.scope l.environment (length l.initial.scratch / 17) l.n l.at l.counter l.next l.join l.out
+    ChildrenSoFar l.log.table.now l.words l.log.rows.now l.kind l.above l.outer.scope l.outer.environment (length l.initial.scratch / 17) l.n l.at l.counter l.next l.join l.out
 
 abbrev pub invariant-instances-loop-i : goal.invariant-instances-loop-i
 invariant-instances-loop-i l =
-    ScratchKept l.log.table.now l.words l.log.rows.now l.kind l.level l.scope l.v l.body l.from l.k l.used l.environment l.initial.scratch l.scratch
-    × InstancesSoFar l.log.table.now l.words l.log.rows.now l.kind l.level l.scope l.v l.body l.from l.k l.used l.environment l.initial.scratch l.i l.next l.join l.out
+    ScratchKept l.log.table.now l.words l.log.rows.now l.kind l.level l.outer.scope l.v l.body l.from l.k l.used l.outer.environment l.initial.scratch l.scratch
+    × InstancesSoFar l.log.table.now l.words l.log.rows.now l.kind l.level l.outer.scope l.v l.body l.from l.k l.used l.outer.environment l.initial.scratch l.i l.next l.join l.out

@@ -6,17 +6,13 @@ use Rattle.model.specs.Reading.{is_formula}
 use Rattle.residuals.proofs.ReduceWalking.{lent_few, walked_whole}
 use Rattle.residuals.proofs.residual.walk_policy.Goals as goal
 
+pub invariant_of-outer-clause-bound : goal.invariant_of-outer-clause-bound
+invariant_of-outer-clause-bound c = (c.empty.ensures.0, refl)
+
 pub formula-walked-requires : goal.formula-walked-requires
 unfolding is_formula
 formula-walked-requires c =
-    let a = c.args in (
-      omega arith,
-      omega arith,
-      lent_few a.buffer.now c.lendable-room.result c.lendable-room.ensures,
-      refl,
-      c.requires,
-      ([], (c.empty.ensures.0, refl)),
-    )
+    let a = c.args in (lent_few a.buffer.now c.lendable-room.result c.lendable-room.ensures, refl, c.requires)
 
 pub returns : goal.returns
 returns c =
