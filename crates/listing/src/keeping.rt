@@ -1,10 +1,9 @@
 // Which environments a leaf of a restriction keeps.
-ghost use Rattle.std.specs.Prelude.{◌≡◌, ◌≤◌};
-ghost use Rattle.model.specs.Words.{word, predicate_limit};
+ghost use Rattle.std.specs.Prelude.{◌≡◌};
+ghost use Rattle.model.specs.Words.{word};
 ghost use Rattle.model.specs.Tag.{tag_of};
-ghost use Rattle.model.specs.Table.{predicates};
 ghost use Rattle.policies.specs.Node.{as_tag};
-ghost use Rattle.policies.specs.Standing.{HereAtom};
+ghost use Rattle.policies.specs.Standing.{HereTerms};
 ghost use Rattle.environments.specs.Standing.{HereRestriction};
 ghost use Rattle.listing.specs.Keeping.{TellsFalse, TellsKept};
 
@@ -16,7 +15,7 @@ use policies::node::Tag;
 
 // Whether the ground atom at an index is known to be false.
 fn is_false(log: &KnownAtoms<'_>, words: &[i32], environment: Environment, at: usize) -> bool
-    requires { HereAtom words.now at }
+    requires { HereTerms words.now at }
     ensures { TellsFalse log.now.table.now words.now log.now.rows.now environment at result }
 {
     lookup::value_at(log, words, environment, at) == Some(false)
@@ -30,8 +29,7 @@ pub fn keeps(
     tag: Tag,
     at: usize,
 ) -> bool
-    requires { (predicates log.now.table.now ≤ predicate_limit)
-        × (as_tag tag ≡ tag_of (word words.now at))
+    requires { (as_tag tag ≡ tag_of (word words.now at))
         × HereRestriction log.now.table.now words.now at }
     ensures { TellsKept log.now.table.now words.now log.now.rows.now environment at result }
 {

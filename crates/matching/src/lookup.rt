@@ -1,5 +1,5 @@
 // The value of a ground atom of a policy, its variables having the numbers of an environment.
-ghost use Rattle.policies.specs.Standing.{HereAtom};
+ghost use Rattle.policies.specs.Standing.{HereTerms};
 ghost use Rattle.matching.specs.Lookup.{Values};
 
 use environments::environment::Environment;
@@ -15,7 +15,7 @@ pub fn value_at(
     environment: Environment,
     at: usize,
 ) -> Option<bool>
-    requires { HereAtom words.now at }
+    requires { HereTerms words.now at }
     ensures { Values log.now.table.now words.now log.now.rows.now environment at result }
 {
     let predicate = words::value(words, at + 1);

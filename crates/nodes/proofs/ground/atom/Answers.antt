@@ -6,7 +6,7 @@ use Rattle.nodes.proofs.ground.atom.Goals as goal
 pub value_at-found-requires : goal.value_at-found-requires
 value_at-found-requires c =
     let a = c.args in
-    atom_asks a.log.now.table.now a.words.now a.scope a.holds a.at a.log.now.few c.requires.0 (omega arith) c.requires.1
+    atom_asks a.log.now.table.now a.words.now a.scope a.holds a.at c.requires.0 (omega arith) c.requires.1
 
 pub stay-requires : goal.stay-requires
 stay-requires c =
