@@ -23,7 +23,8 @@ use Rattle.laws.specs.Log.{row_at-length}
 use Rattle.laws.specs.LogText.Back.{used-short}
 use Rattle.csv_writing.specs.Row.{fields_of, line_of}
 use Rattle.text.specs.declared.writer.Writer.{Writer}
-use Rattle.text.proofs.PutLaws.{Left, left-none}
+use Rattle.text.specs.Adds.{Adds}
+use Rattle.text.proofs.PutLaws.{Left, left-none, adds_then}
 
 -- the fields from the word i on of the first n words of a row, each behind a comma
 pub behind : Words → ℕ → ℕ → Text
@@ -60,9 +61,11 @@ module _ (table row : Words) (v a : ℕ) (predicate : v ≡ value row 0) (found 
   pub arity-few : ask_table table ≡ passed tt → good_row table row ≡ true → 2 + a ≤ 8
   arity-few ok g = omega (arith, used-short table ok row g, same-arity)
 
-  pub line-parts : line_of table row ≡ fields_of row (2 + a) ++ cr ∷ lf ∷ []
+  pub line_adds :
+      {end : Text} {w w₁ w₂ : Writer} → Adds (fields_of row (2 + a)) w w₁ → Adds end w₁ w₂ → end ≡ cr ∷ lf ∷ [] →
+      Adds (line_of table row) w w₂
   unfolding line_of
-  line-parts = ap (λ (n : ℕ). fields_of row (2 + n) ++ cr ∷ lf ∷ []) (sym same-arity)
+  line_adds fields last e = rw (← same-arity, ← e) (adds_then fields last)
 
 -- the words of a row, as they are lent, are the row
 abbrev pub lent_row : (log : Words) (r : ℕ) → Words

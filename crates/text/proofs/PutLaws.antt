@@ -15,8 +15,8 @@ use Rattle.text.specs.Adds.{PutsBehind, Adds, Begins}
 use Rattle.text.specs.declared.writer.Writer.{Writer}
 
 -- the same text
-pub adds-is : {a b : Text} {w w' : Writer} → Adds a w w' → b ≡ a → Adds b w w'
-adds-is {w} {w'} h e = subst (λ (t : Text). Adds t w w') (sym e) h
+pub adds_is : {a b : Text} {w w' : Writer} → b ≡ a → Adds a w w' → Adds b w w'
+adds_is {w} {w'} e h = subst (λ (t : Text). Adds t w w') (sym e) h
 
 -- one text behind another
 puts-both :
@@ -76,8 +76,8 @@ left-none text w = record { done = []; all = refl; adds = adds_none w }
 
 module _ {text left : Text} {w w' : Writer} (l : Left text left w w') where
   -- one part more
-  pub left-more : (a more : Text) → left ≡ a ++ more → {w″ : Writer} → Adds a w' w″ → Left text more w w″
-  left-more a more e k = record {
+  pub left_more : (a more : Text) → left ≡ a ++ more → {w″ : Writer} → Adds a w' w″ → Left text more w w″
+  left_more a more e k = record {
     done = l.done ++ a;
     all = l.all ∙ ap (λ (t : Text). l.done ++ t) e ∙ sym (append_assoc l.done a more);
     adds = adds_then l.adds k;
@@ -85,18 +85,18 @@ module _ {text left : Text} {w w' : Writer} (l : Left text left w w') where
 
   -- there was no room for it
   pub left_full : w'.put ≡ None → Adds text w w'
-  left_full full = adds-is (adds_short left l.adds full) l.all
+  left_full full = adds_is l.all (adds_short left l.adds full)
 
   -- nothing is left
   pub left_end : left ≡ [] → Adds text w w'
-  left_end e = adds-is l.adds (l.all ∙ ap (λ (t : Text). l.done ++ t) e ∙ append-nil l.done)
+  left_end e = adds_is (l.all ∙ ap (λ (t : Text). l.done ++ t) e ∙ append-nil l.done) l.adds
 
 -- a whole text, in a buffer that its writer has left
-pub writes-whole :
+pub writes_whole :
     {text out' : Text} {out : MutBor Text} {w w' : Writer} → Begins out w → Adds text w w' → out' ≡ w'.out.now →
     Writes text out.now out' w'.put
 unfolding told
-writes-whole {text} {out'} {out} {w} {w'} b h left = rw left (go w'.put (rw b.front at h.puts))
+writes_whole {text} {out'} {out} {w} {w'} b h left = rw left (go w'.put (rw b.front at h.puts))
   where
     go : (r : Option ℕ) → Puts text 0 w.out.now w'.out.now r → Writes text out.now w'.out.now r
     go None h = record {

@@ -55,13 +55,13 @@ module _ (f : ℕ → Text) (i n : ℕ) where
 
 -- a term by its first word
 module _ (words : Words) (i : ℕ) where
-  pub constant-text : equal (word words i) (pos 0) ≡ true → term_text words i ≡ decimal (word words (i + 1))
+  pub constant_text : equal (word words i) (pos 0) ≡ true → term_text words i ≡ decimal (word words (i + 1))
   unfolding term_text term_at term_token
-  constant-text e = rw e
+  constant_text e = rw e
 
-  pub variable-text : equal (word words i) (pos 0) ≡ false → term_text words i ≡ bytes "X" ++ digits 10 (value words (i + 1))
+  pub variable_text : equal (word words i) (pos 0) ≡ false → term_text words i ≡ bytes "X" ++ digits 10 (value words (i + 1))
   unfolding term_text term_at term_token variable_token
-  variable-text e = rw e
+  variable_text e = rw e
 
 -- the term with a number among those from an index on, behind a comma
 abbrev pub next_term : (words : Words) (first i : ℕ) → Text
@@ -71,11 +71,11 @@ one_token : (t : Text) → spelt (t ∷ []) ≡ t
 unfolding spelt gather
 one_token t = append-nil t
 
-pub terms-first :
+pub terms_first :
     (words : Words) (first n : ℕ) → 1 ≤ n → terms_text words first n ≡ term_text words first ++ runs (next_term words first) 1 n
 unfolding terms_text places span term_text runs gather preceded
-terms-first words first zero h = absurd (omega arith)
-terms-first words first (suc n) h =
+terms_first words first zero h = absurd (omega arith)
+terms_first words first (suc n) h =
     let start : first + 2 * 0 ≡ first = omega arith in
     let count : n ≡ suc n - 1 = omega arith in
     separated_first (bytes ",") _ _
@@ -119,13 +119,13 @@ unfolding bytes
 open_parts true = refl
 open_parts false = refl
 
-pub head-parts :
+pub head_parts :
     (every : Bool) (scope v : ℕ) (alone : Bool) → 1 ≤ v →
     head_text every scope v alone
     ≡ (cond every (bytes "![X") (bytes "?[X") ++ variables_text scope v) ++ cond alone (bytes ":$int]:(") (bytes ":$int]:((")
 unfolding head_text variables_text binder separated variable_token spelt gather span bytes
-head-parts every scope zero alone h = absurd (omega arith)
-head-parts every scope (suc v) alone h =
+head_parts every scope zero alone h = absurd (omega arith)
+head_parts every scope (suc v) alone h =
     let count : v ≡ suc v - 1 = omega arith in
     let lead = cond every (bytes "![X") (bytes "?[X") in
     let number = digits 10 scope in
@@ -141,9 +141,9 @@ head-parts every scope (suc v) alone h =
     (sym (open_parts alone))
 
 -- the numbers of v variables: the first, and those behind it
-pub variables-first : (scope v : ℕ) → 1 ≤ v → variables_text scope v ≡ digits 10 scope ++ runs next_variable (scope + 1) (scope + v)
+pub variables_first : (scope v : ℕ) → 1 ≤ v → variables_text scope v ≡ digits 10 scope ++ runs next_variable (scope + 1) (scope + v)
 unfolding variables_text runs
-variables-first scope v h =
+variables_first scope v h =
     let count : v - 1 ≡ scope + v - (scope + 1) = omega arith in
     ap₂ (λ (x k : ℕ). digits 10 scope ++ gather next_variable (span x k)) (sym (add-one scope)) count
 
@@ -177,27 +177,29 @@ module _ (scope : ℕ) (tuple : List ℤ) where
           separated_first (bytes "|") _ _
           ∙ ap₂ (λ (t : Text) (y : ℕ). t ++ next_unequals y ks) (unequal_part scope k) (sym (add-one scope))
 
-  pub tuple-more :
-      (i : ℕ) → i < length tuple →
-      unequals_rest scope tuple i ≡ next_unequal (scope + i) (word tuple i) ++ unequals_rest scope tuple (i + 1)
+  -- the next variable is x
+  pub tuple_more :
+      (i x : ℕ) → i < length tuple → x ≡ scope + i →
+      unequals_rest scope tuple i ≡ next_unequal x (word tuple i) ++ unequals_rest scope tuple (i + 1)
   unfolding unequals_rest next_unequals unequals preceded gather word bytes
-  tuple-more i h =
-      let next : suc (scope + i) ≡ scope + (i + 1) = omega arith in
-      ap (next_unequals (scope + i)) (drop-cons tuple i (pos 0) h)
-      ∙ ap (λ (t : Text). (bytes "|" ++ t) ++ next_unequals (suc (scope + i)) (drop (suc i) tuple)) (unequal_part (scope + i) (word tuple i))
-      ∙ ap₂ (λ (y k : ℕ). next_unequal (scope + i) (word tuple i) ++ next_unequals y (drop k tuple)) next (sym (add-one i))
+  tuple_more i x h e =
+      let next : suc x ≡ scope + (i + 1) = omega arith in
+      ap₂ next_unequals (sym e) (drop-cons tuple i (pos 0) h)
+      ∙ ap (λ (t : Text). (bytes "|" ++ t) ++ next_unequals (suc x) (drop (suc i) tuple)) (unequal_part x (word tuple i))
+      ∙ ap₂ (λ (y k : ℕ). next_unequal x (word tuple i) ++ next_unequals y (drop k tuple)) next (sym (add-one i))
 
-  pub tuple-none : (i : ℕ) → length tuple ≤ i → unequals_rest scope tuple i ≡ []
+  pub tuple_none : (i : ℕ) → length tuple ≤ i → unequals_rest scope tuple i ≡ []
   unfolding unequals_rest next_unequals unequals preceded gather
-  tuple-none i h = ap (next_unequals (scope + i)) (drop_of_length-le tuple h)
+  tuple_none i h = ap (next_unequals (scope + i)) (drop_of_length-le tuple h)
 
 -- an excluded tuple, with no parentheses where it is of one number
-pub tuple-parts :
-    (scope : ℕ) (tuple : List ℤ) (single : Bool) → single ≡ eqb (length tuple) 1 →
+pub tuple_parts :
+    (scope : ℕ) (tuple : List ℤ) →
+    let single = eqb (length tuple) 1 in
     tuple_text scope tuple
     ≡ (cond single (bytes "&") (bytes "&(") ++ unequals_text scope tuple) ++ cond single (bytes "") (bytes ")")
 unfolding tuple_text excludes parenthesized unequals_text spelt gather bytes
-tuple-parts scope tuple single e = rw (← e) (go single)
+tuple_parts scope tuple = go (eqb (length tuple) 1)
   where
     parts : Tokens
     parts = separated (bytes "|") (unequals scope tuple)

@@ -12,7 +12,7 @@ use Rattle.model.specs.Bytes.{Text, bytes}
 use Rattle.laws.specs.Reading.Formed.{AllOfLength}
 use Rattle.text.specs.declared.writer.Writer.{Writer}
 use Rattle.text.specs.Adds.{Adds}
-use Rattle.text.proofs.PutLaws.{Left, left-none, left-more, left_end}
+use Rattle.text.proofs.PutLaws.{Left, left-none, left_more, left_end}
 use Rattle.tptp_putting.specs.Texts.{tuple_text, tuples_text, closed_text, Tuples}
 
 -- the tuple at an index, as it is lent, and those behind it
@@ -92,7 +92,7 @@ module _ (numbers : List ℤ) (v scope : ℕ) (t : Tuples numbers v) where
         from < length numbers → {w″ : Writer} → Adds (tuple_text scope (lent_tuple numbers from v)) w' w″ → Each (from + v) w w″
     each_more h k =
         let f = first-tuple numbers v scope from e.rest h in
-        record { rest = f.others; left = left-more e.left _ _ f.split k }
+        record { rest = f.others; left = left_more e.left _ _ f.split k }
 
     pub each_all : length numbers ≤ from → 1 ≤ v → Adds (tuples_text scope t.list) w w'
     each_all h k = left_end e.left (tuples-none numbers v scope from e.rest h k)

@@ -1,4 +1,11 @@
 // The variables that a quantifier binds, and its excluded tuples.
+#![tactic(auto, using(
+    text::proofs::PutLaws::adds_is,
+    text::proofs::PutLaws::adds_then,
+    crate::proofs::TextLaws::head_parts,
+    crate::proofs::TextLaws::tuple_parts,
+), unfolding(model::specs::Bytes::bytes, crate::specs::Texts::unequal_text))]
+
 ghost use Rattle.std.specs.Prelude.{◌+◌, ◌≤◌, length};
 ghost use Rattle.model.specs.Words.{word, scope_limit};
 ghost use Rattle.text.specs.Adds.{Adds};
@@ -30,7 +37,6 @@ pub fn put_head(w: &mut Writer<'_>, every: bool, scope: usize, v: usize, alone: 
 }
 
 // That a variable, whose letter stands already, is not the number at an index.
-#[tactic(auto, using(text::proofs::PutLaws::adds_then), unfolding(crate::specs::Texts::unequal_text, model::specs::Bytes::bytes))]
 fn put_unequal(w: &mut Writer<'_>, x: usize, numbers: &[i32], i: usize)
     ensures { Adds (T.unequal_text x (word numbers.now i)) w.old w.new }
 {

@@ -57,12 +57,12 @@ unfolding node_text tokens spelt gather
 plain-text holds = append-nil (cond holds (bytes "$true") (bytes "$false"))
 
 module _ (words : Words) (holds : Bool) (at : ℕ) where
-  pub atom-text :
+  pub atom_text :
       (p n : ℕ) → p ≡ value words (at + 1) → n ≡ value words (at + 2) →
       node_text true (atom_at words holds at) 0
       ≡ (((cond holds (bytes "p") (bytes "~p") ++ digits 10 p) ++ bytes "(") ++ terms_text words (at + 3) n) ++ bytes ")"
   unfolding node_text atom_at tokens negation predicate_token parenthesized terms_text spelt gather bytes
-  atom-text p n e f = rw (← e, ← f) (go holds)
+  atom_text p n e f = rw (← e, ← f) (go holds)
     where
       terms : Tokens
       terms = separated (bytes ",") (map (λ t. term_token t ∷ []) (map (term_at words) (places (at + 3) n)))
@@ -80,7 +80,7 @@ module _ (words : Words) (holds : Bool) (at : ℕ) where
       go true = last (bytes "p" ++ digits 10 p)
       go false = last (bytes "~p" ++ digits 10 p)
 
-  pub compare-text :
+  pub compare_text :
       node_text true (compare_at words holds at) 0
       ≡ (((((cond holds (bytes "$lesseq($sum(") (bytes "~$lesseq($sum(") ++ term_text words (at + 2)) ++ bytes ",")
       ++ decimal (word words (at + 1)))
@@ -88,7 +88,7 @@ module _ (words : Words) (holds : Bool) (at : ℕ) where
       ++ term_text words (at + 4))
       ++ bytes ")"
   unfolding node_text compare_at tokens negation parenthesized term_text spelt gather bytes
-  compare-text = go holds
+  compare_text = go holds
     where
       go :
           (b : Bool) →

@@ -17,7 +17,7 @@ use Rattle.laws.specs.Reading.Encoded.{read-node}
 use Rattle.text.specs.declared.writer.Writer.{Writer}
 use Rattle.text.specs.Put.{Writes}
 use Rattle.text.specs.Adds.{Begins, Adds}
-use Rattle.text.proofs.PutLaws.{adds_then, adds-is, writes-whole}
+use Rattle.text.proofs.PutLaws.{adds_then, adds_is, writes_whole}
 use Rattle.tptp_writing.specs.Printing.{Printable, node_text, Prints}
 use Rattle.tptp_writing.proofs.NodeTextLaws.{policy-text}
 
@@ -34,7 +34,7 @@ module _ (table policy : Words) (tree : Tree) (read : read_policy table policy �
       out' ≡ w₃.out.now →
       Writes (policy_text tree) out.now out' w₃.put
   policy-writes front lead node last left =
-      writes-whole front
-      (adds-is (adds_then (adds_then lead node.adds) last)
-      (policy-text tree ∙ sym (append_assoc (bytes "tff(a,axiom,") (node_text true tree 0) (bytes ")."))))
+      writes_whole front
+      (adds_is (policy-text tree ∙ sym (append_assoc (bytes "tff(a,axiom,") (node_text true tree 0) (bytes ").")))
+      (adds_then (adds_then lead node.adds) last))
       left

@@ -15,7 +15,7 @@ use Rattle.model.specs.Tree.{Tree, Trees, plain}
 use Rattle.model.specs.Tptp.{connective}
 use Rattle.text.specs.declared.writer.Writer.{Writer}
 use Rattle.text.specs.Adds.{Adds}
-use Rattle.text.proofs.PutLaws.{adds-is, adds_then, adds_short, adds_full, full_stays, Left, left-none, left-more, left_full, left_end}
+use Rattle.text.proofs.PutLaws.{adds_is, adds_then, adds_short, adds_full, full_stays, Left, left-none, left_more, left_full, left_end}
 use Rattle.tptp_putting.specs.Texts.{head_text, closed_text, Tuples}
 use Rattle.tptp_writing.specs.Printing.{Printable, PrintableAll, atom_at, compare_at, node_text, operands_text, Prints}
 use Rattle.tptp_writing.proofs.NodeTextLaws.{plain-text, plain-same, atom-same, compare_same, quantifier-same, some_same}
@@ -44,7 +44,7 @@ prints_on p close adds f =
 
 -- the same text and the same word
 prints_is : {a b : Text} {n m : ℕ} {w w' : Writer} {r : Option ℕ} → Prints a n w w' r → b ≡ a → m ≡ n → Prints b m w w' r
-prints_is p e f = record { adds = adds-is p.adds e; found = λ n g. p.found n g ∙ sym f; full = p.full }
+prints_is p e f = record { adds = adds_is e p.adds; found = λ n g. p.found n g ∙ sym f; full = p.full }
 
 module _ (words : Words) (above scope at : ℕ) (h : Printable words above scope at) (bare : Bool) {w w' : Writer} where
   -- a node with no node below it
@@ -107,8 +107,8 @@ pub join_prints :
 join_prints {scope} {every} j bare lead all close =
     let nodes = all j.operands in
     prints_on nodes close
-    (adds-is (adds_then lead (adds_then nodes.adds close))
-    (ap (λ (t : Tree). node_text bare t scope) j.is ∙ join-text every scope bare j.operands.trees))
+    (adds_is (ap (λ (t : Tree). node_text bare t scope) j.is ∙ join-text every scope bare j.operands.trees)
+    (adds_then lead (adds_then nodes.adds close)))
     j.ends
 
 -- a some: what stands before its restriction, this, and a parenthesis
@@ -121,8 +121,8 @@ pub some-stands :
 some-stands {scope} s lead one close =
     let node = one s.restricts in
     prints_on node close
-    (adds-is (adds_then lead (adds_then node.adds close))
-    (ap (λ (t : Tree). node_text true t scope) s.is ∙ some-text scope s.restricts.tree))
+    (adds_is (ap (λ (t : Tree). node_text true t scope) s.is ∙ some-text scope s.restricts.tree)
+    (adds_then lead (adds_then node.adds close)))
     s.ends
 
 -- a quantifier: what stands before its restriction, this, its excluded tuples, a connective, its body, and a parenthesis
@@ -148,7 +148,7 @@ module _
         let node = one q.restricts in
         let full = node.full e in
         prints_full h.next
-        (adds-is (adds_short _ (adds_then head node.adds) full) (whole ∙ sym (append_assoc (head_text every scope v (eqb m 0)) _ _)))
+        (adds_is (whole ∙ sym (append_assoc (head_text every scope v (eqb m 0)) _ _)) (adds_short _ (adds_then head node.adds) full))
         full
 
     module _ {body : ℕ} (found : r₁ ≡ Some body) where
@@ -166,14 +166,14 @@ module _
       quantifier-stands head tuples sign two close =
           let node = two body-here in
           let behind = adds_then (tuples q.excluded) (adds_then sign (adds_then node.adds close)) in
-          prints_on node close (adds-is (adds_then head (adds_then (one q.restricts).adds behind)) whole) q.ends
+          prints_on node close (adds_is whole (adds_then head (adds_then (one q.restricts).adds behind))) q.ends
 
 -- an operand is not bare
 pub operand_adds :
     (tree : Tree) (scope : ℕ) (bare : Bool) {next : ℕ} {w w' : Writer} {r : Option ℕ} → Prints (node_text bare tree scope) next w w' r →
     bare ≡ false →
     Adds (node_text false tree scope) w w'
-operand_adds tree scope bare p e = adds-is p.adds (ap (λ (b : Bool). node_text b tree scope) (sym e))
+operand_adds tree scope bare p e = adds_is (ap (λ (b : Bool). node_text b tree scope) (sym e)) p.adds
 
 -- operands one behind another: those behind the first stand up to the node i
 pub record More
@@ -226,7 +226,7 @@ module _
             More words above scope n at every h f (i + 1) w w₂ r
         more_turn sign bare one is =
             let node = one more-here in
-            let l = left-more m.left (connective every) _
+            let l = left_more m.left (connective every) _
             (ap (λ (ts : Trees). rest_text every ts scope) others.is
             ∙ operands-more every scope others.first.tree others.others.trees)
             sign in
@@ -237,7 +237,7 @@ module _
               found = node.found;
               full = node.full;
               rest = others.others;
-              left = left-more l _ _ refl (operand_adds others.first.tree scope bare node is);
+              left = left_more l _ _ refl (operand_adds others.first.tree scope bare node is);
               ends = m.ends ∙ others.ends;
             }
 
@@ -249,7 +249,7 @@ module _
             ap (λ (ts : Trees). operands_text every ts scope) f.is ∙ operands-first every scope f.first.tree f.others.trees
 
         pub more-full : next ≡ None → Prints (operands_text every h.trees scope) h.next w₀ w' None
-        more-full e = prints_full h.next (adds-is (adds_then first (left_full m.left (m.full e))) whole-text) (m.full e)
+        more-full e = prints_full h.next (adds_is whole-text (adds_then first (left_full m.left (m.full e)))) (m.full e)
 
         pub more_end : n ≤ i → Prints (operands_text every h.trees scope) h.next w₀ w' next
         more_end all =

@@ -3,7 +3,7 @@
 use Prim.Native.Nat.{◌/◌}
 use lib.ListN.{length}
 use Rattle.std.proofs.Common.{rules}
-use Rattle.text.proofs.PutLaws.{left-more, left_full, left_end, writes-whole}
+use Rattle.text.proofs.PutLaws.{left_more, left_full, left_end, writes_whole}
 use Rattle.csv_writing.proofs.RowLaws.{row-good, lines_start, lines_more, lines_none}
 use Rattle.csv_writing.proofs.write_rows.Goals as goal
 
@@ -18,18 +18,18 @@ put_row-requires c =
 pub returns-in_err-w : goal.returns-in_err-w
 returns-in_err-w c =
     rw (c.from_residual.ensures, ← c.in_err-w.was)
-    (writes-whole c.new-w.ensures (left_full c.loop-row.invariant c.in_err-w.was) (search rules))
+    (writes_whole c.new-w.ensures (left_full c.loop-row.invariant c.in_err-w.was) (search rules))
 
 pub loop-row-preserved : goal.loop-row-preserved
 loop-row-preserved c =
     let a = c.args in
-    left-more c.loop-row.invariant _ _
+    left_more c.loop-row.invariant _ _
     (lines_more a.table.now a.log.now c.loop-row.row (length a.log.now / 8) c.loop-row-test.true)
     c.put_row.ensures
 
 pub returns : goal.returns
 returns c =
     let a = c.args in
-    writes-whole c.new-w.ensures
+    writes_whole c.new-w.ensures
     (left_end c.loop-row.invariant (lines_none a.table.now a.log.now c.loop-row.row (length a.log.now / 8) c.loop-row-test.false))
     (search rules)

@@ -1,7 +1,7 @@
 -- `csv_writing::row::put_row` meets its contract: the fields, and the end of the line.
 use native.Mathlib.Omega.{arith}
-use Rattle.text.proofs.PutLaws.{adds_then, adds-is}
-use Rattle.csv_writing.proofs.RowLaws.{arity-few, line-parts}
+use mathlib.Core.Path.{refl}
+use Rattle.csv_writing.proofs.RowLaws.{arity-few, line_adds}
 use Rattle.csv_writing.proofs.row.put_row.Goals as goal
 
 pub overflow_add-n : goal.overflow_add-n
@@ -13,6 +13,4 @@ put_fields-requires c =
     omega (arith, arity-few c.args.table.now c.args.row.now _ _ c.value.ensures c.arity-n.ensures c.requires.0 c.requires.2, c.requires)
 
 pub returns : goal.returns
-returns c =
-    adds-is (adds_then c.put_fields.ensures c.bytes.ensures)
-    (line-parts c.args.table.now c.args.row.now _ _ c.value.ensures c.arity-n.ensures)
+returns c = line_adds c.args.table.now c.args.row.now _ _ c.value.ensures c.arity-n.ensures c.put_fields.ensures c.bytes.ensures refl

@@ -1,7 +1,7 @@
 -- `tptp_writing::tree::compare` meets its contract: texts one behind another.
 use Rattle.model.specs.Bytes.{bytes}
-use Rattle.text.proofs.PutLaws.{adds_then, adds-is}
-use Rattle.tptp_writing.proofs.NodeTextLaws.{compare-text}
+use Rattle.text.proofs.PutLaws.{adds_then, adds_is}
+use Rattle.tptp_writing.proofs.NodeTextLaws.{compare_text}
 use Rattle.tptp_writing.proofs.WalkLaws.{prints_at}
 use Rattle.tptp_writing.proofs.tree.compare.Goals as goal
 
@@ -11,5 +11,5 @@ returns c =
     let left = adds_then (adds_then c.either.ensures c.put_term.ensures) c.bytes.ensures in
     let sum = adds_then (adds_then left c.word.ensures) c.bytes-2.ensures in
     prints_at _
-    (adds-is (adds_then (adds_then sum c.put_term-2.ensures) c.bytes-3.ensures)
-    (compare-text c.args.words.now c.args.holds c.args.at))
+    (adds_is (compare_text c.args.words.now c.args.holds c.args.at)
+    (adds_then (adds_then sum c.put_term-2.ensures) c.bytes-3.ensures))
