@@ -51,7 +51,7 @@ module _
   concluding_here = (a.b, a.v, a.excluded, a.c, a.f, concluding_at)
 
   -- v and m being the numbers that are read there
-  module _ (v m : ℕ) (is-v : v ≡ value words (at + 1)) (is_m : m ≡ value words (at + 2)) where
+  module _ {v m : ℕ} (is-v : v ≡ value words (at + 1)) (is_m : m ≡ value words (at + 2)) where
     pub concluding_sizes : Sizes words scope at body next k v m
     concluding_sizes = here_sizes words scope at body next k v m is-v is_m concluding_here
 
@@ -61,12 +61,9 @@ module _
     m_is : m ≡ length a.excluded
     m_is = is_m ∙ reads_m words scope at body next a.b a.v a.excluded a.c a.f concluding_at
 
-    abbrev start : ℕ
-    start = at + 3 + v * m
-
     restriction-node :
-        Node table words restriction (a.stands.above + quantifier_cost a.stands.role a.b) (scope + a.v) start a.c
-        (start + length (encode a.c))
+        Node table words restriction (a.stands.above + quantifier_cost a.stands.role a.b) (scope + a.v) (at + 3 + v * m) a.c
+        (at + 3 + v * m + length (encode a.c))
     restriction-node =
         let same : a.v * length a.excluded ≡ v * m = sym (ap₂ (λ (x y : ℕ). x * y) v-is m_is) in
         subst
@@ -75,16 +72,16 @@ module _
         (quantifier-parts table words a.stands.role a.stands.above scope at next a.b a.v a.excluded a.c a.f a.stands.node).restricts
 
     -- its restriction
-    pub concluding_restriction : HereRestriction table words start
+    pub concluding_restriction : HereRestriction table words (at + 3 + v * m)
     concluding_restriction = (
       a.stands.above + quantifier_cost a.stands.role a.b,
       scope + a.v,
       omega (arith, concluding_sizes.small, v-is),
-      (a.c, start + length (encode a.c), restriction-node),
+      (a.c, at + 3 + v * m + length (encode a.c), restriction-node),
     )
 
-    pub concluding_closed : (r : Bool) → TellsClosed table words start r → r ≡ M.closed a.c table
-    concluding_closed r tells = tells _ _ a.c _ restriction-node
+    pub concluding_closed : {r : Bool} → TellsClosed table words (at + 3 + v * m) r → r ≡ M.closed a.c table
+    concluding_closed tells = tells _ _ a.c _ restriction-node
 
   -- the trees that are joined
   all_closed : M.closed a.c table ≡ true → append a.ts (last_part a) ≡ a.ts
@@ -95,13 +92,13 @@ module _
   all_open e = ap (λ (x : Bool). append a.ts (cond x nil (cons (remaining a) nil))) e
 
   -- the restriction is closed: the join is the answer
-  pub concluded-closed : (after : Words) (r : Reduced) → M.closed a.c table ≡ true → Finishes out j after r → concluded a after r
-  concluded-closed after r e finish =
+  pub concluded-closed : {after : Words} {r : Reduced} → M.closed a.c table ≡ true → Finishes out j after r → concluded a after r
+  concluded-closed {after} {r} e finish =
       subst (λ (ts : Trees). Answers a.places a.need (joined a.b ts) out after r) (sym (all_closed e))
       (finish a.b a.ts a.need a.places a.state)
 
   -- it is not: the last part is added
-  module _ (part : Words) (answer : Reduced) (remains : Remains words scratch held scope at body next from k (rest out j.words) part answer) where
+  module _ {part : Words} {answer : Reduced} (remains : Remains words scratch held scope at body next from k (rest out j.words) part answer) where
     part-answers : Answers a.places 0 (remaining a) (rest out j.words) part answer
     part-answers =
         remains a.ρ a.outer a.b a.v a.excluded a.c a.f concluding_at a.tuples a.found a.places
@@ -117,7 +114,7 @@ module _
     concluding_adding = adding a.state part-answers part-wide
 
     module _
-        (between : Words) (whole : Join)
+        {between : Words} {whole : Join}
         (add : (x : Adding (lent out j.words part) j answer) → added x between whole) where
       pub concluding_joining :
           Joining a.b (append a.ts (cons (remaining a) nil)) a.need a.places between whole
@@ -128,11 +125,11 @@ module _
 
       pub concluded_open :
           length between ≡ length out →
-          (after : Words) (r : Reduced) →
+          {after : Words} {r : Reduced} →
           M.closed a.c table ≡ false →
           Finishes between whole after r →
           concluded a after r
-      concluded_open long after r e finish =
+      concluded_open long {after} {r} e finish =
           subst (λ (ts : Trees). Answers a.places a.need (joined a.b ts) out after r) (sym (all_open e))
           (answers-from long
           (finish a.b (append a.ts (cons (remaining a) nil)) a.need a.places concluding_joining))

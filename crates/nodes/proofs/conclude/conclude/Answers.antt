@@ -7,43 +7,30 @@ use Rattle.nodes.proofs.Concluding.{concluded-closed, concluding_long, concludin
 use Rattle.nodes.proofs.conclude.conclude.Goals as goal
 
 pub overflow_mul-v : goal.overflow_mul-v
-overflow_mul-v c =
-    let h =
-    concluding_sizes c.requires.2 c.value-v.result c.value-m.result c.value-v.ensures c.value-m.ensures in
-    omega (arith, c.ranges)
+overflow_mul-v c = omega (arith, c.ranges, concluding_sizes c.requires.2 c.value-v.ensures c.value-m.ensures)
 
 pub overflow_add-at-4 : goal.overflow_add-at-4
-overflow_add-at-4 c =
-    let h =
-    concluding_sizes c.requires.2 c.value-v.result c.value-m.result c.value-v.ensures c.value-m.ensures in
-    omega (arith, c.ranges)
+overflow_add-at-4 c = omega (arith, c.ranges, concluding_sizes c.requires.2 c.value-v.ensures c.value-m.ensures)
 
 pub closed-requires : goal.closed-requires
-closed-requires c =
-    concluding_restriction c.requires.2 c.value-v.result c.value-m.result c.value-v.ensures c.value-m.ensures
+closed-requires c = concluding_restriction c.requires.2 c.value-v.ensures c.value-m.ensures
 
 pub returns-then-closed : goal.returns-then-closed
-returns-then-closed c =
-    λ a. concluded-closed a _ _
-    (sym
-    (concluding_closed a c.value-v.result c.value-m.result c.value-v.ensures c.value-m.ensures _
-    c.closed.ensures) ∙ c.if-closed.true) c.finish.ensures
+returns-then-closed c = λ a.
+    let closed = concluding_closed a c.value-v.ensures c.value-m.ensures c.closed.ensures in
+    concluded-closed a (sym closed ∙ c.if-closed.true) c.finish.ensures
 
 pub add-whole-requires : goal.add-whole-requires
 add-whole-requires c =
-    let long = concluding_long c.requires.2 _ _ c.last-answer.ensures in
-    (omega arith, concluding_adding c.requires.2 _ _ c.last-answer.ensures)
+    let long = concluding_long c.requires.2 c.last-answer.ensures in
+    (omega arith, concluding_adding c.requires.2 c.last-answer.ensures)
 
 pub finish-requires-2 : goal.finish-requires-2
 finish-requires-2 c =
-    let long = concluding_long c.requires.2 _ _ c.last-answer.ensures in
-    (omega arith, (_, _, _, _, concluding_joining c.requires.2 _ _ c.last-answer.ensures _ _ c.add-whole.ensures))
+    let long = concluding_long c.requires.2 c.last-answer.ensures in
+    (omega arith, (_, _, _, _, concluding_joining c.requires.2 c.last-answer.ensures c.add-whole.ensures))
 
 pub returns : goal.returns
 returns c = λ a.
-    let closed =
-    sym
-    (concluding_closed a c.value-v.result c.value-m.result c.value-v.ensures c.value-m.ensures _
-    c.closed.ensures) ∙ c.if-closed.false in
-    concluded_open a _ _ c.last-answer.ensures _ _ c.add-whole.ensures (omega arith) _ _
-    closed c.finish-2.ensures
+    let closed = concluding_closed a c.value-v.ensures c.value-m.ensures c.closed.ensures in
+    concluded_open a c.last-answer.ensures c.add-whole.ensures (omega arith) (sym closed ∙ c.if-closed.false) c.finish-2.ensures

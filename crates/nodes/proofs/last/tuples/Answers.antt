@@ -11,19 +11,6 @@ loop-j-init c =
     let a = c.args in
     copied_start a.scratch.now a.v (17 * a.from + a.scope) a.k a.out.now a.to (omega arith) c.requires.2
 
-pub copy_words-requires : goal.copy_words-requires
-copy_words-requires c =
-    let a = c.args in
-    let there : 17 * a.from + a.scope + 17 * a.k + a.v ≤ length a.scratch.now + 17 =
-    omega (arith, c.requires) in
-    let room =
-    copied_room a.scratch.now a.v (17 * a.from + a.scope) a.k a.out.now a.to there c.loop-j.j
-    c.loop-j.out c.loop-j.invariant c.loop-j-test.true in
-    let long =
-    copied_long a.scratch.now a.v (17 * a.from + a.scope) a.k a.out.now a.to there c.loop-j.j
-    c.loop-j.out c.loop-j.invariant in
-    (omega (arith, c.requires), omega arith)
-
 pub loop-j-preserved : goal.loop-j-preserved
 loop-j-preserved c =
     let a = c.args in
