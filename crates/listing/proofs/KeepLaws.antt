@@ -1,5 +1,5 @@
 -- What a leaf of a restriction keeps, by its tag: from what the code reads of its words to what its tree says.
-use Prim.Native.Nat.{ℕ, ◌+◌, ◌^◌, ◌≤◌, ◌<◌}
+use Prim.Native.Nat.{ℕ, ◌+◌, ◌^◌, ◌<◌}
 use mathlib.Core.Path.{◌≡◌, sym, ap, ◌∙◌, subst, refl}
 use mathlib.Core.Bool.{Bool, true, false, beq}
 use lib.ListN.{length}
