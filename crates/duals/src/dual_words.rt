@@ -48,7 +48,8 @@ fn past_kept(walk: Walk, words: &[i32], tag: Tag) -> Walk
     }
 }
 
-// The tags of formulas change to their pairs; restrictions stay. The buffer holds the words at its front.
+// The tags of formulas change to their pairs; restrictions stay. The buffer holds the words at its front. That the words are those of a tree
+// is a clause: what is ensured speaks of that tree.
 fn swap(words: &[i32], buffer: &mut [i32])
     requires { (buffer.old ≡ words.now ++ drop (length words.now) buffer.old)
         × ((tree : Tree) × G.Tupled tree × (encode tree ≡ words.now)) }

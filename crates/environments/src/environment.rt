@@ -27,7 +27,7 @@ fn marks_of(word: usize) -> [bool; 16]
     marks
 }
 
-// Sixteen words from an index on.
+// Sixteen words from an index on. A function of its own: the proof of `read` cites the sixteen as one list.
 fn numbers_at(words: &[i32], at: usize) -> [i32; 16]
     requires { at + 16 ≤ length words.now }
     ensures { result ≡ take 16 (drop at words.now) }
@@ -64,7 +64,8 @@ impl Environment {
         }
     }
 
-    // One variable more is bound.
+    // One variable more is bound. Of one form with `release`, which clears what this sets: a function for both would take the mark, and a number
+    // where there is none. Its number is below 16 by a clause, here and below: it is a constant or an index that was just tested.
     pub fn bind(mut self, variable: usize, number: i32) -> Environment
         requires { variable < 16 }
         ensures { (e : M.Environment) → Holds self e → Holds result (M.bind e variable number) }

@@ -7,7 +7,7 @@ ghost use Rattle.environments.specs.Lists.{Moved, Released};
 
 use crate::environment::Environment;
 
-// A place of scratch is copied to one that stands not behind it.
+// A place of scratch is copied to one that stands not behind it. A function of its own: each caller's proof cites the whole scratch that it leaves.
 pub fn copy_place(scratch: &mut [i32], source: usize, target: usize)
     requires { (target ≤ source) × (17 * source + 17 ≤ length scratch.old) }
     ensures { scratch.new ≡ take (17 * target) scratch.old ++ (place_at scratch.old source ++ drop (17 * target + 17) scratch.old) }

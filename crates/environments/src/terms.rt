@@ -11,7 +11,7 @@ ghost use Rattle.environments.specs.Environment.{Holds, numbers_of};
 use crate::environment::Environment;
 use policies::terms::Terms;
 
-// The word at an index; past the end of a slice stands 0.
+// The word at an index; past the end of a slice stands 0. A function of its own, so that callers have the word as `model` has it.
 #[tactic(auto, unfolding(model::specs::Words::word))]
 pub fn word(s: &[i32], i: usize) -> i32
     ensures { result ≡ W.word s.now i }

@@ -20,7 +20,8 @@ fn stands(a: &[i32], at: usize, b: &[i32], from: usize, step: usize, m: usize, v
     (0..m).any(|i| equal_words(a, at, b, from + step * i, v))
 }
 
-// The instances, each tuple compared with all that were seen before it.
+// The instances, each tuple compared with all that were seen before it. That the variables and the places fit is a clause, here and below:
+// the table of keys asks for neither, and scratch is lent to and fro.
 fn by_pairs(
     excluded: Excluded<'_>,
     scope: usize,

@@ -27,7 +27,8 @@ fn chain_true(log: &[i32], keys: &mut [u16], links: &mut [u16])
     chain::fill(Kind::First, log, keys, &mut links[BETWEEN..]);
 }
 
-// The same, over a log of at most 4,096 rows.
+// The same, over a log of at most 4,096 rows. That they are no more is a clause from here down to `fill`: only the number of rows is bound,
+// and a type would hold one slice.
 fn link_true(log: &[i32], links: &mut [u16])
     requires { (row_count log.now ≤ 4096) × (links.old ≡ replicate 12546 0) }
     ensures { TrueRows log.now links.new }

@@ -12,7 +12,8 @@ use chains::{chain, search};
 use model::{ARGUMENTS_FROM, ROW_WORDS, Refusal, Refused};
 use tables::table;
 
-// The arguments of a row from the n-th on are 0. All six are looked at, with no branch on the arity.
+// The arguments of a row from the n-th on are 0. All six are looked at, with no branch on the arity. A row is a slice of eight words by a
+// clause, here and below: the compiler then knows its length.
 fn unused(row: &[i32], n: usize) -> bool
     requires { length row.now ≡ 8 }
     ensures { result ≡ unused_from row.now n }

@@ -164,7 +164,7 @@ pub fn bind(
     }
 }
 
-// n formulas one behind another, in one role.
+// n formulas one behind another, in one role. That the role is one of formulas is a clause, as elsewhere: restrictions have roles of the same type.
 #[cycle(formula_formulas_quantified)]
 fn formulas(
     table: &[i32],

@@ -53,7 +53,7 @@ impl Walk {
     }
 }
 
-// The index behind the tree at an index.
+// The index behind the tree at an index. That a tree stands there is a clause, here and below: what is ensured speaks of that tree.
 pub fn tree_end(words: &[i32], at: usize) -> usize
     requires { G.Tree-at words.now at }
     ensures { (tree : Tree) (next : ℕ) → G.Grown words.now at tree next → result ≡ next }
