@@ -19,7 +19,7 @@ use Rattle.policies.proofs.Standing.{low}
 use Rattle.policies.proofs.Stood.{stood, formula-kind, level-fits, own-fits, next_in, level_in, level_down}
 use Rattle.reduction.specs.Walk.{ReducesNode}
 use Rattle.joining.proofs.Lending.{rest, rest-long, lent_long}
-use Rattle.reduction.proofs.WalkChildren.{children-start, children-lent, children-here, children-short}
+use Rattle.reduction.proofs.WalkChildren.{children-start, children-within, children-here, children-short}
 use Rattle.reduction.proofs.WalkChildren.{children_adding, children-next, children_end}
 use denote.Enum.Bare.{same_true, same_false}
 use borrow.Author.Rules.{rules}
@@ -65,18 +65,15 @@ children-formula-child-requires t c =
 pub children-returns-in-Short : goal.children-returns-in-Short
 children-returns-in-Short t c =
     let a = c.args in
-    let long = children-lent a.log.now.rows.now _ c.loop.invariant c.requires.1 (_, a.outer.now.bound) _ c.formula-child.auto.out in
+    let within = children-within a.log.now.rows.now _ c.loop.invariant c.requires.1 (_, a.outer.now.bound) in
     children-short a.log.now.rows.now _ c.loop.invariant c.loop-test.true
-    (ap (λ (n : ℕ). n / 17) c.loop.auto.scratch) c.formula-child.ensures c.in-Short.is (long ∙ c.loop.auto.out) c.in-Short.is
+    (ap (λ (n : ℕ). n / 17) c.loop.auto.scratch) c.formula-child.ensures c.in-Short.is
+    (lent_long _ _ _ within c.formula-child.auto.out ∙ c.loop.auto.out) c.in-Short.is
 
 pub children-add-join-requires : goal.children-add-join-requires
 children-add-join-requires t c =
-    let a = c.args in
-    let long = children-lent a.log.now.rows.now _ c.loop.invariant c.requires.1 (_, a.outer.now.bound) _ c.formula-child.auto.out in (
-      omega (arith, long, c.loop.auto.out, c.requires.0),
-      children_adding a.log.now.rows.now _ c.loop.invariant c.loop-test.true
-          (ap (λ (n : ℕ). n / 17) c.loop.auto.scratch) c.formula-child.ensures c.requires.1 (_, a.outer.now.bound),
-    )
+    children_adding c.args.log.now.rows.now _ c.loop.invariant c.loop-test.true
+    (ap (λ (n : ℕ). n / 17) c.loop.auto.scratch) c.formula-child.ensures c.requires.1 (_, c.args.outer.now.bound)
 
 pub children-loop-preserved : goal.children-loop-preserved
 children-loop-preserved t c =
@@ -124,13 +121,9 @@ instances-formula-child-requires t c =
 
 pub instances-add-join-requires : goal.instances-add-join-requires
 instances-add-join-requires t c =
-    let a = c.args in
-    let within = instances-within a.log.now.rows.now _ c.loop-i.invariant.1 c.requires.2 (_, a.outer.now.bound) c.requires.5 in (
-      omega (arith, lent_long _ _ _ within c.formula-child.auto.out, c.loop-i.auto.out, c.requires.1),
-      instances_adding a.log.now.rows.now _ c.loop-i.invariant.1 c.loop-i-test.true c.loop-i.invariant.0 c.requires.3 c.requires.0
-          c.instance-bound.ensures.numbers (lent_places c.loop-i.invariant.0 c.requires.4) c.instance-bound.ensures.scope
-          c.formula-child.ensures c.requires.2 (_, a.outer.now.bound) c.requires.5,
-    )
+    instances_adding c.args.log.now.rows.now _ c.loop-i.invariant.1 c.loop-i-test.true c.loop-i.invariant.0 c.requires.3 c.requires.0
+    c.instance-bound.ensures.numbers (lent_places c.loop-i.invariant.0 c.requires.4) c.instance-bound.ensures.scope
+    c.formula-child.ensures c.requires.2 (_, c.args.outer.now.bound) c.requires.5
 
 pub instances-loop-i-preserved : goal.instances-loop-i-preserved
 instances-loop-i-preserved t c = (
