@@ -6,7 +6,7 @@ use mathlib.Core.Path.{◌≡◌, refl, sym, ap, ap₂, ◌∙◌}
 use mathlib.Core.Logic.{⊎_elim}
 use mathlib.Core.Bool.{Bool, true, false, cond}
 use mathlib.Core.List.{List, [], ◌∷◌, ◌++◌, map, append_assoc}
-use lib.ListN.{length, get_or, set, take, drop, length-append, length-drop, length-set, length-map, get_or-append}
+use lib.ListN.{length, get_or, set, take, drop, length-append, length-set, length-map, get_or-append}
 use lib.Seq.{paste, get_or_at, get_or-set_same, get_or-set_other, get_or-take, get_or-drop, ext_get_or, take_at, drop_at, take-take, take_all}
 use lib.Seq.{length-take-le, drop-cons, set_at}
 use lib.Pow.{pow_mono}
@@ -197,9 +197,6 @@ module _ (scratch : Words) (at : ℕ) (e : Environment) (here : take 17 (drop at
 module _ (scratch : Words) (place : ℕ) (e : Environment) (room : 17 * place + 17 ≤ length scratch) where
   front_length : length (take (17 * place) scratch) ≡ 17 * place
   front_length = length-take-le (17 * place) scratch (omega arith)
-
-  pub stored-length : length (stored scratch place e) ≡ length scratch
-  stored-length = simp (length-append, front_length, place-length e, length-drop) (omega arith)
 
   pub stored_here : place_at (stored scratch place e) place ≡ place_of e
   stored_here = ap (take 17) (drop_at (take (17 * place) scratch) _ (17 * place) front_length) ∙ take_at (place_of e) _ 17 (place-length e)

@@ -1,12 +1,11 @@
 -- What a leaf of a restriction keeps, by its tag: from what the code reads of its words to what its tree says.
-use Prim.Native.Nat.{ℕ, ◌+◌, ◌^◌, ◌≤◌, ◌<◌}
+use Prim.Native.Nat.{ℕ, ◌+◌, ◌^◌, ◌<◌}
 use mathlib.Core.Path.{◌≡◌, sym, ap, ◌∙◌, subst, refl}
 use mathlib.Core.Bool.{Bool, true, false, beq}
 use lib.ListN.{length}
 use lib.IntN.{ℤ}
-use Rattle.model.specs.Words.{Words, word, same, predicate_limit}
+use Rattle.model.specs.Words.{Words, word, same}
 use Rattle.model.specs.Lists.{all}
-use Rattle.model.specs.Table.{predicates}
 use Rattle.model.specs.Log.{rows}
 use Rattle.model.specs.Tag as T
 use Rattle.model.specs.Tree.{Term, Tree}
@@ -23,8 +22,8 @@ use Rattle.std.specs.Option.{option_eq}
 use Rattle.policies.specs.declared.node.Tag.{Tag}
 use Rattle.policies.specs.declared.node.Tag.TheVariants.{Plain, Atom, Compare, Join, Quantifier, Some, Unused}
 use Rattle.policies.specs.Node.{as_tag}
-use Rattle.policies.specs.Standing.{HereAtom}
-use Rattle.policies.proofs.Standing.{has, here-atom, here-compare}
+use Rattle.policies.specs.Standing.{HereTerms}
+use Rattle.policies.proofs.Standing.{has, here-terms, here-compare}
 use Rattle.environments.specs.declared.environment.Environment.{Environment as Held}
 use Rattle.environments.specs.Environment.{Holds}
 use Rattle.matching.specs.Lookup.{Values}
@@ -36,8 +35,8 @@ use Rattle.environments.proofs.TermLaws.{sum_same}
 module _
     (table words : Words) (at : ℕ) (tag : Tag) (told : as_tag tag ≡ T.tag_of (word words at))
     (here : HereRestriction table words at) (long : length words < 2 ^ 64) where
-  pub keeping_atom : predicates table ≤ predicate_limit → (b : Bool) → tag ≡ Atom b → HereAtom words at
-  keeping_atom few b is = here-atom table words here.0 here.1 at few here.2 b (ap as_tag (sym is) ∙ told) here.3 long
+  pub keeping_atom : (b : Bool) → tag ≡ Atom b → HereTerms words at
+  keeping_atom b is = here-terms table words here.0 here.1 at here.2 b (ap as_tag (sym is) ∙ told) here.3 long
 
   pub keeping_compare : (b : Bool) → tag ≡ Compare b → (at + 6 < 2 ^ 64) × (all (in_scope words 16) (places (at + 2) 2) ≡ true)
   keeping_compare b is = here-compare table words here.0 here.1 at here.2 b (ap as_tag (sym is) ∙ told) here.3 long

@@ -11,8 +11,9 @@ use Rattle.model.specs.Lists.{gather}
 use Rattle.model.specs.Log.{rows}
 use Rattle.model.specs.Tree.{Tree}
 use Rattle.model.specs.Listing.{Environment, list, entries}
-use Rattle.listing.specs.declared.restriction.Room.{Room}
-use Rattle.std.specs.Prelude.{None}
+use Rattle.listing.specs.declared.room.Room.{Room}
+use Rattle.listing.specs.declared.room.Made.{Made}
+use Rattle.std.specs.Prelude.{Option, None, Some}
 use Rattle.environments.specs.Environment.{place_of, place_at, stored}
 use Rattle.environments.proofs.Places.{place-length}
 use Rattle.environments.specs.Listed.{Listed}
@@ -20,7 +21,7 @@ use Rattle.environments.proofs.ListedLaws.{environment_of, listed-none, listed_m
 use Rattle.environments.proofs.ListsLaws.{outside-stored, stands-stored, outside-front}
 use Rattle.listing.specs.Keeping.{Leaf, keeps_of}
 use Rattle.listing.proofs.Leaves.{list-leaf, entries-leaf}
-use Rattle.listing.specs.Restrictions.{Stands, Roomy, Holding, MakesTree, filled}
+use Rattle.listing.specs.Restrictions.{Holding, Tells, Filled}
 use Rattle.listing.proofs.MapLaws.{Mapping, map-step, map-short}
 use Rattle.listing.proofs.MapRoom.{map_stood, makes_same}
 use Rattle.listing.proofs.LeafLaws.{kept, keep-gather}
@@ -67,22 +68,19 @@ module _
   all-entries : length (gather (kept test) es) ≡ entries table (rows log) t scope es
   all-entries = ap length (keep-gather test es) ∙ sym (entries-leaf table (rows log) t leaf scope es)
 
+  abbrev pub KeptTells : (r : Option Made) → Type 0
+  KeptTells r = Tells (list table (rows log) t scope es) (entries table (rows log) t scope es) room before scratch r
+
   -- the places ran out at the i-th environment
   pub kept-short :
-      i < room.count → test (environment_of es i) ≡ true → room.limit - room.used ≤ made → length scratch ≡ length before →
-      (next : ℕ) → MakesTree table log t scope next es room before scratch None
-  kept-short inside e full long next =
+      i < room.count → test (environment_of es i) ≡ true → room.limit - room.used ≤ made → length scratch ≡ length before → KeptTells None
+  kept-short inside e full long =
       let n = h.long in
       let one : length (kept test (environment_of es i)) ≡ 1 = ap (λ (b : Bool). length (cond b (environment_of es i ∷ []) [])) e in
       let short = map-short s 0 (omega arith) (omega arith) in
       let k = all-entries in
-      record { tells = omega arith; long = long; front = s.front }
+      record { told = omega arith; long = long; front = s.front }
 
   -- all were passed
-  pub kept_stood :
-      Roomy room before → room.count ≤ i → length scratch ≡ length before →
-      {to : Room} → to ≡ filled room made → {x next : ℕ} → x ≡ next →
-      MakesTree table log t scope next es room before scratch (Stands to x)
-  kept_stood roomy all long {to} e {x} {next} behind =
-      makes_same all-kept all-entries
-      (map_stood s few h roomy all long e behind)
+  pub kept_stood : room.count ≤ i → length scratch ≡ length before → {m : Made} → Filled room made m.room → KeptTells (Some m)
+  kept_stood all long {m} e = makes_same all-kept all-entries (map_stood s few h all long e)

@@ -1,14 +1,13 @@
 // Which environments a leaf of a restriction keeps.
-ghost use Rattle.std.specs.Prelude.{◌≡◌, ◌≤◌};
-ghost use Rattle.model.specs.Words.{word, predicate_limit};
+ghost use Rattle.std.specs.Prelude.{◌≡◌};
+ghost use Rattle.model.specs.Words.{word};
 ghost use Rattle.model.specs.Tag.{tag_of};
 ghost use Rattle.model.specs.Answer.{passed};
-ghost use Rattle.model.specs.Table.{predicates};
 ghost use Rattle.model.specs.Log.{row_count, ask_log};
 ghost use Rattle.chains.specs.Chain.{Chained};
 ghost use Rattle.chains.specs.Key.{row_key, atom_keys};
 ghost use Rattle.policies.specs.Node.{as_tag};
-ghost use Rattle.policies.specs.Standing.{HereAtom};
+ghost use Rattle.policies.specs.Standing.{HereTerms};
 ghost use Rattle.environments.specs.Standing.{HereRestriction};
 ghost use Rattle.listing.specs.Keeping.{TellsFalse, TellsKept};
 
@@ -28,7 +27,7 @@ fn is_false(
 ) -> bool
     requires { (ask_log table.now log.now ≡ passed tt)
         × Chained (row_key log.now) atom_keys (row_count log.now) links.now
-        × HereAtom words.now at }
+        × HereTerms words.now at }
     ensures { TellsFalse table.now words.now log.now environment at result }
 {
     lookup::value_at(table, words, log, links, environment, at) == Some(false)
@@ -44,8 +43,7 @@ pub fn keeps(
     tag: Tag,
     at: usize,
 ) -> bool
-    requires { (predicates table.now ≤ predicate_limit)
-        × (ask_log table.now log.now ≡ passed tt)
+    requires { (ask_log table.now log.now ≡ passed tt)
         × Chained (row_key log.now) atom_keys (row_count log.now) links.now
         × (as_tag tag ≡ tag_of (word words.now at))
         × HereRestriction table.now words.now at }

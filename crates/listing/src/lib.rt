@@ -3,3 +3,4 @@
 
 pub mod keeping;
 pub mod restriction;
+pub mod room;

@@ -1,7 +1,6 @@
 // The listing of a restriction: each node makes of the list handed to it a list of its own, in the places of scratch.
-ghost use Rattle.std.specs.Prelude.{◌≡◌, true, false, List, ◌+◌, ◌*◌, ◌≤◌, ◌<◌};
+ghost use Rattle.std.specs.Prelude.{◌≡◌, true, false, length, ◌+◌, ◌*◌, ◌≤◌, ◌<◌};
 ghost use Rattle.model.specs.Words as W;
-ghost use Rattle.model.specs.Listing as M;
 ghost use Rattle.model.specs.Tag as T;
 ghost use Rattle.model.specs.Level as L;
 ghost use Rattle.policies.specs.Standing.{Here, HereAll, HereAtom};
@@ -10,6 +9,7 @@ ghost use Rattle.environments.specs.Standing.{HereRestriction};
 ghost use Rattle.listing.specs.Restrictions as R;
 
 use crate::keeping;
+use crate::room::{Made, Room};
 use environments::environment::Environment;
 use environments::lists;
 use logs::accepted::AcceptedLog;
@@ -18,76 +18,6 @@ use policies::depth::Depth;
 use policies::node;
 use policies::node::Tag;
 use policies::terms::Terms;
-
-// The list handed to a node, the first place behind all lists that are still read, the places counted so far, and how many
-// there are. Document 01 counts a place for each entry of each list; a list that is read no more makes room for the next.
-#[derive(Clone, Copy)]
-pub struct Room {
-    pub from: usize,
-    pub count: usize,
-    pub base: usize,
-    pub used: usize,
-    pub limit: usize,
-}
-
-impl Room {
-    // The room after a list of so many entries was made in its first free places.
-    fn filled(self, made: usize) -> Room
-        requires { (self.base ≤ self.used) × (self.used + made ≤ self.limit) }
-        ensures { result ≡ R.filled self made }
-    {
-        Room {
-            from: self.base,
-            count: made,
-            base: self.base + made,
-            used: self.used + made,
-            ..self
-        }
-    }
-
-    // The room after a second list of the same entries was counted.
-    fn counted(self) -> Room
-        requires { self.used + self.count ≤ self.limit }
-        ensures { result ≡ R.counted self }
-    {
-        Room {
-            used: self.used + self.count,
-            ..self
-        }
-    }
-
-    // The room for the next branch, once a branch's list stands in the first free places.
-    fn next_branch(self, to: Room) -> Room
-        requires { self.base + to.count ≤ self.limit }
-        ensures { result ≡ R.next_branch self to }
-    {
-        Room {
-            base: self.base + to.count,
-            used: to.used,
-            ..self
-        }
-    }
-
-    // The room with the lists of all branches as one list.
-    fn joined(self, base: usize, made: usize) -> Room
-        requires { self.used + made ≤ self.limit }
-        ensures { result ≡ R.joined self base made }
-    {
-        Room {
-            from: base,
-            count: made,
-            used: self.used + made,
-            ..self
-        }
-    }
-}
-
-// The room with the list that a node made, and the index behind the node. Where the places ran out there is none.
-#[derive(Clone, Copy)]
-pub struct Made {
-    pub room: Room,
-    pub next: usize,
-}
 
 // An atom of tag 2 makes of each environment in turn those that the true rows of its predicate make.
 fn list_atom(
@@ -98,12 +28,9 @@ fn list_atom(
     at: usize,
 ) -> Option<Made>
     requires { HereAtom words.now at
-        × R.Roomy room scratch.old
-        × ((es : List M.Environment) × R.Holding room scratch.old es)
-        × R.TermsThere words.now at }
-    ensures { (es : List M.Environment) →
-        R.Holding room scratch.old es →
-        R.MakesAtom words.now log.now.rows.now at es room scratch.old scratch.new result }
+        × R.TermsThere words.now at
+        × (17 * room.limit ≤ length scratch.old) }
+    ensures { R.MakesAtom words.now log.now.rows.now at room scratch.old scratch.new result }
 {
     let predicate = words::value(words, at + 1);
     let n = words::value(words, at + 2);
@@ -145,11 +72,8 @@ fn list_kept(
 ) -> Option<Made>
     requires { HereRestriction log.now.table.now words.now at
         × (as_tag tag ≡ T.tag_of (W.word words.now at))
-        × R.Roomy room scratch.old
-        × ((es : List M.Environment) × R.Holding room scratch.old es) }
-    ensures { (es : List M.Environment) →
-        R.Holding room scratch.old es →
-        R.MakesKept log.now.table.now words.now log.now.rows.now at es room scratch.old scratch.new result }
+        × (17 * room.limit ≤ length scratch.old) }
+    ensures { R.MakesKept log.now.table.now words.now log.now.rows.now at room scratch.old scratch.new result }
 {
     let left = room.limit - room.used;
     let mut made = 0;
@@ -187,7 +111,7 @@ fn pass_on(every: bool, scratch: &mut [i32], handed: Room, to: Room) -> Room
 // The list of an all-of (true) or any-of, once no child is left: the last child's, counted once more, or those of all branches.
 // By an if, since a word of the policy says which: closures would be chosen by an if too.
 fn close(every: bool, room: Room, handed: Room, next: usize) -> Option<Made>
-    requires { (handed.used ≤ handed.limit) × (room.base ≤ handed.base) }
+    requires { room.base ≤ handed.base }
     ensures { R.Closes every room handed next result }
 {
     let left = handed.limit - handed.used;
@@ -225,11 +149,8 @@ fn list_join(
 ) -> Option<Made>
     requires { (1 ≤ n)
         × HereAll log.now.table.now words.now L.Role.restriction depth.level depth.scope n at
-        × R.Roomy room scratch.old
-        × ((es : List M.Environment) × R.Holding room scratch.old es) }
-    ensures { (es : List M.Environment) →
-        R.Holding room scratch.old es →
-        R.MakesJoin every log.now.table.now words.now log.now.rows.now depth.level depth.scope n at es room scratch.old scratch.new result }
+        × (17 * room.limit ≤ length scratch.old) }
+    ensures { R.MakesJoin every log.now.table.now words.now log.now.rows.now depth.level depth.scope n at room scratch.old scratch.new result }
 {
     let mut handed = room;
     let mut next = at;
@@ -254,11 +175,8 @@ fn list_some(
     requires { (depth.level < 64)
         × (depth.scope < 16)
         × Here log.now.table.now words.now L.Role.restriction (depth.level + 1) (depth.scope + 1) (at + 1)
-        × R.Roomy room scratch.old
-        × ((es : List M.Environment) × R.Holding room scratch.old es) }
-    ensures { (es : List M.Environment) →
-        R.Holding room scratch.old es →
-        R.MakesSome log.now.table.now words.now log.now.rows.now depth.level depth.scope at es room scratch.old scratch.new result }
+        × (17 * room.limit ≤ length scratch.old) }
+    ensures { R.MakesSome log.now.table.now words.now log.now.rows.now depth.level depth.scope at room scratch.old scratch.new result }
 {
     let below = Depth {
         level: depth.level + 1,
@@ -286,11 +204,8 @@ pub fn list(
     at: usize,
 ) -> Option<Made>
     requires { Here log.now.table.now words.now L.Role.restriction depth.level depth.scope at
-        × R.Roomy room scratch.old
-        × ((es : List M.Environment) × R.Holding room scratch.old es) }
-    ensures { (es : List M.Environment) →
-        R.Holding room scratch.old es →
-        R.MakesNode log.now.table.now words.now log.now.rows.now depth.level depth.scope at es room scratch.old scratch.new result }
+        × (17 * room.limit ≤ length scratch.old) }
+    ensures { R.MakesNode log.now.table.now words.now log.now.rows.now depth.level depth.scope at room scratch.old scratch.new result }
 {
     let tag = node::tag_at(words, at);
     match tag {

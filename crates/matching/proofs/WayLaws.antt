@@ -28,7 +28,7 @@ use Rattle.chains.proofs.Keys.{true-key, spread-small}
 use Rattle.chains.proofs.Rows.{row_first}
 use Rattle.environments.specs.declared.environment.Environment.{Environment as Held}
 use Rattle.environments.specs.Environment.{Holds}
-use Rattle.environments.proofs.Places.{numbers-length, held_number, held-mark}
+use Rattle.environments.proofs.Places.{held_number, held-mark}
 use Rattle.matching.specs.Ways.{found, Leads}
 use Rattle.matching.proofs.FitLaws.{fit-other, marked, argument_next}
 
@@ -213,10 +213,6 @@ small-first words first n some scoped q =
     variable-small words first 16
     (subst (λ (i : ℕ). in_scope words 16 i ≡ true) (add-zero first) (place-holds (in_scope words 16) first n 0 scoped (omega arith)))
     q
-
--- the code's environment has sixteen numbers
-pub sixteen : {held : Held} {e : Environment} → Holds held e → length held.numbers ≡ 16
-sixteen {e = e} h = ap length h.numbers ∙ numbers-length e
 
 -- the links lent from an index on are those behind it
 pub leads_lent :

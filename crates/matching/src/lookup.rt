@@ -4,7 +4,7 @@ ghost use Rattle.model.specs.Answer.{passed};
 ghost use Rattle.model.specs.Log.{row_count, ask_log};
 ghost use Rattle.chains.specs.Chain.{Chained};
 ghost use Rattle.chains.specs.Key.{row_key, atom_keys};
-ghost use Rattle.policies.specs.Standing.{HereAtom};
+ghost use Rattle.policies.specs.Standing.{HereTerms};
 ghost use Rattle.matching.specs.Lookup.{Values};
 
 use environments::environment::Environment;
@@ -23,7 +23,7 @@ pub fn value_at(
 ) -> Option<bool>
     requires { (ask_log table.now log.now ≡ passed tt)
         × Chained (row_key log.now) atom_keys (row_count log.now) atoms.now
-        × HereAtom words.now at }
+        × HereTerms words.now at }
     ensures { Values table.now words.now log.now environment at result }
 {
     let predicate = words::value(words, at + 1);

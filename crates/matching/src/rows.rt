@@ -1,9 +1,7 @@
 // The true rows of a predicate, found by a chain and matched one after another against an environment.
-ghost use Rattle.std.specs.Prelude.{◌≡◌, true, List, ℕ, ◌+◌, ◌*◌, ◌^◌, ◌≤◌, ◌<◌, length};
+ghost use Rattle.std.specs.Prelude.{◌≡◌, List, ℕ, IfSome, ◌+◌, ◌*◌, ◌≤◌, ◌<◌, length};
 ghost use Rattle.model.specs.Words as W;
-ghost use Rattle.model.specs.Lists.{all};
 ghost use Rattle.model.specs.Log.{rows};
-ghost use Rattle.model.specs.Reading.{places, in_scope};
 ghost use Rattle.model.specs.Listing as M;
 ghost use Rattle.logs.specs.Links.{Linked, behind};
 ghost use Rattle.policies.specs.Standing.{terms_at};
@@ -59,23 +57,23 @@ fn lead(environment: Environment, terms: Terms<'_>, predicate: usize) -> Way
     }
 }
 
-// The environments that the rows of a chain make of one environment, in row order, from a place on: at most so many. The rows
-// of other predicates are passed over. Tells how many there are, or None if the places ran out.
+// The environments that the rows of a chain make of one environment, in row order, from a place on: at most so many. The links are
+// lent from where the chain's begin; the rows of other predicates are passed over. Tells how many there are, or None if the places ran out.
 fn walk_rows(
     environment: Environment,
     terms: Terms<'_>,
     log: &[i32],
     links: &[u16],
-    keys: usize,
-    key: usize,
+    way: Way,
     predicate: usize,
     scratch: &mut [i32],
     base: usize,
     left: usize,
 ) -> Option<usize>
-    requires { Leads terms.words.now log.now links.now keys key predicate terms.first terms.n environment
+    requires { Leads terms.words.now log.now links.now way.keys way.key predicate terms.first terms.n environment
         × (17 * (base + left) ≤ length scratch.old) }
-    ensures { (e : M.Environment) →
+    ensures few { IfSome result (λ n. n ≤ left) }
+    ensures adds { (e : M.Environment) →
         Holds environment e →
         Adds
         (M.matches (rows log.now) predicate (terms_at terms.entry.words.now terms.entry.first terms.entry.n) e)
@@ -87,11 +85,11 @@ fn walk_rows(
 {
     let rows = log.len() / ROW_WORDS;
     let mut made = 0;
-    let mut link = links[key] as usize;
+    let mut link = links[way.key] as usize;
     // By hand: each turn goes to where the link of its row leads.
     while link != 0 {
         let row = rows - link;
-        link = links[keys + row] as usize;
+        link = links[way.keys + row] as usize;
         if !words::is(log, ROW_WORDS * row, predicate) {
             continue;
         }
@@ -124,7 +122,8 @@ pub fn match_rows(
         × (17 * (base + left) ≤ length scratch.old)
         × (1 ≤ terms.n)
         × (terms.first + 2 * terms.n ≤ length terms.words.now) }
-    ensures { (e : M.Environment) →
+    ensures few { IfSome result (λ n. n ≤ left) }
+    ensures adds { (e : M.Environment) →
         Holds environment e →
         Adds
         (M.matches (rows log.now) predicate (terms_at terms.entry.words.now terms.entry.first terms.entry.n) e)
@@ -141,8 +140,7 @@ pub fn match_rows(
         terms,
         log,
         &links[from..],
-        way.keys,
-        way.key,
+        way,
         predicate,
         scratch,
         base,

@@ -13,9 +13,8 @@ use mathlib.Core.List.{List, [], ◌∷◌, ◌++◌, map, append_assoc, append-
 use lib.ListN.{set, replicate, length-replicate, get_or-replicate, length, get_or, take, drop, length-append, length-drop, get_or-append, get_or-eq_default}
 use lib.Seq.{paste, paste-zero, paste-suc, ext_get_or, get_or-take, get_or-drop, get_or_at, take-suc, take_at, length-take-le}
 use lib.IntN.{ℤ, pos, nat_abs}
-use Rattle.model.specs.Words.{Words, word, value, same, predicate_limit}
+use Rattle.model.specs.Words.{Words, word, value, same}
 use Rattle.model.specs.Lists.{all}
-use Rattle.model.specs.Table.{predicates}
 use Rattle.model.specs.Log.{Value, rows, value_in}
 use Rattle.model.specs.Tree.{Term, constant, variable, Tree, plain, atom, compare, encode}
 use Rattle.model.specs.Level.{Role, restriction, greatest}
@@ -35,8 +34,8 @@ use Rattle.laws.specs.Reading.Parts.{root, root_tag, compare-parts}
 use Rattle.laws.specs.Words.Standing.{stands_taken, three_stand}
 use Rattle.std.specs.Prelude.{Option, Some, None}
 use Rattle.logs.specs.Value.{as_value}
-use Rattle.policies.specs.Standing.{HereAtom}
-use Rattle.policies.proofs.Standing.{here-atom, here-compare}
+use Rattle.policies.specs.Standing.{HereTerms}
+use Rattle.policies.proofs.Standing.{here-terms, here-compare}
 use Rattle.trees.specs.Grown.{Grown, Room-at}
 use Rattle.words.specs.Laying.{laid}
 use Rattle.environments.proofs.Places.{held-bind}
@@ -212,15 +211,14 @@ compare-restricts table words role above scope at b d x y next node =
 -- what the code asks of its words
 pub atom_asks :
     (table words : Words) (scope : ℕ) (b : Bool) (at : ℕ) →
-    predicates table ≤ predicate_limit →
     scope ≤ 16 →
     length words < 2 ^ 64 →
     HereLiteral table words scope b at →
-    HereAtom words at
+    HereTerms words at
 unfolding root
-atom_asks table words scope b at few small long (role, above, p, ts, next, node) =
+atom_asks table words scope b at small long (role, above, p, ts, next, node) =
     let node' = atom-restricts table words role above scope at b p ts next node in
-    here-atom table words above scope at few small b
+    here-terms table words above scope at small b
     (sym (root_tag table words restriction above scope at next (atom b p ts) node'))
     (atom b p ts, next, node') long
 

@@ -5,6 +5,7 @@ ghost use Rattle.model.specs.Tree.{Tree};
 ghost use Rattle.model.specs.Level as L;
 ghost use Rattle.laws.specs.Reading.Nodes.{Node};
 ghost use Rattle.policies.specs.Standing.{Here};
+ghost use Rattle.listing.specs.Restrictions.{Numbers};
 ghost use Rattle.nodes.specs.Ground as G;
 ghost use Rattle.nodes.specs.Prepare as P;
 
@@ -13,7 +14,7 @@ use environments::environment::Environment;
 use instances::choosing;
 use instances::excluded::Excluded;
 use listing::restriction;
-use listing::restriction::{Made, Room};
+use listing::room::{Made, Room};
 use logs::accepted::AcceptedLog;
 use policies::depth::Depth;
 
@@ -29,7 +30,8 @@ pub struct Placed {
 
 // The room with the outer environment alone in it.
 fn room(places: usize) -> Room
-    ensures { result ≡ record { from = 0; count = 1; base = 1; used = 1; limit = places } }
+    requires { 1 ≤ places }
+    ensures { Numbers result 0 1 1 1 places }
 {
     Room {
         from: 0,

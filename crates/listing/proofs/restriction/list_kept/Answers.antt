@@ -9,6 +9,7 @@ use Rattle.trees.proofs.Forming.{node_grown}
 use Rattle.listing.specs.Keeping.{keeps_of}
 use Rattle.listing.proofs.MapLaws.{map-start, map_read}
 use Rattle.listing.proofs.LeafLaws.{kept, tree-there, leaf-behind}
+use Rattle.listing.proofs.MapRoom.{map_placed}
 use Rattle.listing.proofs.KeptRoom.{kept-none, kept-one, kept-short, kept_stood}
 use Rattle.listing.proofs.restriction.list_kept.Goals as goal
 
@@ -23,8 +24,7 @@ pub loop-i-preserved-then-not-keeps : goal.loop-i-preserved-then-not-keeps
 loop-i-preserved-then-not-keeps c =
     let a = c.args in
     let (made, far) = c.loop-i.invariant in
-    let roomy = c.requires.2 in
-    let before = roomy.before in (
+    let before = a.room.before in (
       made,
       λ es h above scope t next node.
           let n = h.long in
@@ -34,23 +34,24 @@ loop-i-preserved-then-not-keeps c =
     )
 
 pub returns-then-left-made : goal.returns-then-left-made
-returns-then-left-made c = λ es h above scope t next node leaf.
-    let a = c.args in
-    let (made, far) = c.loop-i.invariant in
-    let roomy = c.requires.2 in
-    let before = roomy.before in
-    let n = h.long in
-    let s = far es h above scope t next node in
-    let held = c.read-environment.ensures _ (map_read s a.room.from (omega arith) h.listed (omega arith)) in
-    kept-short a.log.now.table.now a.log.now.rows.now scope t leaf s made h (omega arith)
-    (sym (c.keeps.ensures _ above scope t next held node) ∙ c.if-not-keeps.false) c.if-left-made.true c.loop-i.auto.scratch next
+returns-then-left-made c = λ above scope t next node leaf. (
+  tt,
+  λ es h.
+      let a = c.args in
+      let (made, far) = c.loop-i.invariant in
+      let before = a.room.before in
+      let n = h.long in
+      let s = far es h above scope t next node in
+      let held = c.read-environment.ensures _ (map_read s a.room.from (omega arith) h.listed (omega arith)) in
+      kept-short a.log.now.table.now a.log.now.rows.now scope t leaf s made h (omega arith)
+      (sym (c.keeps.ensures _ above scope t next held node) ∙ c.if-not-keeps.false) c.if-left-made.true c.loop-i.auto.scratch,
+)
 
 pub loop-i-preserved : goal.loop-i-preserved
 loop-i-preserved c =
     let a = c.args in
     let (made, far) = c.loop-i.invariant in
-    let roomy = c.requires.2 in
-    let before = roomy.before in
+    let before = a.room.before in
     let long = c.loop-i.auto.scratch in (
       omega arith,
       λ es h above scope t next node.
@@ -83,10 +84,12 @@ overflow_add-result c =
     omega arith
 
 pub returns : goal.returns
-returns c = λ es h above scope t next node leaf.
+returns c = λ above scope t next node leaf.
     let a = c.args in
-    let (made, far) = c.loop-i.invariant in
-    kept_stood a.log.now.table.now a.log.now.rows.now scope t leaf (far es h above scope t next node) made h c.requires.2 (omega arith) c.loop-i.auto.scratch c.filled.ensures
-    (leaf-behind a.words.now a.at next t
-    (node_grown a.log.now.table.now a.words.now restriction above scope a.at t next node) (as_tag a.tag)
-    c.requires.1 leaf _ c.size.ensures)
+    let (made, far) = c.loop-i.invariant in (
+      map_placed c.filled.ensures
+          (leaf-behind a.words.now a.at next t
+          (node_grown a.log.now.table.now a.words.now restriction above scope a.at t next node) (as_tag a.tag)
+          c.requires.1 leaf _ c.size.ensures),
+      λ es h. kept_stood a.log.now.table.now a.log.now.rows.now scope t leaf (far es h above scope t next node) made h (omega arith) c.loop-i.auto.scratch c.filled.ensures,
+    )

@@ -11,18 +11,18 @@ pub loop-link-init : goal.loop-link-init
 loop-link-init c =
     let a = c.args in
     let lead = c.requires.0 in (
-      record { key = lead.key; chained = lead.chained; from = 0; linked = lead.chained.heads a.key lead.inside },
+      record { key = lead.key; chained = lead.chained; from = 0; linked = lead.chained.heads a.way.key lead.inside },
       omega arith,
-      λ e h. far_start a.log.now a.predicate (terms_at a.terms.words.now a.terms.first a.terms.n) e lead.key a.key (lead.whole e h) a.base a.scratch.now,
+      λ e h. far_start a.log.now a.predicate (terms_at a.terms.words.now a.terms.first a.terms.n) e lead.key a.way.key (lead.whole e h) a.base a.scratch.now,
     )
 
 pub overflow_sub-row : goal.overflow_sub-row
 unfolding row_count
 overflow_sub-row c = (first-row c.loop-link.invariant.0 c.loop-link-test.true).1
 
-pub bounds-links-keys : goal.bounds-links-keys
+pub bounds-links-way-in-loop-link : goal.bounds-links-way-in-loop-link
 unfolding row_count
-bounds-links-keys c =
+bounds-links-way-in-loop-link c =
     let w = c.loop-link.invariant.0 in
     omega (arith, w.chained.within, (first-row w c.loop-link-test.true).0.inside)
 
@@ -62,9 +62,9 @@ loop-link-preserved-in_default c =
           (found_here a.log.now a.predicate (terms_at a.terms.words.now a.terms.first a.terms.n) e _ (sym c.is.ensures ∙ c.if-not-is.false) ∙ c.in_default.ensures e h),
     )
 
-pub returns-then-left-made : goal.returns-then-left-made
+pub returns-then-left-made-clause-adds : goal.returns-then-left-made-clause-adds
 unfolding row_count
-returns-then-left-made c = λ e h.
+returns-then-left-made-clause-adds c = λ e h.
     let a = c.args in
     let (w, few, far) = c.loop-link.invariant in
     let (g, one, holds) = c.in-Some.ensures e h in record {
@@ -92,9 +92,9 @@ loop-link-preserved c =
           (c.store.ensures g holds),
     )
 
-pub returns : goal.returns
+pub returns-clause-adds : goal.returns-clause-adds
 unfolding row_count
-returns c = λ e h.
+returns-clause-adds c = λ e h.
     let (w, few, far) = c.loop-link.invariant in record {
       came = far_end w (far e h) c.loop-link-test.false few;
       long = c.loop-link.auto.scratch;

@@ -9,11 +9,11 @@ use Rattle.matching.proofs.rows.walk_rows.Given as goal
 
 abbrev pub invariant-loop-link : goal.invariant-loop-link
 invariant-loop-link l =
-    (w : Walk l.log l.links l.keys l.key l.link)
+    (w : Walk l.log l.links l.way.keys l.way.key l.link)
     × (l.made ≤ l.left)
     × ((e : Environment) →
     Holds l.environment e →
-    SoFar l.log l.predicate (terms_at l.terms.words.now l.terms.first l.terms.n) e w.key l.key w.from l.base l.made l.initial.scratch l.scratch)
+    SoFar l.log l.predicate (terms_at l.terms.words.now l.terms.first l.terms.n) e w.key l.way.key w.from l.base l.made l.initial.scratch l.scratch)
 
 abbrev pub decreases-loop-link : goal.decreases-loop-link
 decreases-loop-link l = l.link

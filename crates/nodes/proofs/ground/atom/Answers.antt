@@ -8,7 +8,7 @@ value_at-found-requires c =
     let a = c.args in (
       c.args.log.now.accepted,
       c.args.log.now.linked.by_atom,
-      atom_asks a.log.now.table.now a.words.now a.scope a.holds a.at c.args.log.now.few c.requires.0
+      atom_asks a.log.now.table.now a.words.now a.scope a.holds a.at c.requires.0
           (omega arith) c.requires.1,
     )
 

@@ -1,14 +1,12 @@
 -- `nodes::prepare::prepare` meets its contract, from what the listing and the choice of instances ensure.
-use Prim.Native.Nat.{ℕ, ◌+◌, ◌*◌, ◌/◌, ◌≤◌}
+use Prim.Native.Nat.{ℕ, ◌+◌, ◌*◌, ◌/◌}
 use native.Mathlib.Omega.{arith}
 use mathlib.Core.Path.{sym, subst}
-use mathlib.Core.List.{[], ◌∷◌}
 use lib.ListN.{length}
 use Rattle.model.specs.Level.{restriction}
-use Rattle.model.specs.Listing.{outer}
 use Rattle.policies.specs.Standing.{Here}
 use Rattle.policies.proofs.Standing.{low}
-use Rattle.nodes.proofs.Preparing.{room-asked, room-holds, prepare_short, prepare_inside, prepare_stood}
+use Rattle.nodes.proofs.Preparing.{prepare_short, prepare_inside, prepare_stood}
 use Rattle.nodes.proofs.prepare.prepare.Goals as goal
 
 pub invariant_of-depth-clause-levels : goal.invariant_of-depth-clause-levels
@@ -23,14 +21,7 @@ list-requires c =
     subst
     (λ (m : ℕ). Here a.log.now.table.now a.words.now restriction a.level (a.outer.now.scope + a.v) (a.at + 3 + a.v * m))
     (sym c.value-m.ensures) c.requires.2 in
-    let places = length a.scratch.now / 17 in (
-      here,
-      room-asked a.outer.now.environment a.outer.now.scope places a.scratch.now _ _ c.if-places-lt1.false (omega arith) c.room.ensures c.store.ensures (_, a.outer.now.bound),
-      (
-        outer _ ∷ [],
-        room-holds a.outer.now.environment a.outer.now.scope places a.scratch.now _ _ c.if-places-lt1.false (omega arith) c.room.ensures c.store.ensures _ a.outer.now.bound,
-      ),
-    )
+    (here, omega (arith, c.room.ensures.is-limit, c.store.auto.scratch))
 
 pub returns-in_err-to : goal.returns-in_err-to
 returns-in_err-to c =
@@ -47,10 +38,11 @@ instances-count-requires c =
     let places = length a.scratch.now / 17 in
     let within =
     prepare_inside a.outer.now.environment a.outer.now.scope places a.scratch.now _ _ c.if-places-lt1.false (omega arith) c.room.ensures c.store.ensures
-    a.log.now.table.now a.words.now a.log.now.rows.now a.level a.v a.at _ c.value-m.ensures _ _ c.list.ensures _ c.in_ok-to.was (_, a.outer.now.bound) c.requires.2 in
+    a.log.now.table.now a.words.now a.log.now.rows.now a.level a.v a.at _ c.value-m.ensures _ _ c.list.ensures _ c.in_ok-to.was c.requires.2 in
+    let made = c.in_ok-to.to in
     let long = c.list.auto.scratch in
     let longer = c.store.auto.scratch in
-    (c.requires.0, omega arith)
+    (c.requires.0, omega (arith, within, made.before, made.counted))
 
 pub returns : goal.returns
 returns c =
