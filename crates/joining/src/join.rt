@@ -72,7 +72,7 @@ impl Join {
 
     // A child that stands behind the words so far is kept: whole, or if it is a join of the same kind, its parts.
     fn keep(mut self, out: &mut [i32], k: usize) -> Join
-        requires { (length out.old ≤ 1048576) × Adding out.old self (R.Part k) }
+        requires { Adding out.old self (R.Part k) }
         ensures { (a : Adding out.old self (R.Part k)) → added a out.new result }
     {
         if self.state != State::Open {
@@ -92,7 +92,7 @@ impl Join {
 
     // The answer of the next child, which was lent the words behind those so far.
     pub fn add(mut self, out: &mut [i32], answer: Reduced) -> Join
-        requires { (length out.old ≤ 1048576) × Adding out.old self answer }
+        requires { Adding out.old self answer }
         ensures { (a : Adding out.old self answer) → added a out.new result }
     {
         match answer {

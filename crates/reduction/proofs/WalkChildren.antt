@@ -27,7 +27,7 @@ use Rattle.nodes.specs.Ground.{Outer}
 use Rattle.reduction.specs.Walk.{ReducesNode, ReducesJoin}
 use Rattle.joining.proofs.Parts.{append-none}
 use Rattle.joining.proofs.Telling.{told-short, tell_short}
-use Rattle.joining.proofs.Lending.{rest, lent, lent_long, adding, answers-from}
+use Rattle.joining.proofs.Lending.{rest, lent, adding, answers-from}
 use Rattle.reduction.proofs.Children.{reduce-wide, reduce_all-more, need_all-more}
 
 -- one tree of those left joins those passed
@@ -74,12 +74,6 @@ module _ (log : Words) {table words : Words} {b : Bool} {above scope : ℕ} {hel
     -- the words so far are within the buffer
     pub children-within : HereAll table words (operand b) above scope n at → (ρ : List ℤ) × Outer held scope ρ → j.words ≤ length out
     children-within (ts, end, e, s) (ρ, o) = (inv ρ o ts end s e).5.within
-
-    -- and a child that was lent the rest leaves its length
-    pub children-lent :
-        HereAll table words (operand b) above scope n at → (ρ : List ℤ) × Outer held scope ρ →
-        (part : Words) → length part ≡ length (rest out j.words) → length (lent out j.words part) ≡ length out
-    children-lent here o part l = lent_long out j.words part (children-within here o) l
 
     module _ (h : i < n) where
       -- the next child

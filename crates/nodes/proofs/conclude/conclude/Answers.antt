@@ -21,9 +21,7 @@ returns-then-closed c = λ a.
     concluded-closed a (sym closed ∙ c.if-closed.true) c.finish.ensures
 
 pub add-whole-requires : goal.add-whole-requires
-add-whole-requires c =
-    let long = concluding_long c.requires.2 c.last-answer.ensures in
-    (omega arith, concluding_adding c.requires.2 c.last-answer.ensures)
+add-whole-requires c = concluding_adding c.requires.2 c.last-answer.ensures
 
 pub finish-requires-2 : goal.finish-requires-2
 finish-requires-2 c =

@@ -16,15 +16,15 @@ use Rattle.model.specs.Tag as T
 use mathlib.Core.Logic.{◌⊎◌, inl, inr, ⊎_elim}
 use Rattle.policies.specs.Standing.{Here}
 use Rattle.policies.proofs.Standing.{low}
-use Rattle.policies.proofs.Stood.{formula-kind, level-fits, own-fits, next_in, level_in, level_down}
+use Rattle.policies.proofs.Stood.{stood, formula-kind, level-fits, own-fits, next_in, level_in, level_down}
 use Rattle.reduction.specs.Walk.{ReducesNode}
 use Rattle.joining.proofs.Lending.{rest, rest-long, lent_long}
-use Rattle.reduction.proofs.WalkChildren.{children-start, children-lent, children-here, children-short}
+use Rattle.reduction.proofs.WalkChildren.{children-start, children-within, children-here, children-short}
 use Rattle.reduction.proofs.WalkChildren.{children_adding, children-next, children_end}
 use denote.Enum.Bare.{same_true, same_false}
 use borrow.Author.Rules.{rules}
 use Rattle.joining.specs.contracts.join.State.{the_type}
-use Rattle.reduction.proofs.WalkNodes.{stood, node-plain, atom-here, node-atom, compare-here, node-compare, join-here, node-join}
+use Rattle.reduction.proofs.WalkNodes.{node-plain, atom-here, node-atom, compare-here, node-compare, join-here, node-join}
 use Rattle.reduction.proofs.WalkNodes.{quantifier-here, node-quantifier, node-some, node-unused}
 use Rattle.reduction.proofs.WalkInstances.{instances-start, lent_places}
 use Rattle.reduction.proofs.WalkInstances.{kept_lent, instances_adding, instances-next}
@@ -32,7 +32,7 @@ use Rattle.reduction.proofs.WalkInstances.{instances-short, instances-within, in
 use Rattle.reduction.proofs.WalkQuantifier.{quantifier-short, quantifier-whole, concluding, body-here, restriction-here}
 use Rattle.reduction.proofs.WalkQuantifier.{variables-few, first-within}
 use Rattle.laws.specs.Reading.Nodes.{Node}
-use Rattle.reduction.proofs.WalkQuantifier.{found, prepared_short, prepared_stood, worked_out}
+use Rattle.reduction.proofs.WalkQuantifier.{prepared_short, prepared_stood, worked_out}
 use Rattle.reduction.proofs.walk.+children_formula_instances_quantifier.Goals as goal
 
 -- an operand is a formula
@@ -65,18 +65,15 @@ children-formula-child-requires t c =
 pub children-returns-in-Short : goal.children-returns-in-Short
 children-returns-in-Short t c =
     let a = c.args in
-    let long = children-lent a.log.now.rows.now _ c.loop.invariant c.requires.1 (_, a.outer.now.bound) _ c.formula-child.auto.out in
+    let within = children-within a.log.now.rows.now _ c.loop.invariant c.requires.1 (_, a.outer.now.bound) in
     children-short a.log.now.rows.now _ c.loop.invariant c.loop-test.true
-    (ap (λ (n : ℕ). n / 17) c.loop.auto.scratch) c.formula-child.ensures c.in-Short.is (long ∙ c.loop.auto.out) c.in-Short.is
+    (ap (λ (n : ℕ). n / 17) c.loop.auto.scratch) c.formula-child.ensures c.in-Short.is
+    (lent_long _ _ _ within c.formula-child.auto.out ∙ c.loop.auto.out) c.in-Short.is
 
 pub children-add-join-requires : goal.children-add-join-requires
 children-add-join-requires t c =
-    let a = c.args in
-    let long = children-lent a.log.now.rows.now _ c.loop.invariant c.requires.1 (_, a.outer.now.bound) _ c.formula-child.auto.out in (
-      omega (arith, long, c.loop.auto.out, c.requires.0),
-      children_adding a.log.now.rows.now _ c.loop.invariant c.loop-test.true
-          (ap (λ (n : ℕ). n / 17) c.loop.auto.scratch) c.formula-child.ensures c.requires.1 (_, a.outer.now.bound),
-    )
+    children_adding c.args.log.now.rows.now _ c.loop.invariant c.loop-test.true
+    (ap (λ (n : ℕ). n / 17) c.loop.auto.scratch) c.formula-child.ensures c.requires.1 (_, c.args.outer.now.bound)
 
 pub children-loop-preserved : goal.children-loop-preserved
 children-loop-preserved t c =
@@ -124,13 +121,9 @@ instances-formula-child-requires t c =
 
 pub instances-add-join-requires : goal.instances-add-join-requires
 instances-add-join-requires t c =
-    let a = c.args in
-    let within = instances-within a.log.now.rows.now _ c.loop-i.invariant.1 c.requires.2 (_, a.outer.now.bound) c.requires.5 in (
-      omega (arith, lent_long _ _ _ within c.formula-child.auto.out, c.loop-i.auto.out, c.requires.1),
-      instances_adding a.log.now.rows.now _ c.loop-i.invariant.1 c.loop-i-test.true c.loop-i.invariant.0 c.requires.3 c.requires.0
-          c.instance-bound.ensures.numbers (lent_places c.loop-i.invariant.0 c.requires.4) c.instance-bound.ensures.scope
-          c.formula-child.ensures c.requires.2 (_, a.outer.now.bound) c.requires.5,
-    )
+    instances_adding c.args.log.now.rows.now _ c.loop-i.invariant.1 c.loop-i-test.true c.loop-i.invariant.0 c.requires.3 c.requires.0
+    c.instance-bound.ensures.numbers (lent_places c.loop-i.invariant.0 c.requires.4) c.instance-bound.ensures.scope
+    c.formula-child.ensures c.requires.2 (_, c.args.outer.now.bound) c.requires.5
 
 pub instances-loop-i-preserved : goal.instances-loop-i-preserved
 instances-loop-i-preserved t c = (
@@ -165,243 +158,136 @@ instances-returns t c = record {
 
 pub quantifier-prepare-prepared-requires : goal.quantifier-prepare-prepared-requires
 quantifier-prepare-prepared-requires t c =
-    let a = c.args in (
-      variables-few a.log.now.table.now a.words.now a.log.now.rows.now a.kind
-          a.level a.outer.now.scope a.at c.value-v.result c.value-v.ensures c.requires.1.0 c.requires.1.1
-          c.requires.1.2 c.requires.1.3 c.requires.1.4 c.requires.1.5,
-      first-within
-          a.log.now.table.now a.words.now a.log.now.rows.now a.kind a.level a.outer.now.scope a.at c.value-v.result
-          c.value-v.ensures c.requires.1.0 c.requires.1.1 c.requires.1.2 c.requires.1.3
-          c.requires.1.4 c.requires.1.5,
-      (
-        c.requires.1.2,
-        _,
-        restriction-here a.log.now.table.now a.words.now a.log.now.rows.now a.kind a.level
-            a.outer.now.scope a.at c.value-v.result c.value-v.ensures c.requires.1.0 c.requires.1.1
-            c.requires.1.2 c.requires.1.3 c.requires.1.4 c.requires.1.5,
-      ),
-    )
+    let q = c.requires.1.5 in
+    let u = c.value-v.ensures in (variables-few u q, first-within u q, (_, _, restriction-here u q))
 
 pub quantifier-returns-in_default : goal.quantifier-returns-in_default
 quantifier-returns-in_default t c =
-    let a = c.args in
-    λ ρ v excluded d f next o q. quantifier-short a.log.now.table.now a.words.now a.log.now.rows.now a.kind a.level
-    a.outer.now.scope a.at c.value-v.result c.value-v.ensures v excluded d f next q a.outer.now.environment ρ o
-    (length a.scratch.now / 17) _
-    (prepared_short a.log.now.table.now a.words.now a.log.now.rows.now a.kind a.level a.outer.now.scope a.at
-    c.value-v.result c.value-v.ensures v excluded d f next q a.outer.now.environment ρ o (length a.scratch.now / 17)
-    c.prepare-prepared.new.scratch c.prepare-prepared.result c.in_default.is
-    c.prepare-prepared.ensures) refl refl
+    let log = c.args.log.now.rows.now in
+    let u = c.value-v.ensures in
+    λ ρ v excluded d f next o q. quantifier-short u q log ρ o _ _ (prepared_short u q log ρ o _ _ _ c.in_default.is c.prepare-prepared.ensures) refl refl
 
 pub quantifier-instances-worked-requires : goal.quantifier-instances-worked-requires
 quantifier-instances-worked-requires t c =
     let a = c.args in
-    let s =
-    prepared_stood _ _ a.log.now.rows.now _ _ _ _ _ c.value-v.ensures _ _ _ _ _ c.requires.1.5 _ _ a.outer.now.bound _ _ _ _ c.in-Some.is c.prepare-prepared.ensures in
-    let body : Here a.log.now.table.now a.words.now L.Role.formula a.level (a.outer.now.scope + c.value-v.result) c.in-Some.placed.body =
-    (
-      c.requires.1.3,
-      c.requires.1.4,
-      subst
-          (λ (n : ℕ). Node a.log.now.table.now a.words.now L.Role.formula a.level (a.outer.now.scope + c.value-v.result) n
-          c.requires.1.3 c.requires.1.4) (sym s.behind)
-          (body-here a.log.now.table.now a.words.now a.log.now.rows.now a.kind a.level a.outer.now.scope a.at c.value-v.result
-          c.value-v.ensures c.requires.1.0 c.requires.1.1 c.requires.1.2 c.requires.1.3
-          c.requires.1.4 c.requires.1.5),
-    ) in (
-      omega (arith, c.decreases, low a.log.now.table.now a.words.now L.Role.formula a.level (a.outer.now.scope + c.value-v.result) _ body),
+    let q = c.requires.1.5 in
+    let u = c.value-v.ensures in
+    let s = prepared_stood u q a.log.now.rows.now _ a.outer.now.bound _ _ _ _ c.in-Some.is c.prepare-prepared.ensures in
+    let body : Here a.log.now.table.now a.words.now L.Role.formula a.level (a.outer.now.scope + c.value-v.result) c.in-Some.placed.body
+    = subst (λ (n : ℕ). Here a.log.now.table.now a.words.now L.Role.formula a.level (a.outer.now.scope + c.value-v.result) n) (sym s.behind)
+    (_, _, body-here u q) in (
+      omega (arith, c.decreases, low _ _ _ _ _ _ body),
       (
-        variables-few a.log.now.table.now a.words.now a.log.now.rows.now a.kind
-            a.level a.outer.now.scope a.at c.value-v.result c.value-v.ensures c.requires.1.0 c.requires.1.1
-            c.requires.1.2 c.requires.1.3 c.requires.1.4 c.requires.1.5,
+        variables-few u q,
         c.requires.0,
         body,
         s.below,
-        omega
-            (arith, s.fits, c.prepare-prepared.auto.scratch),
-        (
-          found a.log.now.table.now a.words.now a.log.now.rows.now a.kind a.level a.outer.now.scope a.at c.value-v.result
-              c.value-v.ensures c.requires.1.0 c.requires.1.1 c.requires.1.2 c.requires.1.3
-              c.requires.1.4 c.requires.1.5 a.outer.now.environment _ a.outer.now.bound,
-          s.found,
-        ),
+        omega (arith, s.fits, c.prepare-prepared.auto.scratch),
+        (_, s.found),
       ),
     )
 
 pub quantifier-returns-then-eq : goal.quantifier-returns-then-eq
 quantifier-returns-then-eq t c =
-    let a = c.args in
-    λ ρ v excluded d f next o q. let s = prepared_stood _ _ a.log.now.rows.now _ _ _ _ _ c.value-v.ensures _ _ _ _ _ q _ ρ o _ _ _ _ c.in-Some.is c.prepare-prepared.ensures in quantifier-short a.log.now.table.now
-    a.words.now a.log.now.rows.now a.kind a.level a.outer.now.scope a.at c.value-v.result c.value-v.ensures v excluded
-    d f next q a.outer.now.environment ρ o (length a.scratch.now / 17) _
-    (omega (
-      arith,
-      (worked_out _ _ a.log.now.rows.now _ _ _ _ _ c.value-v.ensures _ _ _ _ _ q _ ρ o _ _ _ _ _ _
-          s c.instances-worked.ensures.works).short (same_true the_type (search rules) _ _ (sym c.eq.ensures ∙ c.if-eq.true)),
-      s.counted,
-      s.fits,
-      c.prepare-prepared.auto.scratch,
-    )) c.instances-worked.auto.out refl
+    let log = c.args.log.now.rows.now in
+    let u = c.value-v.ensures in
+    let is = same_true the_type (search rules) _ _ (sym c.eq.ensures ∙ c.if-eq.true) in
+    λ ρ v excluded d f next o q.
+    let s = prepared_stood u q log ρ o _ _ _ _ c.in-Some.is c.prepare-prepared.ensures in
+    let few = (worked_out u q log ρ o _ _ _ _ _ _ s c.instances-worked.ensures.works).short is in
+    quantifier-short u q log ρ o _ _ (omega (arith, few, s.counted, s.fits, c.prepare-prepared.auto.scratch)) c.instances-worked.auto.out refl
 
 pub quantifier-conclude-answer-requires : goal.quantifier-conclude-answer-requires
 quantifier-conclude-answer-requires t c =
     let a = c.args in
-    let s =
-    prepared_stood _ _ a.log.now.rows.now _ _ _ _ _ c.value-v.ensures _ _ _ _ _ c.requires.1.5 _ _ a.outer.now.bound _ _ _ _ c.in-Some.is c.prepare-prepared.ensures in (
+    let q = c.requires.1.5 in
+    let u = c.value-v.ensures in
+    let log = a.log.now.rows.now in
+    let s = prepared_stood u q log _ a.outer.now.bound _ _ _ _ c.in-Some.is c.prepare-prepared.ensures in
+    let w = worked_out u q log _ a.outer.now.bound _ _ _ _ _ _ s c.instances-worked.ensures.works in
+    let more = same_false the_type _ _ (sym c.eq.ensures ∙ c.if-eq.false) in (
       omega (arith, c.instances-worked.auto.out, c.requires.0),
-      omega
-          (arith, s.below, s.fits, c.prepare-prepared.auto.scratch, c.instances-worked.auto.scratch),
-      (concluding a.log.now.table.now a.words.now a.log.now.rows.now a.kind a.level a.outer.now.scope a.at c.value-v.result
-          c.value-v.ensures c.requires.1.0 c.requires.1.1 c.requires.1.2 c.requires.1.3
-          c.requires.1.4 c.requires.1.5 a.outer.now.environment _ a.outer.now.bound
-          c.prepare-prepared.new.scratch c.instances-worked.new.scratch c.instances-worked.new.out
-          c.in-Some.placed.from c.in-Some.placed.count c.in-Some.placed.used
-          (length c.prepare-prepared.new.scratch / 17 - c.in-Some.placed.used) c.in-Some.placed.body
-          c.instances-worked.result s.below c.instances-worked.ensures.scratch_unchanged s.found s.behind
-          (worked_out _ _ a.log.now.rows.now _ _ _ _ _ c.value-v.ensures _ _ _ _ _ c.requires.1.5 _ _ a.outer.now.bound _ _ _ _ _ _
-          s c.instances-worked.ensures.works) (same_false the_type _ _ (sym c.eq.ensures ∙ c.if-eq.false))),
+      omega (arith, s.below, s.fits, c.prepare-prepared.auto.scratch, c.instances-worked.auto.scratch),
+      concluding u q log _ a.outer.now.bound _ _ _ _ _ _ _ _ _ s.below c.instances-worked.ensures.scratch_unchanged s.found s.behind w more,
     )
 
 pub quantifier-returns : goal.quantifier-returns
 quantifier-returns t c =
-    let a = c.args in
-    let the-length = length c.prepare-prepared.new.scratch / 17 - c.in-Some.placed.used in
-    λ ρ v excluded d f next o q. let s = prepared_stood _ _ a.log.now.rows.now _ _ _ _ _ c.value-v.ensures _ _ _ _ _ q _ ρ o _ _ _ _ c.in-Some.is c.prepare-prepared.ensures in quantifier-whole a.log.now.table.now
-    a.words.now a.log.now.rows.now a.kind a.level a.outer.now.scope a.at c.value-v.result c.value-v.ensures v excluded
-    d f next q a.outer.now.environment ρ o (length a.scratch.now / 17) c.in-Some.placed.used the-length _ _
-    (ap (λ (n : ℕ). n / 17 - c.in-Some.placed.used) c.prepare-prepared.auto.scratch) s.counted s.fits
-    c.instances-worked.auto.out
+    let log = c.args.log.now.rows.now in
+    let u = c.value-v.ensures in
+    let more = same_false the_type _ _ (sym c.eq.ensures ∙ c.if-eq.false) in
+    λ ρ v excluded d f next o q.
+    let s = prepared_stood u q log ρ o _ _ _ _ c.in-Some.is c.prepare-prepared.ensures in
+    let w = worked_out u q log ρ o _ _ _ _ _ _ s c.instances-worked.ensures.works in
+    quantifier-whole u q log ρ o _ c.in-Some.placed.used _ _ _
+    (ap (λ (n : ℕ). n / 17 - c.in-Some.placed.used) c.prepare-prepared.auto.scratch) s.counted s.fits c.instances-worked.auto.out
     (c.conclude-answer.ensures
-    (concluding a.log.now.table.now a.words.now a.log.now.rows.now a.kind a.level a.outer.now.scope a.at c.value-v.result
-    c.value-v.ensures v excluded d f next q a.outer.now.environment ρ o c.prepare-prepared.new.scratch
-    c.instances-worked.new.scratch c.instances-worked.new.out c.in-Some.placed.from
-    c.in-Some.placed.count c.in-Some.placed.used the-length c.in-Some.placed.body
-    c.instances-worked.result s.below c.instances-worked.ensures.scratch_unchanged s.found s.behind
-    (worked_out _ _ a.log.now.rows.now _ _ _ _ _ c.value-v.ensures _ _ _ _ _ q _ ρ o _ _ _ _ _ _ s c.instances-worked.ensures.works) (same_false the_type _ _ (sym c.eq.ensures ∙ c.if-eq.false))))
-    ((worked_out _ _ a.log.now.rows.now _ _ _ _ _ c.value-v.ensures _ _ _ _ _ q _ ρ o _ _ _ _ _ _ s c.instances-worked.ensures.works).behind (same_false the_type _ _ (sym c.eq.ensures ∙ c.if-eq.false)))
+    (concluding u q log ρ o _ _ _ _ _ _ _ _ _ s.below c.instances-worked.ensures.scratch_unchanged s.found s.behind w more))
+    (w.behind more)
 
 pub formula-overflow_add-level : goal.formula-overflow_add-level
 formula-overflow_add-level t c =
-    omega
-    (arith, level-fits _ _ _ _ _ _ c.requires.2 (as_tag c.tag_at-tag.result) c.tag_at-tag.ensures, c.cost.ensures)
+    omega (arith, level-fits _ _ _ _ _ _ c.requires.2 (as_tag c.tag_at-tag.result) c.tag_at-tag.ensures, c.cost.ensures)
 
 pub formula-size-requires : goal.formula-size-requires
-formula-size-requires t c =
-    let a = c.args in
-    own-fits a.log.now.table.now a.words.now (as_role a.role) a.above a.outer.now.scope a.at c.requires.2
-    (as_tag c.tag_at-tag.result) c.tag_at-tag.ensures
+formula-size-requires t c = own-fits _ _ _ _ _ _ c.requires.2 (as_tag c.tag_at-tag.result) c.tag_at-tag.ensures
 
 pub formula-overflow_add-next : goal.formula-overflow_add-next
 formula-overflow_add-next t c =
-    let node =
-    stood c.args.log.now.table.now c.args.words.now (as_role c.args.role) c.args.above c.args.outer.now.scope c.args.at c.requires.1 c.requires.2
-    c.tag_at-tag.ensures c.cost.ensures c.size.ensures in
+    let node = stood c.requires.1 c.requires.2 c.tag_at-tag.ensures c.cost.ensures c.size.ensures in
     omega (arith, next_in node)
 
 pub formula-atom-requires : goal.formula-atom-requires
 formula-atom-requires t c =
-    let node =
-    stood c.args.log.now.table.now c.args.words.now (as_role c.args.role) c.args.above c.args.outer.now.scope c.args.at c.requires.1 c.requires.2
-    c.tag_at-tag.ensures c.cost.ensures c.size.ensures in
-    let a = c.args in (
-      c.args.outer.now.scopes,
-      atom-here a.log.now.table.now a.words.now a.log.now.rows.now
-          node a.outer.now.environment (length a.scratch.now / 17) (ap as_tag c.in-Atom.is),
-    )
+    let node = stood c.requires.1 c.requires.2 c.tag_at-tag.ensures c.cost.ensures c.size.ensures in (c.args.outer.now.scopes, atom-here node (ap as_tag c.in-Atom.is))
 
 pub formula-compare-requires : goal.formula-compare-requires
 formula-compare-requires t c =
-    let node =
-    stood c.args.log.now.table.now c.args.words.now (as_role c.args.role) c.args.above c.args.outer.now.scope c.args.at c.requires.1 c.requires.2
-    c.tag_at-tag.ensures c.cost.ensures c.size.ensures in
-    let a = c.args in
-    compare-here a.log.now.table.now a.words.now a.log.now.rows.now node a.outer.now.environment
-    (length a.scratch.now / 17) c.args.outer.now.scopes (ap as_tag c.in-Compare.is)
+    let node = stood c.requires.1 c.requires.2 c.tag_at-tag.ensures c.cost.ensures c.size.ensures in
+    compare-here node c.args.outer.now.scopes (ap as_tag c.in-Compare.is)
 
 pub formula-children-requires : goal.formula-children-requires
 formula-children-requires t c =
-    let node =
-    stood c.args.log.now.table.now c.args.words.now (as_role c.args.role) c.args.above c.args.outer.now.scope c.args.at c.requires.1 c.requires.2
-    c.tag_at-tag.ensures c.cost.ensures c.size.ensures in
-    let a = c.args in (
+    let node = stood c.requires.1 c.requires.2 c.tag_at-tag.ensures c.cost.ensures c.size.ensures in (
       omega (arith, level_down node, level_in node, c.decreases),
-      (
-        c.requires.0,
-        join-here a.log.now.table.now
-            a.words.now a.log.now.rows.now node a.outer.now.environment (length a.scratch.now / 17)
-            (ap as_tag c.in-Join.is) c.value-n.ensures,
-      ),
+      (c.requires.0, join-here node (ap as_tag c.in-Join.is) c.value-n.ensures),
     )
 
 pub formula-quantifier-requires : goal.formula-quantifier-requires
 formula-quantifier-requires t c =
-    let node =
-    stood c.args.log.now.table.now c.args.words.now (as_role c.args.role) c.args.above c.args.outer.now.scope c.args.at c.requires.1 c.requires.2
-    c.tag_at-tag.ensures c.cost.ensures c.size.ensures in
-    let a = c.args in (
+    let node = stood c.requires.1 c.requires.2 c.tag_at-tag.ensures c.cost.ensures c.size.ensures in (
       omega (arith, level_down node, level_in node, c.decreases),
-      (
-        c.requires.0,
-        quantifier-here
-            a.log.now.table.now a.words.now a.log.now.rows.now node a.outer.now.environment
-            (length a.scratch.now / 17) (ap as_tag c.in-Quantifier.is),
-      ),
+      (c.requires.0, quantifier-here node (ap as_tag c.in-Quantifier.is)),
     )
 
 pub formula-returns-in-Plain : goal.formula-returns-in-Plain
 formula-returns-in-Plain t c =
-    let node =
-    stood c.args.log.now.table.now c.args.words.now (as_role c.args.role) c.args.above c.args.outer.now.scope c.args.at c.requires.1 c.requires.2
-    c.tag_at-tag.ensures c.cost.ensures c.size.ensures in
-    let a = c.args in
-    node-plain a.log.now.table.now a.words.now a.log.now.rows.now node a.outer.now.environment
-    (length a.scratch.now / 17) (ap as_tag c.in-Plain.is) a.out.now
+    let node = stood c.requires.1 c.requires.2 c.tag_at-tag.ensures c.cost.ensures c.size.ensures in
+    node-plain node c.args.log.now.rows.now (ap as_tag c.in-Plain.is)
 
 pub formula-returns-in-Atom : goal.formula-returns-in-Atom
 formula-returns-in-Atom t c =
-    let node =
-    stood c.args.log.now.table.now c.args.words.now (as_role c.args.role) c.args.above c.args.outer.now.scope c.args.at c.requires.1 c.requires.2
-    c.tag_at-tag.ensures c.cost.ensures c.size.ensures in
-    let a = c.args in
-    node-atom a.log.now.table.now a.words.now a.log.now.rows.now node a.outer.now.environment
-    (length a.scratch.now / 17) (ap as_tag c.in-Atom.is) a.out.now _ _ c.atom.ensures
+    let node = stood c.requires.1 c.requires.2 c.tag_at-tag.ensures c.cost.ensures c.size.ensures in
+    node-atom node c.args.log.now.rows.now (ap as_tag c.in-Atom.is) c.atom.ensures
 
 pub formula-returns-in-Compare : goal.formula-returns-in-Compare
 formula-returns-in-Compare t c =
-    let node =
-    stood c.args.log.now.table.now c.args.words.now (as_role c.args.role) c.args.above c.args.outer.now.scope c.args.at c.requires.1 c.requires.2
-    c.tag_at-tag.ensures c.cost.ensures c.size.ensures in
-    let a = c.args in
-    node-compare a.log.now.table.now a.words.now a.log.now.rows.now node a.outer.now.environment
-    (length a.scratch.now / 17) (ap as_tag c.in-Compare.is) a.out.now _ c.compare.ensures
+    let node = stood c.requires.1 c.requires.2 c.tag_at-tag.ensures c.cost.ensures c.size.ensures in
+    node-compare node c.args.log.now.rows.now (ap as_tag c.in-Compare.is) c.compare.ensures
 
 pub formula-returns-in-Join : goal.formula-returns-in-Join
 formula-returns-in-Join t c =
-    let node =
-    stood c.args.log.now.table.now c.args.words.now (as_role c.args.role) c.args.above c.args.outer.now.scope c.args.at c.requires.1 c.requires.2
-    c.tag_at-tag.ensures c.cost.ensures c.size.ensures in
-    let a = c.args in
-    node-join a.log.now.table.now a.words.now a.log.now.rows.now node a.outer.now.environment
-    (length a.scratch.now / 17) (ap as_tag c.in-Join.is) c.value-n.ensures
-    c.children.ensures
+    let node = stood c.requires.1 c.requires.2 c.tag_at-tag.ensures c.cost.ensures c.size.ensures in
+    node-join node c.args.log.now.rows.now (ap as_tag c.in-Join.is) c.value-n.ensures c.children.ensures
 
 pub formula-returns-in-Quantifier : goal.formula-returns-in-Quantifier
 formula-returns-in-Quantifier t c =
-    let node =
-    stood c.args.log.now.table.now c.args.words.now (as_role c.args.role) c.args.above c.args.outer.now.scope c.args.at c.requires.1 c.requires.2
-    c.tag_at-tag.ensures c.cost.ensures c.size.ensures in
-    let a = c.args in
-    node-quantifier a.log.now.table.now a.words.now a.log.now.rows.now node a.outer.now.environment
-    (length a.scratch.now / 17) (ap as_tag c.in-Quantifier.is) c.quantifier.ensures
+    let node = stood c.requires.1 c.requires.2 c.tag_at-tag.ensures c.cost.ensures c.size.ensures in
+    node-quantifier node c.args.log.now.rows.now (ap as_tag c.in-Quantifier.is) c.quantifier.ensures
 
 pub formula-returns-in_default : goal.formula-returns-in_default
 formula-returns-in_default t c =
-    let node =
-    stood c.args.log.now.table.now c.args.words.now (as_role c.args.role) c.args.above c.args.outer.now.scope c.args.at c.requires.1 c.requires.2
-    c.tag_at-tag.ensures c.cost.ensures c.size.ensures in
-    let a = c.args in
-    ⊎_elim
-    (λ e. node-some a.log.now.table.now a.words.now a.log.now.rows.now node a.outer.now.environment
-    (length a.scratch.now / 17) e)
-    (λ e. node-unused a.log.now.table.now a.words.now a.log.now.rows.now node a.outer.now.environment
-    (length a.scratch.now / 17) e) (other_tag c.tag_at-tag.result (c.in_default.not-Plain, c.in_default.not-Atom, c.in_default.not-Compare, c.in_default.not-Join, c.in_default.not-Quantifier))
+    let node = stood c.requires.1 c.requires.2 c.tag_at-tag.ensures c.cost.ensures c.size.ensures in
+    let log = c.args.log.now.rows.now in
+    ⊎_elim (λ e. node-some node log e) (λ e. node-unused node log e)
+    (other_tag c.tag_at-tag.result (c.in_default.not-Plain, c.in_default.not-Atom, c.in_default.not-Compare, c.in_default.not-Join, c.in_default.not-Quantifier))
