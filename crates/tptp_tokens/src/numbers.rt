@@ -13,9 +13,10 @@ fn more_digits(here: &mut Cursor<'_>, most: usize, first: usize) -> Result<usize
     requires { (first ≤ most) × (most < 2 ^ 32) }
     ensures { N.More most first here.old here.new result }
 {
+    let text = here.rest;
     let mut n = first;
-    for i in 0..here.rest.len() {
-        let b = here.rest[i];
+    for i in 0..text.len() {
+        let b = text[i];
         if !bytes::digit(b) {
             here.pass(i);
             return Ok(n);
@@ -26,7 +27,7 @@ fn more_digits(here: &mut Cursor<'_>, most: usize, first: usize) -> Result<usize
         }
         n = raised;
     }
-    here.pass(here.rest.len());
+    here.pass(text.len());
     Ok(n)
 }
 

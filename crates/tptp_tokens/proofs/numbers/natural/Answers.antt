@@ -1,6 +1,0 @@
--- `tptp_tokens::numbers::natural` meets its contract.
-use Rattle.tptp_tokens.proofs.NumberLaws.{natural-number}
-use Rattle.tptp_tokens.proofs.numbers.natural.Goals as goal
-
-pub returns : goal.returns
-returns c = natural-number c.args.text.now c.args.at c.number.result c.number.ensures
