@@ -1,5 +1,4 @@
 -- Laws for what is read behind something else.
-use Prim.Native.Nat.{ℕ}
 use mathlib.Core.Path.{◌≡◌, ◌∙◌}
 use Rattle.std.specs.Prelude.{Result, Ok, Err}
 use Rattle.text.specs.declared.cursor.Cursor.{Cursor}

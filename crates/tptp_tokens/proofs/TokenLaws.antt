@@ -2,7 +2,7 @@
 use Prim.Native.Nat.{ℕ, zero, suc, ◌+◌, ◌≤◌, ◌<◌}
 use native.Mathlib.Numerals.{add-one}
 use native.Mathlib.Omega.{arith}
-use mathlib.Core.Path.{◌≡◌, refl, sym, ap, ap₂, ◌∙◌}
+use mathlib.Core.Path.{◌≡◌, refl, sym, ap, ◌∙◌}
 use mathlib.Core.Logic.{⊎_elim}
 use mathlib.Core.List.{[], ◌∷◌}
 use lib.ListN.{length, drop, get_or, drop_of_length-le}
@@ -88,6 +88,14 @@ unfolding literal
 literal-not c word [] p h = refl
 literal-not c word (b ∷ t) p h = rw (ne_eqb b c (λ (e : b ≡ c). h (ap Some e)))
 
+pub literal-here :
+    (old new : Cursor) → new.rest.now ≡ drop 1 old.rest.now → new.at ≡ old.at + 1 → (c : ℕ) → slice_get old.rest.now 0 ≡ Some c →
+    Reads (literal (c ∷ [])) old tt new
+unfolding literal
+literal-here old new r e c h =
+    let one = slice_get_within old.rest.now 0 c h in
+    record { moved = past old new 1 (omega (arith, one)) r e; reads = literal-is c [] old.rest.now old.at h ∙ rw (sym r, sym e) refl }
+
 -- bytes of a literal one after another
 module _ (word text : Text) (i p : ℕ) where
   pub literal-more :
@@ -142,13 +150,7 @@ module _ (old mid : Cursor) (s : Skips old mid) where
 
   module _ (new : Cursor) (r : new.rest.now ≡ drop 1 mid.rest.now) (e : new.at ≡ mid.at + 1) where
     pub token-here : (c : ℕ) → slice_get mid.rest.now 0 ≡ Some c → Reads (token (c ∷ [])) old tt new
-    unfolding literal
-    token-here c h =
-        let one = slice_get_within mid.rest.now 0 c h in
-        record {
-          moved = further old mid new s.reads.moved (past mid new 1 (omega arith) r e);
-          reads = token-from (c ∷ []) ∙ literal-is c [] mid.rest.now mid.at h ∙ rw (sym r, sym e) refl;
-        }
+    token-here c h = token_steps (c ∷ []) new (Ok tt) (literal-here mid new r e c h)
 
     -- an opening parenthesis
     pub opening-here : (room : ℕ) → slice_get mid.rest.now 0 ≡ Some 40 → (room ≡ 0 → ⊥) → Reads (opening room) old tt new

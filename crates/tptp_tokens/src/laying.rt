@@ -1,7 +1,6 @@
 // Words laid to an index of a buffer, as far as it reaches, and the counting of words up to a limit.
 ghost use Rattle.std.specs.Prelude.{◌≡◌, Bool, ◌+◌, ◌*◌, ◌≤◌, ◌<◌, min, length, set, pos};
 ghost use Rattle.model.specs.TptpReading as R;
-ghost use Rattle.text.specs.Reading.{signed, Sized};
 ghost use Rattle.tptp_tokens.specs.Steps.{Valued};
 ghost use Rattle.tptp_tokens.specs.Laying as L;
 
@@ -24,8 +23,8 @@ pub fn more_words(words: usize, n: usize) -> usize
 fn lay_word(out: &mut [i32], w: usize, n: i32)
     ensures { out.new ≡ set out.old w n }
 {
-    if let Some(word) = out.get_mut(w) {
-        *word = n;
+    if w < out.len() {
+        out[w] = n;
     }
 }
 

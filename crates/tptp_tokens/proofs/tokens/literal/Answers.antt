@@ -2,7 +2,7 @@
 use native.Mathlib.Omega.{arith}
 use Prim.Native.Nat.{◌+◌, ◌<◌}
 use mathlib.Core.Path.{◌≡◌, refl, sym, ◌∙◌}
-use lib.ListN.{length, get_or, drop}
+use lib.ListN.{length, drop}
 use borrow.Author.Rules.{rules}
 use Rattle.tptp_tokens.proofs.MovedLaws.{past}
 use Rattle.tptp_tokens.proofs.TokenLaws.{literal-more, literal-other, literal_end}
