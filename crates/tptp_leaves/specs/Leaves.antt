@@ -1,13 +1,13 @@
 -- What the reading of nodes with none below them comes to.
-use Rattle.std.specs.Prelude.{ℕ, ◌≤◌, ◌≡◌, Bool, true, false, cond, length, take, set, eqb, pos}
+use Rattle.std.specs.Prelude.{ℕ, ◌≤◌, ◌≡◌, Bool, true, false, cond, length, take, eqb, slice_get, Some}
 use Rattle.model.specs.Words.{Words}
-use Rattle.model.specs.Bytes.{Text, bytes, dollar, tilde, letter_p, letter_t, letter_f}
+use Rattle.model.specs.Bytes.{Text, bytes, blank, dollar, tilde, letter_p, letter_t, letter_f}
 use Rattle.model.specs.Tree.{Tree, plain, atom, compare, join, quantifier, some, encode}
 use Rattle.model.specs.TptpReading.{Reader, give, stop, look, peek, token, literal, read_atom, read_compare, read_dollar, read_negated, ◌>>=◌}
 
--- a number is the second word
-abbrev pub SecondNatural : (own own' : Words) (n : ℕ) → Type 0
-SecondNatural own own' n = own' ≡ set own 1 (pos n)
+-- no blank stands in front
+abbrev pub Unblank : (text : Text) → Type 0
+Unblank text = (b : ℕ) → slice_get text 0 ≡ Some b → blank b ≡ false
 
 -- a node has none below it
 abbrev pub is_leaf : (tree : Tree) → Bool
