@@ -1,5 +1,5 @@
 -- What it comes to whether one more of several things follows.
-use Rattle.std.specs.Prelude.{ℕ, ◌≡◌, Bool, true, false, [], ◌∷◌, cond, eqb, Result, Ok, Err}
+use Rattle.std.specs.Prelude.{ℕ, ◌<◌, ◌≡◌, Bool, true, false, [], ◌∷◌, cond, eqb, Result, Ok, Err}
 use Rattle.model.specs.Answer.{refused}
 use Rattle.model.specs.TptpReading.{Reader, give, look, token, ◌>>=◌}
 use Rattle.text.specs.declared.cursor.Cursor.{Cursor}
@@ -17,5 +17,5 @@ another c = do
       (give false)
 
 abbrev pub AnotherRead : (c : ℕ) (old new : Cursor) (more : Result Bool Refused) → Type 0
-AnotherRead c old new (Ok b) = Reads (another c) old b new
+AnotherRead c old new (Ok b) = Reads (another c) old b new × (b ≡ true → old.at < new.at)
 AnotherRead c old new (Err e) = from (another c) old ≡ refused e.0 e.1
