@@ -10,15 +10,20 @@ use mathlib.Core.List.{[], ◌∷◌}
 use lib.ListN.{length, drop, get_or}
 use lib.Dec.{eqb}
 use borrow.Author.Tests.{ne_eqb, not-true}
+use denote.Bor.{Bor}
+use Rattle.std.specs.Prelude.{Option, Some, None, slice_get, Result, Ok, Err}
+use Rattle.std.specs.Option.{option_eq, option_copied}
+use Rattle.std.specs.Result.{is_ok}
 use Rattle.model.specs.Bytes.{Text, blank}
 use Rattle.model.specs.Answer.{passed, refused}
 use Rattle.model.specs.TptpReading.{Got, blanks, literal, token, onwards, ◌>>=◌, behind_blanks, begins_with, begins_tuple, begins_excluding}
 use Rattle.model.specs.declared.Refusal.{Refusal}
 use Rattle.model.specs.declared.Refusal.TheVariants.{Tptp}
+use Rattle.model.specs.declared.Refused.{Refused}
 use Rattle.laws.specs.Words.Tests.{decide, clash}
 use Rattle.laws.specs.Answer.{refused-passed, passed-same}
 use Rattle.text.specs.declared.cursor.Cursor.{Cursor}
-use Rattle.tptp_tokens.specs.Steps.{from, Reads}
+use Rattle.tptp_tokens.specs.Steps.{from, Reads, Steps}
 use Rattle.tptp_binders.specs.Ahead.{stopping, StopsBehind, Foretells, begins}
 use Rattle.tptp_tokens.proofs.TokenLaws.{here, over}
 
@@ -67,6 +72,16 @@ module _ (text : Text) (i depth : ℕ) (s : Scans text i depth) where
         same = s.same ∙ rw (here text i h, ne_eqb (get_or text i 0) 40 opens, ne_eqb (get_or text i 0) 41 closes, e, is);
       }
 
+-- the first byte of a text, or the end, begins it
+pub same_byte :
+    (text : Text) (c : Bor ℕ) (o : Option (Bor ℕ)) → option_copied o ≡ slice_get text 0 →
+    option_eq {T = Bor ℕ} (λ x y. eqb x.now y.now) o (Some c) ≡ begins_with c.now text
+unfolding begins_with
+same_byte [] c None h = refl
+same_byte [] c (Some x) h = cc
+same_byte (b ∷ t) c None h = cc
+same_byte (b ∷ t) c (Some x) h = ap (λ (n : ℕ). eqb n c.now) cc
+
 -- what blanks leave is the text behind them
 pub blanks-rest : (text : Text) (p : ℕ) → (q : ℕ) × (blanks text p ≡ passed (record { what = tt; rest = behind_blanks text; at = q }))
 unfolding blanks behind_blanks
@@ -106,16 +121,32 @@ module _ (c : ℕ) where
     one_no : begins c old.rest.now ≡ false → from (token (c ∷ [])) old ≡ refused Tptp (one_token old.rest.now old.at).0
     one_no n = (one_token old.rest.now old.at).1 ∙ rw n
 
-    pub ahead_none : {q : Refusal} {p : ℕ} → from (token (c ∷ [])) old ≡ refused q p → begins c old.rest.now ≡ false
-    ahead_none e = ⊎_elim (λ y. refused-passed (sym e ∙ one_yes y)) (λ n. n) (decide (begins c old.rest.now))
+    none : {q : Refusal} {p : ℕ} → from (token (c ∷ [])) old ≡ refused q p → begins c old.rest.now ≡ false
+    none e = ⊎_elim (λ y. refused-passed (sym e ∙ one_yes y)) (λ n. n) (decide (begins c old.rest.now))
 
-    module _ (new : Cursor) (r : Reads (token (c ∷ [])) old tt new) where
-      pub ahead_begins : begins c old.rest.now ≡ true
-      ahead_begins = ⊎_elim (λ y. y) (λ n. refused-passed (sym (one_no n) ∙ r.reads)) (decide (begins c old.rest.now))
+    some : (new : Cursor) → Reads (token (c ∷ [])) old tt new → begins c old.rest.now ≡ true
+    some new r = ⊎_elim (λ y. y) (λ n. refused-passed (sym (one_no n) ∙ r.reads)) (decide (begins c old.rest.now))
 
-      pub ahead_rest : new.rest.now ≡ drop 1 (behind_blanks old.rest.now)
+    pub ahead :
+        (new : Cursor) (r : Result (Unit {0}) Refused) → Steps (token (c ∷ [])) old new r → is_ok r ≡ begins c old.rest.now
+    ahead new (Ok u) s = sym (some new s)
+    ahead new (Err e) s = sym (none s)
+
+    -- and what stands behind it
+    module _ (test : Text → Bool) where
+      pub ahead_then :
+          (new : Cursor) (r : Result (Unit {0}) Refused) → Steps (token (c ∷ [])) old new r → true ≡ is_ok r →
+          test new.rest.now ≡ (begins c old.rest.now && test (drop 1 (behind_blanks old.rest.now)))
       unfolding one
-      ahead_rest = ap (λ (g : Got (Unit {0})). g.rest) (passed-same (sym r.reads ∙ one_yes ahead_begins))
+      ahead_then new (Ok u) s e =
+          let same = ap (λ (g : Got (Unit {0})). g.rest) (passed-same (sym s.reads ∙ one_yes (some new s))) in
+          rw (some new s) (ap test same)
+      ahead_then new (Err r) s e = cc
+
+      pub ahead_else :
+          (b : Bool) (new : Cursor) (r : Result (Unit {0}) Refused) → Steps (token (c ∷ [])) old new r → b ≡ is_ok r → b ≡ false →
+          b ≡ (begins c old.rest.now && test (drop 1 (behind_blanks old.rest.now)))
+      ahead_else b new r s is e = rw (sym (ahead new r s) ∙ sym is ∙ e, e)
 
 -- excluded tuples by the bytes that they begin with
 module _ (v : ℕ) (text : Text) where

@@ -2,7 +2,7 @@
 use Prim.Native.Nat.{ℕ, zero, suc, ◌+◌, ◌-◌, ◌≤◌, ◌<◌}
 use native.Mathlib.Omega.{arith}
 use mathlib.Core.Path.{◌≡◌, refl, sym, ap, ◌∙◌}
-use mathlib.Core.Bool.{true, false, cond}
+use mathlib.Core.Bool.{Bool, true, false, cond}
 use mathlib.Core.List.{[], ◌∷◌, ◌++◌}
 use lib.ListN.{length, take}
 use Rattle.model.specs.Bytes.{Text, bytes, comma}
@@ -121,19 +121,19 @@ module _ (most x : ℕ) (start : Cursor) where
       counting_refused q p a = next ∙ rw a
 
       -- no comma
-      pub counting_stop : (end : Cursor) → Reads (another comma) here false end → Reads (variables most x) start count end
+      pub counting_stop : (b : Bool) → b ≡ false → (end : Cursor) → Reads (another comma) here b end → Reads (variables most x) start count end
       unfolding plus give ◌>>=◌ onwards
-      counting_stop end a = record {
+      counting_stop b e end a = record {
         moved = further _ _ _ c.moved a.moved;
-        reads = next ∙ rw a.reads (ap (λ (n : ℕ). got n end) (sym c.is));
+        reads = next ∙ rw (a.reads, e) (ap (λ (n : ℕ). got n end) (sym c.is));
       }
 
-      module _ (mid : Cursor) (a : Reads (another comma) here true mid) where
+      module _ (b : Bool) (y : b ≡ true) (mid : Cursor) (a : Reads (another comma) here b mid) where
         one_more : from (variables most x) start ≡ plus (c.k + 1) (from (variables m (x + count)) mid)
         unfolding ◌>>=◌ onwards
         one_more =
             next
-            ∙ rw a.reads (plus_suc c.k (from (variables m (suc (x + c.k))) mid))
+            ∙ rw (a.reads, y) (plus_suc c.k (from (variables m (suc (x + c.k))) mid))
             ∙ ap (λ (y : ℕ). plus (c.k + 1) (from (variables m y) mid)) (let e : suc (x + c.k) ≡ x + count = omega (arith, c.is) in e)
 
         pub counting_more : (end : Cursor) → Reads (declaration (x + count)) mid tt end → Counting most x start end (count + 1)

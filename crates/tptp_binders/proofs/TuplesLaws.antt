@@ -2,7 +2,7 @@
 use Prim.Native.Nat.{ℕ, suc, ◌+◌, ◌*◌, ◌-◌, ◌≤◌, ◌<◌, min}
 use native.Mathlib.Omega.{arith}
 use mathlib.Core.Path.{◌≡◌, refl, sym, ap, ◌∙◌}
-use mathlib.Core.Bool.{true, false}
+use mathlib.Core.Bool.{Bool, true, false}
 use mathlib.Core.List.{List, [], ◌∷◌, ◌++◌, append-nil, append_assoc}
 use lib.ListN.{length, set, length-append}
 use lib.Seq.{sets}
@@ -76,21 +76,21 @@ module _ (room v x w : ℕ) (start : Cursor) (old : Words) where
     tupling_refused = several_refused (read_tuple room v x) ampersand t.ts here (t.fuel - 1) t.fuel one t.goes
 
     pub tupling_stop :
-        (end : Cursor) → Reads (another ampersand) here false end →
+        (b : Bool) → b ≡ false → (end : Cursor) → Reads (another ampersand) here b end →
         Value (more ampersand (read_tuple room v x)) (StoredTuples v w count old out) start end
-    tupling_stop end a = record {
+    tupling_stop b e end a = record {
       what = t.ts;
       reads = record {
         moved = further _ _ _ t.moved a.moved;
-        reads = several_stop (read_tuple room v x) ampersand t.ts here (t.fuel - 1) t.fuel one t.goes end a.reads;
+        reads = several_stop (read_tuple room v x) ampersand t.ts here (t.fuel - 1) t.fuel one t.goes b e end a.reads;
       };
       holds = record { number = t.number; size = t.size; laid = t.laid };
     }
 
-    module _ (mid : Cursor) (a : Reads (another ampersand) here true mid) where
+    module _ (b : Bool) (y : b ≡ true) (mid : Cursor) (a : Reads (another ampersand) here b mid) where
       pub tupling_stuck :
           (q : Refusal) (p : ℕ) → from (read_tuple room v x) mid ≡ refused q p → from (more ampersand (read_tuple room v x)) start ≡ refused q p
-      tupling_stuck = several_none (read_tuple room v x) ampersand t.ts here (t.fuel - 1) t.fuel one t.goes mid a.reads
+      tupling_stuck = several_none (read_tuple room v x) ampersand t.ts here (t.fuel - 1) t.fuel one t.goes b y mid a.reads
 
       pub tupling_more :
           here.at < mid.at → (out' : Words) (end : Cursor) (to' : ℕ) → 1 ≤ v →
@@ -110,7 +110,7 @@ module _ (room v x w : ℕ) (start : Cursor) (old : Words) where
             fuel = t.fuel - 1;
             some = omega (arith, t.enough, shorter);
             enough = omega (arith, t.enough, shorter);
-            goes = several_more (read_tuple room v x) ampersand t.ts here (t.fuel - 1) t.fuel one t.goes mid a.reads r.what end r.reads.reads;
+            goes = several_more (read_tuple room v x) ampersand t.ts here (t.fuel - 1) t.fuel one t.goes b y mid a.reads r.what end r.reads.reads;
             size = ap length (gather-last t.ts r.what) ∙ omega (arith, length-append ks r.what, t.size, r.holds.number, product);
             reached = omega (arith, m, t.reached, product);
             laid = λ few.
