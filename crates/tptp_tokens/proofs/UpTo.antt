@@ -30,6 +30,12 @@ skips_self old mid s b h =
     go : (t : Text) → slice_get t 0 ≡ Some b → blank b ≡ false → blanks t mid.at ≡ passed (record { what = tt; rest = t; at = mid.at })
     go t h e = rw (begun t b h, e)
 
+-- a byte there as a token
+pub token-self :
+    (old mid : Cursor) → Skips old mid → (new : Cursor) → new.rest.now ≡ drop 1 mid.rest.now → new.at ≡ mid.at + 1 →
+    (c : ℕ) → slice_get mid.rest.now 0 ≡ Some c → Reads (token (c ∷ [])) mid tt new
+token-self old mid s new r e c h = token-here mid mid (skips_self old mid s c h) new r e c h
+
 -- whether the byte stands behind blanks
 module _ (c : ℕ) (old mid : Cursor) (s : Skips old mid) where
   pub another-over : slice_get mid.rest.now 0 ≡ None → from (another c) old ≡ refused Tptp mid.at
@@ -47,7 +53,7 @@ module _ (c : ℕ) (old mid : Cursor) (s : Skips old mid) where
   another-here b h is new k one r e =
       let h' = h ∙ ap (λ (d : ℕ). Some d) is in
       let r' = r ∙ ap (λ (n : ℕ). drop n mid.rest.now) one in
-      let t = token-here mid mid (skips_self old mid s c h') new r' (omega (arith, e, one)) c h' in
+      let t = token-self old mid s new r' (omega (arith, e, one)) c h' in
       (
         record { moved = further old mid new s.reads.moved t.moved; reads = rw (look-here old mid s b h, eq-eqb b c is, t.reads) },
         omega (arith, s.reads.moved.low, e, one),
@@ -114,17 +120,17 @@ module _ {A : Type 0} (one : Reader A) (c : ℕ) {whole : Outcome (Got (List A))
     unfolding ◌>>=◌ onwards attach
     several_refused q p a = next ∙ rw a
 
-    pub several_stop : (end : Cursor) → from (another c) here ≡ got false end → whole ≡ got xs end
+    pub several_stop : (b : Bool) → b ≡ false → (end : Cursor) → from (another c) here ≡ got b end → whole ≡ got xs end
     unfolding ◌>>=◌ onwards give
-    several_stop end a = next ∙ rw a (attach-all xs end)
+    several_stop b e end a = next ∙ rw (a, e) (attach-all xs end)
 
-    module _ (mid : Cursor) (a : from (another c) here ≡ got true mid) where
+    module _ (b : Bool) (y : b ≡ true) (mid : Cursor) (a : from (another c) here ≡ got b mid) where
       pub several_none : (q : Refusal) (p : ℕ) → from one mid ≡ refused q p → whole ≡ refused q p
       unfolding ◌>>=◌ onwards attach
-      several_none q p r = next ∙ rw (a, r)
+      several_none q p r = next ∙ rw (a, y, r)
 
       pub several_more : (x : A) (end : Cursor) → from one mid ≡ got x end → whole ≡ attach (xs ++ x ∷ []) (from (up_to n c one) end)
       unfolding ◌>>=◌ onwards
       several_more x end r =
           next
-          ∙ rw (a, r) (ap (attach xs) (attach-give x (from (up_to n c one) end)) ∙ attach-attach xs (x ∷ []) (from (up_to n c one) end))
+          ∙ rw (a, y, r) (ap (attach xs) (attach-give x (from (up_to n c one) end)) ∙ attach-attach xs (x ∷ []) (from (up_to n c one) end))
