@@ -1,5 +1,5 @@
 -- What the reading of formulas and restrictions comes to.
-use Rattle.std.specs.Prelude.{ℕ, zero, suc, ◌+◌, ◌*◌, ◌≤◌, min, ◌≡◌, Bool, true, false, cond, ◌&&◌, List, length, slice_get, Some, Result, Ok, Err}
+use Rattle.std.specs.Prelude.{ℕ, zero, suc, ◌+◌, ◌*◌, ◌≤◌, min, ◌≡◌, Bool, true, false, cond, ◌&&◌, List, length, eqb, slice_get, Some, Result, Ok, Err}
 use Rattle.std.proofs.lemmas.List.Edits.{sets}
 use Rattle.model.specs.Words.{Words, policy_limit}
 use Rattle.model.specs.Lists.{gather}
@@ -59,7 +59,7 @@ OperandRead room table role above scope s s' out out' old new r =
 pub record LeafByte (formula : Bool) (text : Text) : Type 0 where
   pub join : slice_get text 0 ≡ Some parenthesis → ⊥
   pub some : slice_get text 0 ≡ Some interrogation → ⊥
-  pub quantifier : formula ≡ true → slice_get text 0 ≡ Some exclamation → ⊥
+  pub quantifier : (b : ℕ) → slice_get text 0 ≡ Some b → (eqb b exclamation && formula) ≡ false
 
 -- question 7 of the operands of an all-of (true) or any-of
 unfoldable pub bindings_of : Bool → Trees → Words → Variables → ℕ → ℕ → Outcome Variables
