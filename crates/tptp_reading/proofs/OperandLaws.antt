@@ -187,6 +187,10 @@ leaf-byte formula text b h n m e = record {
     turned true false e = refl
     turned false y e = refl
 
+pub not_left : (x y : Bool) → (x && y) ≡ false → y ≡ true → x ≡ false
+not_left true y e k = sym k ∙ e
+not_left false y e k = refl
+
 -- a role that is no formula's is a restriction's
 pub restricts : (role : L.Role) → is_formula role ≡ false → role ≡ L.Role.restriction
 unfolding is_formula
