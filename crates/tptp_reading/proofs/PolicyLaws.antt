@@ -57,6 +57,14 @@ blanks_end t p g e = behind (blanks t p) e
     behind (refused r q) k = refused-passed k
     behind (passed h) k = end h.rest h.at k
 
+-- what a place at the beginning comes to
+pub policy-from :
+    (room : ℕ) (text : Text) (here : Cursor) → here.rest.now ≡ text → here.at ≡ 0 → {o : Outcome (Got Tree)} →
+    from (read_whole room) here ≡ o →
+    read_whole room text 0 ≡ o
+policy-from room text here begin zero e =
+    ap (λ (t : Text). read_whole room t 0) (sym begin) ∙ ap (λ (p : ℕ). read_whole room here.rest.now p) (sym zero) ∙ e
+
 -- what stands before the formula of a text, and behind it
 module _
     (text : Text) (room : ℕ) {here n₁ n₂ n₃ n₄ n₅ at : Cursor} (begin : here.rest.now ≡ text) (zero : here.at ≡ 0)
@@ -76,15 +84,14 @@ module _
     header : read_whole room text 0 ≡ from (one >>= λ t. token (46 ∷ []) >>= λ _. behind_dot t) at
     unfolding read_whole bytes
     header =
-        ap (λ (t : Text). read_whole room t 0) (sym begin)
-        ∙ ap (λ (p : ℕ). read_whole room here.rest.now p) (sym zero)
-        ∙ onward (token (116 ∷ 102 ∷ 102 ∷ [])) _ here tt n₁ s₁.reads
+        policy-from room text here begin zero
+        (onward (token (116 ∷ 102 ∷ 102 ∷ [])) _ here tt n₁ s₁.reads
         ∙ onward (token (40 ∷ [])) _ n₁ tt n₂ s₂.reads
         ∙ onward name _ n₂ tt n₃ s₃.reads
         ∙ onward (token (44 ∷ [])) _ n₃ tt n₄ s₄.reads
         ∙ onward (token (97 ∷ 120 ∷ 105 ∷ 111 ∷ 109 ∷ [])) _ n₄ tt n₅ s₅.reads
         ∙ onward (token (44 ∷ [])) _ n₅ tt at s₆.reads
-        ∙ closed_then (whole ((readers room).operand true 0)) (bytes ")") (λ t. token (46 ∷ []) >>= λ _. behind_dot t) at.rest.now at.at
+        ∙ closed_then (whole ((readers room).operand true 0)) (bytes ")") (λ t. token (46 ∷ []) >>= λ _. behind_dot t) at.rest.now at.at)
 
     pub policy-refused : (q : Refusal) (p : ℕ) → from one at ≡ refused q p → read_whole room text 0 ≡ refused q p
     policy-refused q p e = header ∙ halt one _ at q p e
