@@ -24,7 +24,7 @@ use Rattle.laws.specs.Words.Tests.{decide, clash}
 use Rattle.laws.specs.Answer.{refused-passed, passed-same}
 use Rattle.text.specs.declared.cursor.Cursor.{Cursor}
 use Rattle.tptp_tokens.specs.Steps.{from, Reads, Steps}
-use Rattle.tptp_binders.specs.Ahead.{stopping, StopsBehind, Foretells, begins}
+use Rattle.tptp_binders.specs.Ahead.{stopping, StopsBehind, StopsAt, Foretells, begins}
 use Rattle.tptp_tokens.proofs.TokenLaws.{here, over}
 
 -- the scan of a text goes as the scan from an index on, where so many parentheses are open
@@ -71,6 +71,11 @@ module _ (text : Text) (i depth : ℕ) (s : Scans text i depth) where
         few = omega (arith, s.few);
         same = s.same ∙ rw (here text i h, ne_eqb (get_or text i 0) 40 opens, ne_eqb (get_or text i 0) 41 closes, e, is);
       }
+
+-- of what begins as a quantifier it is told whether this byte stands behind it
+pub foretold :
+    (c : ℕ) → c ≡ 38 → (here stop : Cursor) → StopsAt here stop → (r : Bool) → r ≡ begins_with c stop.rest.now → Foretells here.rest.now r
+foretold c is here stop s r e = record { tells = λ _. e ∙ rw (is, s.stops) }
 
 -- the first byte of a text, or the end, begins it
 pub same_byte :
