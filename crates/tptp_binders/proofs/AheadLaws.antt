@@ -5,11 +5,11 @@ use native.Mathlib.Numerals.{add-one}
 use native.Mathlib.Omega.{arith}
 use mathlib.Core.Path.{◌≡◌, refl, sym, ap, ◌∙◌}
 use mathlib.Core.Logic.{⊎_elim}
-use mathlib.Core.Bool.{Bool, true, false, not, cond, ◌&&◌, ◌||◌}
+use mathlib.Core.Bool.{Bool, true, false, cond, ◌&&◌, ◌||◌}
 use mathlib.Core.List.{[], ◌∷◌}
 use lib.ListN.{length, drop, get_or}
 use lib.Dec.{eqb}
-use borrow.Author.Tests.{ne_eqb, not-true}
+use borrow.Author.Tests.{ne_eqb}
 use denote.Bor.{Bor}
 use Rattle.std.specs.Prelude.{Option, Some, None, slice_get, Result, Ok, Err}
 use Rattle.std.specs.Option.{option_eq, option_copied}
@@ -20,7 +20,7 @@ use Rattle.model.specs.TptpReading.{Got, blanks, literal, token, onwards, ◌>>=
 use Rattle.model.specs.declared.Refusal.{Refusal}
 use Rattle.model.specs.declared.Refusal.TheVariants.{Tptp}
 use Rattle.model.specs.declared.Refused.{Refused}
-use Rattle.laws.specs.Words.Tests.{decide, clash}
+use Rattle.laws.specs.Words.Tests.{decide}
 use Rattle.laws.specs.Answer.{refused-passed, passed-same}
 use Rattle.text.specs.declared.cursor.Cursor.{Cursor}
 use Rattle.tptp_tokens.specs.Steps.{from, Reads, Steps}
@@ -110,7 +110,7 @@ module _ (c : ℕ) where
       (t : Text) (p : ℕ) →
       (q : ℕ)
       × (token (c ∷ []) t p
-        ≡ cond (begins c t) (passed (record { what = tt; rest = drop 1 (behind_blanks t); at = suc q })) (refused Tptp q))
+      ≡ cond (begins c t) (passed (record { what = tt; rest = drop 1 (behind_blanks t); at = suc q })) (refused Tptp q))
   unfolding token begins ◌>>=◌ onwards
   one_token t p = let b = blanks-rest t p in (b.0, rw b.1 (one_byte (behind_blanks t) b.0))
 

@@ -1,6 +1,5 @@
 -- `tptp_binders::ahead::stop_index` meets its contract. The loop's invariant: the scan from here goes as that from the start.
 use native.Mathlib.Omega.{arith}
-use mathlib.Core.Path.{refl}
 use Rattle.tptp_binders.proofs.AheadLaws.{scan_end, scan_open, scan_close, scan_closing, scan_other, scan_connective}
 use Rattle.tptp_binders.proofs.ahead.stop_index.Goals as goal
 use Rattle.tptp_binders.proofs.ahead.stop_index.Goals.{then-b-eq40, else-b-eq40+then-b-eq41+else-depth-eq0, else-b-eq40+else-b-eq41+else-depth-b}

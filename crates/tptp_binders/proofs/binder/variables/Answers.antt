@@ -23,7 +23,7 @@ pub returns-then-not-branch : goal.returns-then-not-branch
 returns-then-not-branch c =
     let a = c.args in (
       counting_stop a.most a.x a.here.now c.loop-count.invariant (omega (arith, c.loop-count-test.true)) _ c.if-not-branch.true
-      c.another.new.here c.in_ok-another.ensures.0,
+          c.another.new.here c.in_ok-another.ensures.0,
       omega (arith, c.loop-count.invariant.is),
       omega (arith, c.loop-count-test.true),
     )
