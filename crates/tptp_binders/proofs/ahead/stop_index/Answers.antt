@@ -18,7 +18,7 @@ loop-i-preserved c =
     let rest = c.args.rest.now in
     let l = c.loop-i in
     elim c.if-b-eq40.branch [
-      | then-b-eq40 w ↦ scan_open rest l.i l.depth l.invariant c.loop-i-test.true _ w.if-b-eq40.true w.depth-is
+      | then-b-eq40 w ↦ scan_open rest l.i l.depth l.invariant c.loop-i-test.true _ w.if-b-eq40.true (omega (arith, w.depth-is))
       | else-b-eq40+then-b-eq41+else-depth-eq0 w ↦
           scan_close rest l.i l.depth l.invariant c.loop-i-test.true _ w.if-b-eq41.true w.if-depth-eq0.false w.depth-is
       | else-b-eq40+else-b-eq41+else-depth-b w ↦
