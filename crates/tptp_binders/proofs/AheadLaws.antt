@@ -5,11 +5,11 @@ use native.Mathlib.Numerals.{add-one}
 use native.Mathlib.Omega.{arith}
 use mathlib.Core.Path.{◌≡◌, refl, sym, ap, ◌∙◌}
 use mathlib.Core.Logic.{⊎_elim}
-use mathlib.Core.Bool.{Bool, true, false, not, cond, ◌&&◌, ◌||◌}
+use mathlib.Core.Bool.{Bool, true, false, cond, ◌&&◌, ◌||◌}
 use mathlib.Core.List.{[], ◌∷◌}
 use lib.ListN.{length, drop, get_or}
 use lib.Dec.{eqb}
-use borrow.Author.Tests.{ne_eqb, not-true}
+use borrow.Author.Tests.{ne_eqb}
 use denote.Bor.{Bor}
 use Rattle.std.specs.Prelude.{Option, Some, None, slice_get, Result, Ok, Err}
 use Rattle.std.specs.Option.{option_eq, option_copied}
@@ -20,11 +20,11 @@ use Rattle.model.specs.TptpReading.{Got, blanks, literal, token, onwards, ◌>>=
 use Rattle.model.specs.declared.Refusal.{Refusal}
 use Rattle.model.specs.declared.Refusal.TheVariants.{Tptp}
 use Rattle.model.specs.declared.Refused.{Refused}
-use Rattle.laws.specs.Words.Tests.{decide, clash}
+use Rattle.laws.specs.Words.Tests.{decide}
 use Rattle.laws.specs.Answer.{refused-passed, passed-same}
 use Rattle.text.specs.declared.cursor.Cursor.{Cursor}
 use Rattle.tptp_tokens.specs.Steps.{from, Reads, Steps}
-use Rattle.tptp_binders.specs.Ahead.{stopping, StopsBehind, Foretells, begins}
+use Rattle.tptp_binders.specs.Ahead.{stopping, StopsBehind, StopsAt, Foretells, begins}
 use Rattle.tptp_tokens.proofs.TokenLaws.{here, over}
 
 -- the scan of a text goes as the scan from an index on, where so many parentheses are open
@@ -72,6 +72,11 @@ module _ (text : Text) (i depth : ℕ) (s : Scans text i depth) where
         same = s.same ∙ rw (here text i h, ne_eqb (get_or text i 0) 40 opens, ne_eqb (get_or text i 0) 41 closes, e, is);
       }
 
+-- of what begins as a quantifier it is told whether this byte stands behind it
+pub foretold :
+    (c : ℕ) → c ≡ 38 → (here stop : Cursor) → StopsAt here stop → (r : Bool) → r ≡ begins_with c stop.rest.now → Foretells here.rest.now r
+foretold c is here stop s r e = record { tells = λ _. e ∙ rw (is, s.stops) }
+
 -- the first byte of a text, or the end, begins it
 pub same_byte :
     (text : Text) (c : Bor ℕ) (o : Option (Bor ℕ)) → option_copied o ≡ slice_get text 0 →
@@ -105,7 +110,7 @@ module _ (c : ℕ) where
       (t : Text) (p : ℕ) →
       (q : ℕ)
       × (token (c ∷ []) t p
-        ≡ cond (begins c t) (passed (record { what = tt; rest = drop 1 (behind_blanks t); at = suc q })) (refused Tptp q))
+      ≡ cond (begins c t) (passed (record { what = tt; rest = drop 1 (behind_blanks t); at = suc q })) (refused Tptp q))
   unfolding token begins ◌>>=◌ onwards
   one_token t p = let b = blanks-rest t p in (b.0, rw b.1 (one_byte (behind_blanks t) b.0))
 

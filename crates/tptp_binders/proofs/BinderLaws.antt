@@ -128,26 +128,25 @@ module _ (most x : ℕ) (start : Cursor) where
         reads = next ∙ rw (a.reads, e) (ap (λ (n : ℕ). got n end) (sym c.is));
       }
 
-      module _ (b : Bool) (y : b ≡ true) (mid : Cursor) (a : Reads (another comma) here b mid) where
-        one_more : from (variables most x) start ≡ plus (c.k + 1) (from (variables m (x + count)) mid)
+      module _ (b : Bool) (yes : b ≡ true) (mid : Cursor) (a : Reads (another comma) here b mid) (y : ℕ) (is : y ≡ x + count) where
+        one_more : from (variables most x) start ≡ plus (c.k + 1) (from (variables m y) mid)
         unfolding ◌>>=◌ onwards
         one_more =
             next
-            ∙ rw (a.reads, y) (plus_suc c.k (from (variables m (suc (x + c.k))) mid))
-            ∙ ap (λ (y : ℕ). plus (c.k + 1) (from (variables m y) mid)) (let e : suc (x + c.k) ≡ x + count = omega (arith, c.is) in e)
+            ∙ rw (a.reads, yes) (plus_suc c.k (from (variables m (suc (x + c.k))) mid))
+            ∙ ap (λ (z : ℕ). plus (c.k + 1) (from (variables m z) mid)) (let e : suc (x + c.k) ≡ y = omega (arith, c.is, is) in e)
 
-        pub counting_more : (end : Cursor) → Reads (declaration (x + count)) mid tt end → Counting most x start end (count + 1)
+        pub counting_more : (end : Cursor) → Reads (declaration y) mid tt end → Counting most x start end (count + 1)
         counting_more end r = record {
           k = c.k + 1;
           is = omega (arith, c.is);
           goes =
               one_more
-              ∙ ap (plus (c.k + 1)) (first m (x + count) mid end r.reads)
-              ∙ ap (λ (y : ℕ). plus (c.k + 1) (from (others m y) end)) (let z : x + count ≡ x + (c.k + 1) = omega (arith, c.is) in z);
+              ∙ ap (plus (c.k + 1)) (first m y mid end r.reads)
+              ∙ ap (λ (z : ℕ). plus (c.k + 1) (from (others m z) end)) (let e : y ≡ x + (c.k + 1) = omega (arith, c.is, is) in e);
           moved = further _ _ _ c.moved (further _ _ _ a.moved r.moved);
         }
 
-        pub counting_stuck :
-            (q : Refusal) (p : ℕ) → from (declaration (x + count)) mid ≡ refused q p → from (variables most x) start ≡ refused q p
+        pub counting_stuck : (q : Refusal) (p : ℕ) → from (declaration y) mid ≡ refused q p → from (variables most x) start ≡ refused q p
         unfolding plus
-        counting_stuck q p r = one_more ∙ ap (plus (c.k + 1)) (counting_none m (x + count) mid q p r)
+        counting_stuck q p r = one_more ∙ ap (plus (c.k + 1)) (counting_none m y mid q p r)

@@ -100,22 +100,24 @@ module _ (n x w : ℕ) (start : Cursor) (old : Words) where
         unfolding ◌>>=◌ onwards
         one_more = next ∙ rw s.reads
 
-        pub furthering_refused : (q : Refusal) (p : ℕ) → from (unequal (x + i)) mid ≡ refused q p → from (further_unequals n x) start ≡ refused q p
+        pub furthering_refused :
+            (y : ℕ) → y ≡ x + i → (q : Refusal) (p : ℕ) → from (unequal y) mid ≡ refused q p → from (further_unequals n x) start ≡ refused q p
         unfolding attach
-        furthering_refused q p e = one_more ∙ rw (first-refused m (x + i) mid q p e)
+        furthering_refused y is q p e = one_more ∙ rw (sym is, first-refused m y mid q p e)
 
         -- one more
         pub furthering_more :
-            (out' : Words) (end : Cursor) → Value (unequal (x + i)) (Stored (w + i) out out') mid end → Furthering n x w start end old out' (i + 1)
-        furthering_more out' end u = record {
+            (y : ℕ) → y ≡ x + i → (out' : Words) (end : Cursor) → Value (unequal y) (Stored (w + i) out out') mid end →
+            Furthering n x w start end old out' (i + 1)
+        furthering_more y is out' end u = record {
           ks = f.ks ++ u.what ∷ [];
           number = omega (arith, f.number, length-append f.ks (u.what ∷ []));
           goes =
               one_more
-              ∙ ap (attach f.ks) (first_read m (x + i) mid u.what end u.reads.reads)
-              ∙ attach-attach f.ks (u.what ∷ []) (from (further_unequals m (suc (x + i))) end)
-              ∙ ap (λ (y : ℕ). attach (f.ks ++ u.what ∷ []) (from (further_unequals m y) end))
-              (let e : suc (x + i) ≡ x + (i + 1) = omega arith in e);
+              ∙ rw (sym is) (ap (attach f.ks) (first_read m y mid u.what end u.reads.reads))
+              ∙ attach-attach f.ks (u.what ∷ []) (from (further_unequals m (suc y)) end)
+              ∙ ap (λ (z : ℕ). attach (f.ks ++ u.what ∷ []) (from (further_unequals m z) end))
+              (let e : suc y ≡ x + (i + 1) = omega (arith, is) in e);
           laid =
               u.holds
               ∙ ap (λ (o : Words). set o (w + i) u.what) f.laid

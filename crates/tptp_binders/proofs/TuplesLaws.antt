@@ -14,7 +14,7 @@ use Rattle.model.specs.Bytes.{ampersand}
 use Rattle.model.specs.Answer.{refused}
 use Rattle.model.specs.TptpReading.{more, up_to, read_tuple}
 use Rattle.model.specs.declared.Refusal.{Refusal}
-use Rattle.tptp_tokens.specs.Steps.{from, got, Moved, Reads, Value}
+use Rattle.tptp_tokens.specs.Steps.{from, Moved, Reads, Value}
 use Rattle.tptp_tokens.specs.Several.{another}
 use Rattle.tptp_tokens.specs.Laying.{most_words}
 use Rattle.tptp_binders.specs.Tuples.{StoredAll, StoredTuples}

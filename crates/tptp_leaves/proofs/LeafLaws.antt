@@ -12,10 +12,10 @@ use Rattle.std.specs.Prelude.{Option, Some, None, slice_get, Result}
 use Rattle.text.specs.declared.cursor.Cursor.{Cursor}
 use Rattle.model.specs.Words.{Words}
 use Rattle.model.specs.Lists.{gather}
-use Rattle.model.specs.Bytes.{Text, bytes, blank}
+use Rattle.model.specs.Bytes.{Text, bytes}
 use Rattle.model.specs.Answer.{passed, refused}
 use Rattle.model.specs.Tree.{Term, constant, variable, Tree, plain, atom, compare, encode_term, encode}
-use Rattle.model.specs.TptpReading.{stop, blanks, onwards, peek, look, literal, token, ◌>>=◌}
+use Rattle.model.specs.TptpReading.{stop, blanks, onwards, peek, literal, token, ◌>>=◌}
 use Rattle.model.specs.TptpReading.{read_atom, read_compare, read_dollar, read_negated}
 use Rattle.model.specs.declared.Refusal.TheVariants.{Tptp}
 use Rattle.model.specs.declared.Refused.{Refused}

@@ -2,17 +2,17 @@
 use Prim.Native.Nat.{ℕ, ◌+◌, ◌*◌, ◌-◌, ◌≤◌, ◌<◌}
 use native.Mathlib.Numerals.{add-one}
 use native.Mathlib.Omega.{arith}
-use mathlib.Core.Path.{◌≡◌, refl, sym, ap, ap₂, ◌∙◌, subst}
+use mathlib.Core.Path.{◌≡◌, refl, sym, ap, ◌∙◌, subst}
 use mathlib.Core.Bool.{Bool, true, false}
 use mathlib.Core.List.{List, [], ◌∷◌, ◌++◌, append_assoc, append-nil}
 use lib.ListN.{length, take, drop, set, get_or, length-set, length-append}
-use lib.Seq.{take-suc, take-suc-set, take-set-le, take-set-lt, take-append-le, take-take, set_at, length-take-le}
+use lib.Seq.{take-suc, take-suc-set, take-set-lt, set_at, length-take-le}
 use lib.IntN.{ℤ, pos}
 use borrow.Author.Tests.{ne_eqb}
 use Rattle.std.specs.Prelude.{Option, Some, None, slice_get, Result}
 use Rattle.model.specs.Words.{Words}
 use Rattle.model.specs.Lists.{gather}
-use Rattle.model.specs.Bytes.{Text, bytes, comma}
+use Rattle.model.specs.Bytes.{bytes, comma}
 use Rattle.model.specs.Answer.{refused}
 use Rattle.model.specs.Tree.{Term, encode_term}
 use Rattle.model.specs.TptpReading.{look, blanks, peek, onwards, ◌>>=◌, integer, term, terms, up_to}

@@ -53,8 +53,7 @@ module _ (c : ℕ) (old mid : Cursor) (s : Skips old mid) where
   another-here b h is new k one r e =
       let h' = h ∙ ap (λ (d : ℕ). Some d) is in
       let r' = r ∙ ap (λ (n : ℕ). drop n mid.rest.now) one in
-      let t = token-self old mid s new r' (omega (arith, e, one)) c h' in
-      (
+      let t = token-self old mid s new r' (omega (arith, e, one)) c h' in (
         record { moved = further old mid new s.reads.moved t.moved; reads = rw (look-here old mid s b h, eq-eqb b c is, t.reads) },
         omega (arith, s.reads.moved.low, e, one),
       )

@@ -1,6 +1,5 @@
 -- `tptp_binders::ahead::stop_index` meets its contract. The loop's invariant: the scan from here goes as that from the start.
 use native.Mathlib.Omega.{arith}
-use mathlib.Core.Path.{refl}
 use Rattle.tptp_binders.proofs.AheadLaws.{scan_end, scan_open, scan_close, scan_closing, scan_other, scan_connective}
 use Rattle.tptp_binders.proofs.ahead.stop_index.Goals as goal
 use Rattle.tptp_binders.proofs.ahead.stop_index.Goals.{then-b-eq40, else-b-eq40+then-b-eq41+else-depth-eq0, else-b-eq40+else-b-eq41+else-depth-b}
@@ -19,7 +18,7 @@ loop-i-preserved c =
     let rest = c.args.rest.now in
     let l = c.loop-i in
     elim c.if-b-eq40.branch [
-      | then-b-eq40 w ↦ scan_open rest l.i l.depth l.invariant c.loop-i-test.true _ w.if-b-eq40.true w.depth-is
+      | then-b-eq40 w ↦ scan_open rest l.i l.depth l.invariant c.loop-i-test.true _ w.if-b-eq40.true (omega (arith, w.depth-is))
       | else-b-eq40+then-b-eq41+else-depth-eq0 w ↦
           scan_close rest l.i l.depth l.invariant c.loop-i-test.true _ w.if-b-eq41.true w.if-depth-eq0.false w.depth-is
       | else-b-eq40+else-b-eq41+else-depth-b w ↦

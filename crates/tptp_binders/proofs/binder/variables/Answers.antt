@@ -23,7 +23,7 @@ pub returns-then-not-branch : goal.returns-then-not-branch
 returns-then-not-branch c =
     let a = c.args in (
       counting_stop a.most a.x a.here.now c.loop-count.invariant (omega (arith, c.loop-count-test.true)) _ c.if-not-branch.true
-      c.another.new.here c.in_ok-another.ensures.0,
+          c.another.new.here c.in_ok-another.ensures.0,
       omega (arith, c.loop-count.invariant.is),
       omega (arith, c.loop-count-test.true),
     )
@@ -33,13 +33,13 @@ returns-in_err-declared-2 c =
     let a = c.args in
     rw (passed_on _ c.from_residual-in_err-declared-2.ensures.1)
     (counting_stuck a.most a.x a.here.now c.loop-count.invariant (omega (arith, c.loop-count-test.true)) _ c.if-not-branch.false
-    c.another.new.here c.in_ok-another.ensures.0 _ _ c.in_err-declared-2.ensures)
+    c.another.new.here c.in_ok-another.ensures.0 _ (omega arith) _ _ c.in_err-declared-2.ensures)
 
 pub loop-count-preserved : goal.loop-count-preserved
 loop-count-preserved c =
     let a = c.args in
     counting_more a.most a.x a.here.now c.loop-count.invariant (omega (arith, c.loop-count-test.true)) _ c.if-not-branch.false
-    c.another.new.here c.in_ok-another.ensures.0 c.declared-in-loop-count.new.here c.in_ok-declared-2.ensures
+    c.another.new.here c.in_ok-another.ensures.0 _ (omega arith) c.declared-in-loop-count.new.here c.in_ok-declared-2.ensures
 
 pub returns : goal.returns
 returns c =

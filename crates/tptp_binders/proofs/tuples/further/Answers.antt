@@ -18,13 +18,13 @@ returns-in_err-unequal c =
     let a = c.args in
     rw (passed_on _ c.from_residual-in_err-unequal.ensures.1)
     (furthering_refused a.n a.x a.w a.here.now a.out.now c.loop-i.invariant c.loop-i-test.true c.expect.new.here c.in_ok-expect.ensures
-    _ _ c.in_err-unequal.ensures)
+    _ (omega arith) _ _ c.in_err-unequal.ensures)
 
 pub loop-i-preserved : goal.loop-i-preserved
 loop-i-preserved c =
     let a = c.args in
     furthering_more a.n a.x a.w a.here.now a.out.now c.loop-i.invariant c.loop-i-test.true c.expect.new.here c.in_ok-expect.ensures
-    _ c.unequal.new.here c.in_ok-unequal.ensures
+    _ (omega arith) _ c.unequal.new.here c.in_ok-unequal.ensures
 
 pub returns : goal.returns
 returns c =

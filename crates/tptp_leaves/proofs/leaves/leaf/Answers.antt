@@ -23,7 +23,7 @@ pub returns-in_default : goal.returns-in_default
 returns-in_default c =
     elim c.in_default.branch [
       | in_default-via-in-Some+in_default w ↦
-        leaf-none c.args.here.now c.args.room c.requires.0 (search rules) (search rules) (search rules)
+          leaf-none c.args.here.now c.args.room c.requires.0 (search rules) (search rules) (search rules)
       | in_default-via-in_default w ↦
-        leaf-none c.args.here.now c.args.room c.requires.0 (search rules) (search rules) (search rules)
+          leaf-none c.args.here.now c.args.room c.requires.0 (search rules) (search rules) (search rules)
     ]

@@ -15,8 +15,7 @@ returns-in-Some c =
     (r, λ _. l)
 
 pub returns-in-Some-2 : goal.returns-in-Some-2
-returns-in-Some-2 c =
-    (
-      another-other c.args.c c.args.here.now c.skip.new.here c.skip.ensures c.in-Some.field-0.now (search rules) c.if-b-c.false,
-      λ (e : _). cc,
-    )
+returns-in-Some-2 c = (
+  another-other c.args.c c.args.here.now c.skip.new.here c.skip.ensures c.in-Some.field-0.now (search rules) c.if-b-c.false,
+  λ (e : _). cc,
+)
