@@ -21,30 +21,38 @@ use Rattle.model.specs.declared.Refusal.TheVariants.{Tptp}
 use Rattle.model.specs.declared.Refused.{Refused}
 use Rattle.laws.specs.Putting.Modes.{terms-length}
 use Rattle.tptp_tokens.specs.Steps.{from, got, Skips, Valued}
-use Rattle.tptp_tokens.specs.Laying.{Stored}
-use Rattle.tptp_leaves.specs.Terms.{TermStands, TermsStand}
-use Rattle.tptp_leaves.specs.Leaves.{Unblank, LeafStands, read_plain, behind_dollar, behind_negation, read_leaf}
+use Rattle.tptp_leaves.specs.declared.own.Own.{Own}
+use Rattle.tptp_leaves.specs.declared.terms.TermWords.{TermWords}
+use Rattle.tptp_leaves.specs.Room.{Becomes}
+use Rattle.tptp_leaves.specs.Terms.{TermsStand}
+use Rattle.tptp_leaves.specs.Leaves.{Unblank, LeafPut, read_plain, behind_dollar, behind_negation, read_leaf}
 use Rattle.tptp_tokens.proofs.MovedLaws.{still}
 use Rattle.tptp_tokens.proofs.BehindLaws.{valued_from}
 use Rattle.tptp_tokens.proofs.TokenLaws.{begun, ended, look-here, look-over, token-here}
-use Rattle.tptp_leaves.proofs.TermLaws.{two-words}
+use Rattle.tptp_leaves.proofs.TermLaws.{two-words, term-put, kept-further}
 
 -- an atom
 pub atom-stands :
-    (b : Bool) (p : ℕ) (ts : List Term) (own own₁ own₂ own₃ : Words) → 15 ≤ length own → own₁ ≡ set own 0 (pos (cond b 2 3)) →
-    own₂ ≡ set own₁ 1 (pos p) → TermsStand own₂ own₃ ts → LeafStands own₃ (atom b p ts)
+    (b : Bool) (p : ℕ) (ts : List Term) (own own₁ own₂ own₃ : Own) (x : ℕ) → x ≡ cond b 2 3 →
+    Becomes own (set own.words.now 0 (pos x)) own₁ → Becomes own₁ (set own₁.words.now 1 (pos p)) own₂ → TermsStand own₂ own₃ ts →
+    LeafPut own own₃ (atom b p ts)
 unfolding encode
-atom-stands b p ts own own₁ own₂ own₃ long tag e t =
-    let front : take 2 own₂ ≡ pos (cond b 2 3) ∷ pos p ∷ [] =
-    two-words own own₂ 0 (pos (cond b 2 3)) (pos p) (omega arith) (e ∙ ap (λ (ws : Words). set ws 1 (pos p)) tag) in
+atom-stands b p ts own own₁ own₂ own₃ x is tag e t =
+    let ws = own.words.now in
+    let front : take 2 own₂.words.now ≡ pos (cond b 2 3) ∷ pos p ∷ [] =
+    two-words ws own₂.words.now 0 (pos (cond b 2 3)) (pos p) (omega (arith, own.long))
+    (e.now ∙ ap (λ (us : Words). set us 1 (pos p)) (tag.now ∙ ap (λ (n : ℕ). set ws 0 (pos n)) is)) in
     let size : suc (suc (suc (length (gather encode_term ts)))) ≡ 3 + 2 * length ts = omega (arith, terms-length ts) in
     record {
-      leaf = refl;
-      most = omega (arith, terms-length ts, t.most);
-      words =
-          ap (λ (n : ℕ). take n own₃) size
-          ∙ t.words
-          ∙ ap (λ (ws : Words). ws ++ pos (length ts) ∷ gather encode_term ts) front;
+      kept = kept-further own own₁ own₃ tag.kept (kept-further own₁ own₂ own₃ e.kept t.kept);
+      stands = record {
+        leaf = refl;
+        most = omega (arith, terms-length ts, t.most);
+        words =
+            ap (λ (n : ℕ). take n own₃.words.now) size
+            ∙ t.words
+            ∙ ap (λ (us : Words). us ++ pos (length ts) ∷ gather encode_term ts) front;
+      };
     }
 
 -- a comparison
@@ -53,32 +61,50 @@ unfolding encode_term
 term-two (constant k) = refl
 term-two (variable x) = refl
 
-module _ (b : Bool) (own own₁ own₂ own₃ own₄ : Words) (long : 15 ≤ length own) (tag : own₁ ≡ set own 0 (pos (cond b 4 5))) where
+module _
+    (b : Bool) (own own₁ own₂ own₃ own₄ : Own) (n : ℕ) (is : n ≡ cond b 4 5) (tag : Becomes own (set own.words.now 0 (pos n)) own₁) where
   pub compare-stands :
-      (d : ℤ) (x y : Term) → TermStands 2 own₁ own₂ x → Stored 1 own₂ own₃ d → TermStands 4 own₃ own₄ y → LeafStands own₄ (compare b d x y)
+      (d z : ℤ) → z ≡ d → (x y : Term) (w v : TermWords) →
+      encode_term x ≡ w.kind ∷ w.number ∷ [] → Becomes own₁ (set (set own₁.words.now 2 w.kind) 3 w.number) own₂ →
+      Becomes own₂ (set own₂.words.now 1 z) own₃ →
+      encode_term y ≡ v.kind ∷ v.number ∷ [] → Becomes own₃ (set (set own₃.words.now 4 v.kind) 5 v.number) own₄ →
+      LeafPut own own₄ (compare b d x y)
   unfolding encode
-  compare-stands d x y u e v = record {
-    leaf = refl;
-    most = omega (arith, length-append (encode_term x) (encode_term y), term-two x, term-two y);
-    words = ap (λ (n : ℕ). take n own₄) size ∙ v ∙ ap (λ (ws : Words). ws ++ encode_term y) (front own long tag);
+  compare-stands d z same x y w v xs p e ys q = record {
+    kept = kept-further own own₁ own₄ tag.kept (kept-further own₁ own₂ own₄ p.kept (kept-further own₂ own₃ own₄ e.kept q.kept));
+    stands = record {
+      leaf = refl;
+      most = omega (arith, length-append (encode_term x) (encode_term y), term-two x, term-two y);
+      words =
+          ap (λ (k : ℕ). take k own₄.words.now) size
+          ∙ term-put own₃ own₄ 4 v (omega arith) y ys q
+          ∙ ap (λ (ws : Words). ws ++ encode_term y) (front own.words.now own.long (tag.now ∙ ap (λ (k : ℕ). set own.words.now 0 (pos k)) is));
+    };
   }
     where
       size : suc (suc (length (encode_term x ++ encode_term y))) ≡ 6
       size = omega (arith, length-append (encode_term x) (encode_term y), term-two x, term-two y)
 
-      front : (own : Words) → 15 ≤ length own → own₁ ≡ set own 0 (pos (cond b 4 5)) → take 4 own₃ ≡ pos (cond b 4 5) ∷ d ∷ encode_term x
+      front : (ws : Words) → 15 ≤ length ws → own₁.words.now ≡ set ws 0 (pos (cond b 4 5)) → take 4 own₃.words.now ≡ pos (cond b 4 5) ∷ d ∷ encode_term x
       front [] h t = absurd (omega arith)
       front (k ∷ []) h t = absurd (omega arith)
       front (k ∷ l ∷ ws) h t =
-          ap (take 4) e
-          ∙ take-set-lt 4 own₂ 1 d (omega arith)
-          ∙ ap (λ (us : Words). set us 1 d) (u ∙ ap (λ (us : Words). take 2 us ++ encode_term x) t)
+          ap (take 4) (e.now ∙ ap (λ (i : ℤ). set own₂.words.now 1 i) same)
+          ∙ take-set-lt 4 own₂.words.now 1 d (omega arith)
+          ∙ ap (λ (us : Words). set us 1 d) (term-put own₁ own₂ 2 w (omega arith) x xs p ∙ ap (λ (us : Words). take 2 us ++ encode_term x) t)
 
 -- plain true or false
-pub plain-stands : (b : Bool) (own own₁ : Words) → 15 ≤ length own → own₁ ≡ set own 0 (pos (cond b 1 0)) → LeafStands own₁ (plain b)
+pub plain-stands :
+    (b : Bool) (own own₁ : Own) (n : ℕ) → n ≡ cond b 1 0 → Becomes own (set own.words.now 0 (pos n)) own₁ → LeafPut own own₁ (plain b)
 unfolding encode
-plain-stands b [] own₁ l t = absurd (omega arith)
-plain-stands b (k ∷ ws) own₁ l t = record { leaf = refl; most = omega arith; words = ap (take 1) t }
+plain-stands b own own₁ n is p = record {
+  kept = p.kept;
+  stands = record { leaf = refl; most = omega arith; words = front own.words.now own.long (p.now ∙ ap (λ (k : ℕ). set own.words.now 0 (pos k)) is) };
+}
+  where
+    front : (ws : Words) → 15 ≤ length ws → own₁.words.now ≡ set ws 0 (pos (cond b 1 0)) → take 1 own₁.words.now ≡ pos (cond b 1 0) ∷ []
+    front [] h t = absurd (omega arith)
+    front (k ∷ ws) h t = ap (take 1) t
 
 -- a byte is another one
 other : (t : Text) (b c : ℕ) → slice_get t 0 ≡ Some b → (slice_get t 0 ≡ Some c → ⊥) → b ≡ c → ⊥

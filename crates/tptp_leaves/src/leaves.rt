@@ -5,17 +5,16 @@ ghost use Rattle.model.specs.TptpReading as R;
 ghost use Rattle.tptp_leaves.specs.Leaves as L;
 ghost use Rattle.tptp_tokens.specs.Steps.{Valued};
 
+use crate::own::Own;
 use crate::terms::{term, terms};
 use model::{Refusal, Refused};
 use text::bytes;
 use text::cursor::Cursor;
-use text::word::put;
-use tptp_tokens::laying::lay_integer;
-use tptp_tokens::numbers::natural;
+use tptp_tokens::numbers::{integer, natural};
 use tptp_tokens::tokens::{expect, literal, opening, skip, token};
 
-// One of two numbers.
-// A function of its own: an `if` at each call would leave its two ways to be joined in each goal behind it.
+// One of two numbers. A function of its own, since the callers' proofs cite its contract: an `if` at each call would leave its two ways to
+// be joined in each goal behind it.
 pub fn either(b: bool, x: usize, y: usize) -> usize
     ensures { result ≡ cond b x y }
 {
@@ -23,50 +22,47 @@ pub fn either(b: bool, x: usize, y: usize) -> usize
 }
 
 // An atom that holds, or fails.
-fn atom(here: &mut Cursor<'_>, room: usize, holds: bool, own: &mut [i32]) -> Result<(), Refused>
-    requires { 15 ≤ length own.old }
-    ensures { Valued (R.read_atom room holds) (L.LeafStands own.new) here.old here.new result }
+fn atom(here: &mut Cursor<'_>, room: usize, holds: bool, own: &mut Own<'_>) -> Result<(), Refused>
+    ensures { Valued (R.read_atom room holds) (L.LeafPut own.old own.new) here.old here.new result }
 {
-    put(own, 0, either(holds, 2, 3), false);
+    own.put(0, either(holds, 2, 3));
     expect(here, 112)?;
     let predicate = natural(here)?;
-    put(own, 1, predicate, false);
+    own.put(1, predicate);
     opening(here, room)?;
     terms(here, own)?;
     expect(here, 41)
 }
 
 // A comparison, or its negation, behind its name.
-fn compare(here: &mut Cursor<'_>, room: usize, holds: bool, own: &mut [i32]) -> Result<(), Refused>
-    requires { 15 ≤ length own.old }
-    ensures { Valued (R.read_compare room holds) (L.LeafStands own.new) here.old here.new result }
+fn compare(here: &mut Cursor<'_>, room: usize, holds: bool, own: &mut Own<'_>) -> Result<(), Refused>
+    ensures { Valued (R.read_compare room holds) (L.LeafPut own.old own.new) here.old here.new result }
 {
-    put(own, 0, either(holds, 4, 5), false);
+    own.put(0, either(holds, 4, 5));
     opening(here, room)?;
     token(here, b"$sum")?;
     opening(here, room.saturating_sub(1))?;
-    term(here, own, 2)?;
+    own.put_term(2, term(here)?);
     expect(here, bytes::COMMA)?;
-    lay_integer(here, own, 1)?;
+    own.put_number(1, integer(here)?);
     expect(here, 41)?;
     expect(here, bytes::COMMA)?;
-    term(here, own, 4)?;
+    own.put_term(4, term(here)?);
     expect(here, 41)
 }
 
 // Plain true or false, whose bytes stand here.
-fn plain(here: &mut Cursor<'_>, value: bool, word: &[u8], own: &mut [i32]) -> Result<(), Refused>
-    requires { (1 ≤ length word.now) × (15 ≤ length own.old) }
-    ensures { Valued (L.read_plain word.now value) (L.LeafStands own.new) here.old here.new result }
+fn plain(here: &mut Cursor<'_>, value: bool, word: &[u8], own: &mut Own<'_>) -> Result<(), Refused>
+    requires { 1 ≤ length word.now }
+    ensures { Valued (L.read_plain word.now value) (L.LeafPut own.old own.new) here.old here.new result }
 {
-    put(own, 0, either(value, 1, 0), false);
+    own.put(0, either(value, 1, 0));
     literal(here, word)
 }
 
 // Behind a dollar: plain true or false, or a comparison.
-fn dollar(here: &mut Cursor<'_>, room: usize, own: &mut [i32]) -> Result<(), Refused>
-    requires { 15 ≤ length own.old }
-    ensures { Valued (L.behind_dollar room) (L.LeafStands own.new) here.old here.new result }
+fn dollar(here: &mut Cursor<'_>, room: usize, own: &mut Own<'_>) -> Result<(), Refused>
+    ensures { Valued (L.behind_dollar room) (L.LeafPut own.old own.new) here.old here.new result }
 {
     match here.rest.first() {
         Some(&116) => plain(here, true, b"true", own),
@@ -79,9 +75,8 @@ fn dollar(here: &mut Cursor<'_>, room: usize, own: &mut [i32]) -> Result<(), Ref
 }
 
 // Behind a negation: an atom or a comparison.
-fn negated(here: &mut Cursor<'_>, room: usize, own: &mut [i32]) -> Result<(), Refused>
-    requires { 15 ≤ length own.old }
-    ensures { Valued (L.behind_negation room) (L.LeafStands own.new) here.old here.new result }
+fn negated(here: &mut Cursor<'_>, room: usize, own: &mut Own<'_>) -> Result<(), Refused>
+    ensures { Valued (L.behind_negation room) (L.LeafPut own.old own.new) here.old here.new result }
 {
     skip(here);
     if here.rest.first() == Some(&112) {
@@ -92,9 +87,9 @@ fn negated(here: &mut Cursor<'_>, room: usize, own: &mut [i32]) -> Result<(), Re
 }
 
 // A node with none below it, whose first byte stands here.
-pub fn leaf(here: &mut Cursor<'_>, room: usize, own: &mut [i32]) -> Result<(), Refused>
-    requires { L.Unblank here.old.rest.now × (15 ≤ length own.old) }
-    ensures { Valued (L.read_leaf room) (L.LeafStands own.new) here.old here.new result }
+pub fn leaf(here: &mut Cursor<'_>, room: usize, own: &mut Own<'_>) -> Result<(), Refused>
+    requires { L.Unblank here.old.rest.now }
+    ensures { Valued (L.read_leaf room) (L.LeafPut own.old own.new) here.old here.new result }
 {
     match here.rest.first() {
         Some(&36) => {

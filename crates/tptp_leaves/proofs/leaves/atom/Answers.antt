@@ -1,14 +1,10 @@
 -- `tptp_leaves::leaves::atom` meets its contract.
-use Prim.Native.Nat.{ℕ}
-use mathlib.Core.Path.{ap, ◌∙◌}
 use mathlib.Core.List.{[], ◌∷◌}
-use lib.ListN.{set}
-use lib.IntN.{pos}
 use Rattle.model.specs.Bytes.{bytes}
 use Rattle.model.specs.Tree.{atom}
 use Rattle.model.specs.TptpReading.{read_atom, token, onwards, ◌>>=◌}
 use Rattle.laws.specs.Answer.{passed_on}
-use Rattle.tptp_leaves.specs.Leaves.{LeafStands}
+use Rattle.tptp_leaves.specs.Leaves.{LeafPut}
 use Rattle.tptp_tokens.proofs.MovedLaws.{further}
 use Rattle.tptp_tokens.proofs.BehindLaws.{closed_from}
 use Rattle.tptp_leaves.proofs.LeafLaws.{atom-stands}
@@ -43,11 +39,10 @@ returns c =
     let p = c.in_ok-predicate.ensures.0 in
     let open_one = c.in_ok-opening.ensures in
     let ts = c.in_ok-terms.ensures in
-    let tag = c.put.ensures ∙ ap (λ (n : ℕ). set a.own.now 0 (pos n)) c.either.ensures in
     closed_from a.here.now c.terms.new.here c.expect-2.new.here
     (further _ _ _ name.moved (further _ _ _ p.moved (further _ _ _ open_one.moved ts.reads.moved)))
-    (read_atom a.room a.holds) (token (41 ∷ [])) (atom a.holds c.in_ok-predicate.predicate ts.what) (LeafStands c.terms.new.own)
+    (read_atom a.room a.holds) (token (41 ∷ [])) (atom a.holds c.in_ok-predicate.predicate ts.what) (LeafPut a.own.now c.terms.new.own)
     (rw (name.reads, p.reads, open_one.reads, ts.reads.reads))
-    (atom-stands a.holds c.in_ok-predicate.predicate ts.what a.own.now c.put.new.row c.put-2.new.row c.terms.new.own c.requires tag
-    c.put-2.ensures ts.holds)
+    (atom-stands a.holds c.in_ok-predicate.predicate ts.what a.own.now c.put.new.self c.put-2.new.self c.terms.new.own c.either.result
+    c.either.ensures c.put.ensures c.put-2.ensures ts.holds)
     c.expect-2.result c.expect-2.ensures

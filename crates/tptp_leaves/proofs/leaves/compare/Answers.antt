@@ -1,14 +1,12 @@
 -- `tptp_leaves::leaves::compare` meets its contract.
-use Prim.Native.Nat.{ℕ}
-use mathlib.Core.Path.{sym, ap, ◌∙◌}
+use mathlib.Core.Path.{◌≡◌, sym}
 use mathlib.Core.List.{[], ◌∷◌}
-use lib.ListN.{set}
-use lib.IntN.{pos}
+use Rattle.std.proofs.Common.{rules, to_z, of_z, w32}
 use Rattle.model.specs.Bytes.{bytes}
 use Rattle.model.specs.Tree.{compare}
 use Rattle.model.specs.TptpReading.{read_compare, token, onwards, ◌>>=◌}
 use Rattle.laws.specs.Answer.{passed_on}
-use Rattle.tptp_leaves.specs.Leaves.{LeafStands}
+use Rattle.tptp_leaves.specs.Leaves.{LeafPut}
 use Rattle.tptp_tokens.proofs.MovedLaws.{further}
 use Rattle.tptp_tokens.proofs.BehindLaws.{closed_from}
 use Rattle.tptp_leaves.proofs.LeafLaws.{compare-stands}
@@ -57,10 +55,10 @@ returns-in_err-expect c =
       c.in_err-expect.ensures,
     ))
 
-pub returns-in_err-lay_integer : goal.returns-in_err-lay_integer
+pub returns-in_err-integer : goal.returns-in_err-integer
 unfolding read_compare bytes ◌>>=◌ onwards
-returns-in_err-lay_integer c =
-    rw (passed_on _ c.from_residual-in_err-lay_integer.ensures.1)
+returns-in_err-integer c =
+    rw (passed_on _ c.from_residual-in_err-integer.ensures.1)
     (rw (
       sym c.saturating_sub.ensures,
       c.in_ok-opening.ensures.reads,
@@ -68,7 +66,7 @@ returns-in_err-lay_integer c =
       c.in_ok-opening-2.ensures.reads,
       c.in_ok-term.ensures.reads.reads,
       c.in_ok-expect.ensures.reads,
-      c.in_err-lay_integer.ensures,
+      c.in_err-integer.ensures,
     ))
 
 pub returns-in_err-expect-2 : goal.returns-in_err-expect-2
@@ -82,7 +80,7 @@ returns-in_err-expect-2 c =
       c.in_ok-opening-2.ensures.reads,
       c.in_ok-term.ensures.reads.reads,
       c.in_ok-expect.ensures.reads,
-      c.in_ok-lay_integer.ensures.reads.reads,
+      c.in_ok-integer.ensures.0.reads,
       c.in_err-expect-2.ensures,
     ))
 
@@ -97,7 +95,7 @@ returns-in_err-expect-3 c =
       c.in_ok-opening-2.ensures.reads,
       c.in_ok-term.ensures.reads.reads,
       c.in_ok-expect.ensures.reads,
-      c.in_ok-lay_integer.ensures.reads.reads,
+      c.in_ok-integer.ensures.0.reads,
       c.in_ok-expect-2.ensures.reads,
       c.in_err-expect-3.ensures,
     ))
@@ -113,7 +111,7 @@ returns-in_err-term-2 c =
       c.in_ok-opening-2.ensures.reads,
       c.in_ok-term.ensures.reads.reads,
       c.in_ok-expect.ensures.reads,
-      c.in_ok-lay_integer.ensures.reads.reads,
+      c.in_ok-integer.ensures.0.reads,
       c.in_ok-expect-2.ensures.reads,
       c.in_ok-expect-3.ensures.reads,
       c.in_err-term-2.ensures,
@@ -124,12 +122,12 @@ unfolding read_compare bytes ◌>>=◌ onwards
 returns c =
     let a = c.args in
     let x = c.in_ok-term.ensures in
-    let d = c.in_ok-lay_integer.ensures in
+    let d = c.in_ok-integer.field-0 in
     let y = c.in_ok-term-2.ensures in
-    let tag = c.put.ensures ∙ ap (λ (n : ℕ). set a.own.now 0 (pos n)) c.either.ensures in
+    let back : to_z w32 (of_z w32 d) ≡ d = search rules in
     closed_from a.here.now c.term-2.new.here c.expect-4.new.here
-    (further _ _ _ c.in_ok-opening.ensures.moved (further _ _ _ c.in_ok-token.ensures.moved (further _ _ _ c.in_ok-opening-2.ensures.moved (further _ _ _ c.in_ok-term.ensures.reads.moved (further _ _ _ c.in_ok-expect.ensures.moved (further _ _ _ c.in_ok-lay_integer.ensures.reads.moved (further _ _ _ c.in_ok-expect-2.ensures.moved (further _ _ _ c.in_ok-expect-3.ensures.moved c.in_ok-term-2.ensures.reads.moved))))))))
-    (read_compare a.room a.holds) (token (41 ∷ [])) (compare a.holds d.what x.what y.what) (LeafStands c.term-2.new.own)
+    (further _ _ _ c.in_ok-opening.ensures.moved (further _ _ _ c.in_ok-token.ensures.moved (further _ _ _ c.in_ok-opening-2.ensures.moved (further _ _ _ x.reads.moved (further _ _ _ c.in_ok-expect.ensures.moved (further _ _ _ c.in_ok-integer.ensures.0.moved (further _ _ _ c.in_ok-expect-2.ensures.moved (further _ _ _ c.in_ok-expect-3.ensures.moved y.reads.moved))))))))
+    (read_compare a.room a.holds) (token (41 ∷ [])) (compare a.holds d x.what y.what) (LeafPut a.own.now c.put_term-2.new.self)
     (rw (
       sym c.saturating_sub.ensures,
       c.in_ok-opening.ensures.reads,
@@ -137,11 +135,11 @@ returns c =
       c.in_ok-opening-2.ensures.reads,
       c.in_ok-term.ensures.reads.reads,
       c.in_ok-expect.ensures.reads,
-      c.in_ok-lay_integer.ensures.reads.reads,
+      c.in_ok-integer.ensures.0.reads,
       c.in_ok-expect-2.ensures.reads,
       c.in_ok-expect-3.ensures.reads,
       c.in_ok-term-2.ensures.reads.reads,
     ))
-    (compare-stands a.holds a.own.now c.put.new.row c.term.new.own c.lay_integer.new.out c.term-2.new.own c.requires tag
-    d.what x.what y.what x.holds d.holds y.holds)
+    (compare-stands a.holds a.own.now c.put.new.self c.put_term.new.self c.put_number.new.self c.put_term-2.new.self _ c.either.ensures
+    c.put.ensures d _ back x.what y.what _ _ x.holds c.put_term.ensures c.put_number.ensures y.holds c.put_term-2.ensures)
     c.expect-4.result c.expect-4.ensures

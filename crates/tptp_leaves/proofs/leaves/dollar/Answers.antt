@@ -6,7 +6,7 @@ use Rattle.model.specs.Bytes.{bytes}
 use Rattle.model.specs.TptpReading.{literal, read_compare, onwards, ◌>>=◌}
 use Rattle.laws.specs.Answer.{passed_on}
 use Rattle.tptp_tokens.specs.Steps.{from}
-use Rattle.tptp_leaves.specs.Leaves.{LeafStands, behind_dollar}
+use Rattle.tptp_leaves.specs.Leaves.{LeafPut, behind_dollar}
 use Rattle.tptp_tokens.proofs.BehindLaws.{valued_from}
 use Rattle.tptp_leaves.proofs.LeafLaws.{dollar-true, dollar-false, dollar-compare}
 use Rattle.tptp_leaves.proofs.leaves.dollar.Goals as goal
@@ -46,4 +46,4 @@ returns-in_ok-literal-in_default c =
       | in_default-via-in_default w ↦ dollar-compare here room (search rules) (search rules)
     ] in
     valued_from here c.literal.new.here c.compare.new.here name.moved (behind_dollar room) (read_compare room true)
-    (LeafStands c.compare.new.own) (less ∙ rw name.reads) c.compare.result c.compare.ensures
+    (LeafPut c.args.own.now c.compare.new.own) (less ∙ rw name.reads) c.compare.result c.compare.ensures

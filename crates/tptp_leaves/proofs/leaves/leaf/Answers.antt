@@ -6,24 +6,24 @@ use Rattle.tptp_leaves.proofs.leaves.leaf.Goals.{in_default-via-in-Some+in_defau
 
 pub returns-in-Some-eq36 : goal.returns-in-Some-eq36
 returns-in-Some-eq36 c =
-    leaf-dollar c.args.here.now c.args.room c.requires.0 _ c.dollar.new.here c.dollar.result
+    leaf-dollar c.args.here.now c.args.room c.requires _ c.dollar.new.here c.dollar.result
     c.pass.new.self c.pass.ensures.rest c.pass.ensures.at (search rules) c.dollar.ensures
 
 pub returns-in-Some-eq112 : goal.returns-in-Some-eq112
 returns-in-Some-eq112 c =
-    leaf-atom c.args.here.now c.args.room c.requires.0 _ c.atom.new.here c.atom.result (search rules) c.atom.ensures
+    leaf-atom c.args.here.now c.args.room c.requires _ c.atom.new.here c.atom.result (search rules) c.atom.ensures
 
 pub returns-in-Some-eq126 : goal.returns-in-Some-eq126
 returns-in-Some-eq126 c =
     let p = c.pass-in-Some-eq126 in
-    leaf-negated c.args.here.now c.args.room c.requires.0 _ c.negated.new.here c.negated.result
+    leaf-negated c.args.here.now c.args.room c.requires _ c.negated.new.here c.negated.result
     p.new.self p.ensures.rest p.ensures.at (search rules) c.negated.ensures
 
 pub returns-in_default : goal.returns-in_default
 returns-in_default c =
     elim c.in_default.branch [
       | in_default-via-in-Some+in_default w ↦
-          leaf-none c.args.here.now c.args.room c.requires.0 (search rules) (search rules) (search rules)
+          leaf-none c.args.here.now c.args.room c.requires (search rules) (search rules) (search rules)
       | in_default-via-in_default w ↦
-          leaf-none c.args.here.now c.args.room c.requires.0 (search rules) (search rules) (search rules)
+          leaf-none c.args.here.now c.args.room c.requires (search rules) (search rules) (search rules)
     ]

@@ -5,7 +5,7 @@ use borrow.Author.Rules.{rules}
 use Rattle.model.specs.Bytes.{bytes}
 use Rattle.model.specs.TptpReading.{read_compare, onwards, ◌>>=◌}
 use Rattle.laws.specs.Answer.{passed_on}
-use Rattle.tptp_leaves.specs.Leaves.{LeafStands, behind_negation}
+use Rattle.tptp_leaves.specs.Leaves.{LeafPut, behind_negation}
 use Rattle.tptp_tokens.proofs.MovedLaws.{further}
 use Rattle.tptp_tokens.proofs.BehindLaws.{valued_from}
 use Rattle.tptp_leaves.proofs.LeafLaws.{negation-atom, negation-compare}
@@ -28,4 +28,4 @@ returns c =
     let name = negation-compare a.here.now c.skip.new.here c.skip.ensures a.room (search rules) in
     let t = c.in_ok-token.ensures in
     valued_from a.here.now c.token.new.here c.compare.new.here (further _ _ _ c.skip.ensures.reads.moved t.moved) (behind_negation a.room)
-    (read_compare a.room false) (LeafStands c.compare.new.own) (name ∙ rw t.reads) c.compare.result c.compare.ensures
+    (read_compare a.room false) (LeafPut a.own.now c.compare.new.own) (name ∙ rw t.reads) c.compare.result c.compare.ensures

@@ -1,6 +1,5 @@
 -- `tptp_leaves::terms::terms` meets its contract. The loop's invariant: so many terms were read and stand with their number.
 use native.Mathlib.Omega.{arith}
-use mathlib.Core.Path.{refl}
 use Rattle.model.specs.TptpReading.{terms, onwards, ◌>>=◌}
 use Rattle.laws.specs.Answer.{passed_on}
 use Rattle.tptp_leaves.proofs.TermLaws.{listing_first, listing_refused, listing_stop, listing_none, listing_more, listing_all}
@@ -11,7 +10,7 @@ unfolding terms ◌>>=◌ onwards
 returns-in_err-term c = rw (passed_on _ c.from_residual.ensures.1) (rw c.in_err-term.ensures)
 
 pub loop-n-init : goal.loop-n-init
-loop-n-init c = listing_first _ _ c.term.new.own _ _ c.requires c.in_ok-term.ensures refl c.term.auto.own
+loop-n-init c = listing_first _ _ c.put_term.new.self _ _ _ c.in_ok-term.ensures c.put_term.ensures c.put.ensures
 
 pub returns-in_err-another : goal.returns-in_err-another
 returns-in_err-another c =
@@ -31,7 +30,7 @@ returns-in_err-term-2 c =
 pub loop-n-preserved : goal.loop-n-preserved
 loop-n-preserved c =
     listing_more c.loop-n.invariant c.loop-n-test.true _ c.if-not-branch.false c.another.new.here c.in_ok-another.ensures.0
-    _ _ _ c.in_ok-term-2.ensures c.put.ensures c.term-in-loop-n.auto.own
+    _ _ _ _ c.in_ok-term-2.ensures c.put_term-in-loop-n.ensures c.put-in-loop-n.ensures
 
 pub returns : goal.returns
 returns c = listing_all c.loop-n.invariant (omega (arith, c.loop-n-test.false))

@@ -1,13 +1,11 @@
 -- `tptp_leaves::terms::variable` meets its contract.
-use Prim.Native.Nat.{◌+◌}
-use mathlib.Core.Path.{◌≡◌, ap, ◌∙◌}
-use lib.ListN.{set}
+use mathlib.Core.Path.{◌≡◌, ap}
+use mathlib.Core.List.{List, [], ◌∷◌}
 use lib.IntN.{ℤ, pos}
 use Rattle.std.proofs.Common.{rules, to_z, w32}
 use Rattle.model.specs.Tree.{variable, encode_term}
 use Rattle.model.specs.TptpReading.{give, onwards, ◌>>=◌}
 use Rattle.laws.specs.Answer.{passed_on}
-use Rattle.tptp_leaves.proofs.TermLaws.{two-words}
 use Rattle.tptp_leaves.proofs.terms.variable.Goals as goal
 
 pub returns-in_err-number : goal.returns-in_err-number
@@ -17,13 +15,10 @@ returns-in_err-number c = rw (passed_on _ c.from_residual.ensures.1) (rw c.in_er
 pub returns : goal.returns
 unfolding give encode_term ◌>>=◌ onwards
 returns c =
-    let a = c.args in
     let x = c.in_ok-number.number in
-    let back : to_z w32 x ≡ pos x = search rules in
+    let back : pos x ≡ to_z w32 x = search rules in
     record {
       what = variable x;
       reads = record { moved = c.in_ok-number.ensures.0.moved; reads = rw c.in_ok-number.ensures.0.reads };
-      holds =
-          two-words a.own.now c.put_term.new.own a.k (pos 1) (pos x) c.requires
-          (c.put_term.ensures ∙ ap (λ (n : ℤ). set (set a.own.now a.k (pos 1)) (a.k + 1) n) back);
+      holds = ap (λ (n : ℤ). pos 1 ∷ n ∷ []) back;
     }
