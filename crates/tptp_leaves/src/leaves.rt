@@ -35,7 +35,12 @@ fn atom(here: &mut Cursor<'_>, room: usize, holds: bool, own: &mut Own<'_>) -> R
 }
 
 // A comparison, or its negation, behind its name.
-fn compare(here: &mut Cursor<'_>, room: usize, holds: bool, own: &mut Own<'_>) -> Result<(), Refused>
+fn compare(
+    here: &mut Cursor<'_>,
+    room: usize,
+    holds: bool,
+    own: &mut Own<'_>,
+) -> Result<(), Refused>
     ensures { Valued (R.read_compare room holds) (L.LeafPut own.old own.new) here.old here.new result }
 {
     own.put(0, either(holds, 4, 5));

@@ -23,7 +23,10 @@ fn variable(here: &mut Cursor<'_>) -> Result<TermWords, Refused>
     ensures { T.TermRead T.read_variable here.old here.new result }
 {
     let number = natural(here)?;
-    Ok(TermWords { kind: 1, number: number as i32 })
+    Ok(TermWords {
+        kind: 1,
+        number: number as i32,
+    })
 }
 
 // A constant.

@@ -1,6 +1,6 @@
 -- `tptp_leaves::terms::constant` meets its contract.
 use mathlib.Core.Path.{◌≡◌, ap}
-use mathlib.Core.List.{List, [], ◌∷◌}
+use mathlib.Core.List.{[], ◌∷◌}
 use lib.IntN.{ℤ, pos}
 use Rattle.std.proofs.Common.{rules, to_z, of_z, w32}
 use Rattle.model.specs.Tree.{constant, encode_term}

@@ -1,6 +1,6 @@
 -- `tptp_leaves::terms::variable` meets its contract.
 use mathlib.Core.Path.{◌≡◌, ap}
-use mathlib.Core.List.{List, [], ◌∷◌}
+use mathlib.Core.List.{[], ◌∷◌}
 use lib.IntN.{ℤ, pos}
 use Rattle.std.proofs.Common.{rules, to_z, w32}
 use Rattle.model.specs.Tree.{variable, encode_term}
