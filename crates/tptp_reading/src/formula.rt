@@ -22,35 +22,13 @@ use tptp_binders::ahead::{begins, begins_excluding, stands, stop};
 use tptp_binders::binder::binder;
 use tptp_binders::tuples::{behind_tuples, tuples};
 use tptp_leaves::leaves::{either, leaf};
+use tptp_leaves::own::Own;
 use tptp_state::state::{State, outer_variables};
 use tptp_tokens::laying::lay;
 use tptp_tokens::several::another;
 use tptp_tokens::tokens::{expect, opening, skip, token};
 
 // A node with none below it, whose first byte stands here; its words stand apart for a moment.
-fn leaf_apart(
-    table: &[i32],
-    here: &mut Cursor<'_>,
-    room: usize,
-    role: Role,
-    above: usize,
-    scope: usize,
-    state: &mut State,
-    own: &mut [i32],
-    out: &mut [i32],
-) -> Result<(), Refused>
-    requires { Ready table.now above scope state.old
-        × Unblank here.old.rest.now
-        × F.LeafByte (is_formula (as_role role)) here.old.rest.now
-        × (length own.old ≡ 16) }
-    ensures { F.OperandRead room table.now (as_role role) above scope state.old state.new out.old out.new here.old here.new result }
-{
-    leaf(here, room, own)?;
-    state.settle_leaf(table, own, role, above, scope, out);
-    Ok(())
-}
-
-// A node with none below it, whose first byte stands here.
 fn read_leaf(
     table: &[i32],
     here: &mut Cursor<'_>,
@@ -67,8 +45,12 @@ fn read_leaf(
     ensures { F.OperandRead room table.now (as_role role) above scope state.old state.new out.old out.new here.old here.new result }
 {
     // An array, since no call takes memory.
-    let mut own = [0; 16];
-    leaf_apart(table, here, room, role, above, scope, state, &mut own, out)
+    let mut words = [0; 16];
+    let mut own = Own { words: &mut words };
+    leaf(here, room, &mut own)?;
+    let Own { words, .. } = own;
+    state.settle_leaf(table, words, role, above, scope, out);
+    Ok(())
 }
 
 // The connective of an all-of (true) or any-of.
