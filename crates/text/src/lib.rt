@@ -2,6 +2,7 @@
 #![tactic(auto)]
 
 pub mod bytes;
+pub mod cursor;
 pub mod reading;
 pub mod word;
 pub mod writer;

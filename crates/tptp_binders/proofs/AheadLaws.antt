@@ -1,71 +1,63 @@
 -- Laws for looking ahead in a text: the scan for a byte that can follow an operand, one byte after another, and the bytes behind
 -- blanks that excluded tuples begin with.
-use Prim.Native.Nat.{ℕ, ◌+◌, ◌-◌, ◌≤◌, ◌<◌}
+use Prim.Native.Nat.{ℕ, suc, ◌+◌, ◌-◌, ◌≤◌, ◌<◌}
 use native.Mathlib.Numerals.{add-one}
 use native.Mathlib.Omega.{arith}
 use mathlib.Core.Path.{◌≡◌, refl, sym, ap, ◌∙◌}
 use mathlib.Core.Logic.{⊎_elim}
-use mathlib.Core.Bool.{Bool, true, false, not, ◌&&◌, ◌||◌}
+use mathlib.Core.Bool.{Bool, true, false, cond, ◌&&◌, ◌||◌}
 use mathlib.Core.List.{[], ◌∷◌}
 use lib.ListN.{length, drop, get_or}
-use lib.Dec.{eqb, ltb}
+use lib.Dec.{eqb}
+use borrow.Author.Tests.{ne_eqb}
 use denote.Bor.{Bor}
-use Rattle.std.specs.Prelude.{Option, Some, None, MatchOption}
-use Rattle.std.specs.Option.{option_eq, option_map, unwrap_or}
-use Rattle.std.specs.List.{HoldsAt}
-use Rattle.std.proofs.lemmas.Bool.{ltb-true, ltb-false}
-use borrow.Author.Tests.{ne_eqb, not-true}
+use Rattle.std.specs.Prelude.{Option, Some, None, slice_get, Result, Ok, Err}
+use Rattle.std.specs.Option.{option_eq, option_copied}
+use Rattle.std.specs.Result.{is_ok}
 use Rattle.model.specs.Bytes.{Text, blank}
-use Rattle.model.specs.Answer.{passed}
-use Rattle.model.specs.TptpReading.{Got, blanks, behind_blanks, begins_with, begins_tuple, begins_excluding}
-use Rattle.laws.specs.Words.Tests.{decide, clash}
-use Rattle.laws.specs.Answer.{passed-same}
-use Rattle.tptp_tokens.specs.Steps.{Skips}
-use Rattle.tptp_binders.specs.Ahead.{stopping, StopsAt, Foretells, begins}
+use Rattle.model.specs.Answer.{passed, refused}
+use Rattle.model.specs.TptpReading.{Got, blanks, literal, token, onwards, ◌>>=◌, behind_blanks, begins_with, begins_tuple, begins_excluding}
+use Rattle.model.specs.declared.Refusal.{Refusal}
+use Rattle.model.specs.declared.Refusal.TheVariants.{Tptp}
+use Rattle.model.specs.declared.Refused.{Refused}
+use Rattle.laws.specs.Words.Tests.{decide}
+use Rattle.laws.specs.Answer.{refused-passed, passed-same}
+use Rattle.text.specs.declared.cursor.Cursor.{Cursor}
+use Rattle.tptp_tokens.specs.Steps.{from, Reads, Steps}
+use Rattle.tptp_binders.specs.Ahead.{stopping, StopsBehind, StopsAt, Foretells, begins}
 use Rattle.tptp_tokens.proofs.TokenLaws.{here, over}
 
--- the scan from an index on goes as the scan from another one, where so many parentheses are open
-pub record Scans (text : Text) (at i depth : ℕ) : Type 0 where
-  pub low : at ≤ i
-  pub high : i ≤ length text
+-- the scan of a text goes as the scan from an index on, where so many parentheses are open
+pub record Scans (text : Text) (i depth : ℕ) : Type 0 where
   pub few : depth ≤ i
-  pub same : stopping (drop at text) 0 ≡ stopping (drop i text) depth
+  pub same : stopping text 0 ≡ stopping (drop i text) depth
 
-module _ (text : Text) (at i depth : ℕ) (s : Scans text at i depth) where
+module _ (text : Text) (i depth : ℕ) (s : Scans text i depth) where
   -- the end of the text
-  pub scan_end : i ≡ length text → StopsAt text at (length text)
+  pub scan_end : length text ≤ i → StopsBehind text (length text)
   unfolding stopping
-  scan_end e =
-      let none : drop (length text) text ≡ [] = over text (length text) (omega arith) in
-      record { low = omega (arith, s.low); high = omega arith; stops = none ∙ sym (s.same ∙ rw (e, none)) }
+  scan_end e = record { high = omega arith; stops = over text (length text) (omega arith) ∙ sym (s.same ∙ rw (over text i e)) }
 
   module _ (h : i < length text) where
     -- the scan goes on behind this byte with another depth, or stops at it
-    goes :
-        (depth' : ℕ) →
-        depth' ≤ i + 1 →
-        stopping (drop i text) depth ≡ stopping (drop (i + 1) text) depth' →
-        Scans text at (i + 1) depth'
-    goes depth' few e = record { low = omega (arith, s.low); high = omega arith; few = few; same = s.same ∙ e }
+    halts : stopping (drop i text) depth ≡ drop i text → StopsBehind text i
+    halts e = record { high = omega arith; stops = sym (s.same ∙ e) }
 
-    halts : stopping (drop i text) depth ≡ drop i text → StopsAt text at i
-    halts e = record { low = s.low; high = s.high; stops = sym (s.same ∙ e) }
-
-    pub scan_open : (depth' : ℕ) → get_or text i 0 ≡ 40 → depth' ≡ depth + 1 → Scans text at (i + 1) depth'
+    pub scan_open : (depth' : ℕ) → get_or text i 0 ≡ 40 → depth' ≡ depth + 1 → Scans text (i + 1) depth'
     unfolding stopping
-    scan_open depth' e is = goes depth' (omega (arith, s.few)) (rw (here text i h, e, is, sym (add-one depth)))
+    scan_open depth' e is = record { few = omega (arith, s.few); same = s.same ∙ rw (here text i h, e, is, sym (add-one depth)) }
 
-    pub scan_close : (depth' : ℕ) → get_or text i 0 ≡ 41 → (depth ≡ 0 → ⊥) → depth' ≡ depth - 1 → Scans text at (i + 1) depth'
+    pub scan_close : (depth' : ℕ) → get_or text i 0 ≡ 41 → (depth ≡ 0 → ⊥) → depth' ≡ depth - 1 → Scans text (i + 1) depth'
     unfolding stopping
-    scan_close depth' e n is = goes depth' (omega (arith, s.few)) (rw (here text i h, e, ne_eqb depth 0 n, is))
+    scan_close depth' e n is = record { few = omega (arith, s.few); same = s.same ∙ rw (here text i h, e, ne_eqb depth 0 n, is) }
 
-    pub scan_closing : get_or text i 0 ≡ 41 → depth ≡ 0 → StopsAt text at i
+    pub scan_closing : get_or text i 0 ≡ 41 → depth ≡ 0 → StopsBehind text i
     unfolding stopping
     scan_closing e z = halts (rw (here text i h, e, z))
 
     -- a connective, where no parenthesis is open; another byte
     module _ (opens : get_or text i 0 ≡ 40 → ⊥) (closes : get_or text i 0 ≡ 41 → ⊥) where
-      pub scan_connective : eqb depth 0 && (eqb (get_or text i 0) 38 || eqb (get_or text i 0) 124) ≡ true → StopsAt text at i
+      pub scan_connective : eqb depth 0 && (eqb (get_or text i 0) 38 || eqb (get_or text i 0) 124) ≡ true → StopsBehind text i
       unfolding stopping
       scan_connective e = halts (rw (here text i h, ne_eqb (get_or text i 0) 40 opens, ne_eqb (get_or text i 0) 41 closes, e))
 
@@ -73,29 +65,27 @@ module _ (text : Text) (at i depth : ℕ) (s : Scans text at i depth) where
           (depth' : ℕ) →
           eqb depth 0 && (eqb (get_or text i 0) 38 || eqb (get_or text i 0) 124) ≡ false →
           depth' ≡ depth →
-          Scans text at (i + 1) depth'
+          Scans text (i + 1) depth'
       unfolding stopping
-      scan_other depth' e is =
-          goes depth' (omega (arith, s.few))
-          (rw (here text i h, ne_eqb (get_or text i 0) 40 opens, ne_eqb (get_or text i 0) 41 closes, e, is))
+      scan_other depth' e is = record {
+        few = omega (arith, s.few);
+        same = s.same ∙ rw (here text i h, ne_eqb (get_or text i 0) 40 opens, ne_eqb (get_or text i 0) 41 closes, e, is);
+      }
 
--- the byte that is looked up at an index begins the text from there on
+-- of what begins as a quantifier it is told whether this byte stands behind it
+pub foretold :
+    (c : ℕ) → c ≡ 38 → (here stop : Cursor) → StopsAt here stop → (r : Bool) → r ≡ begins_with c stop.rest.now → Foretells here.rest.now r
+foretold c is here stop s r e = record { tells = λ _. e ∙ rw (is, s.stops) }
+
+-- the first byte of a text, or the end, begins it
 pub same_byte :
-    (text : Text) (at : ℕ) (c : Bor ℕ) (o : Option (Bor ℕ)) →
-    MatchOption o (length text ≤ at) (λ x. (at < length text) × HoldsAt (λ y. x.now ≡ y) text at) →
-    ((d : ℕ) → unwrap_or (option_map {T = Bor ℕ} {U = ℕ} (λ x. x.now) o) d ≡ get_or text at d) →
-    option_eq {T = Bor ℕ} (λ x y. eqb x.now y.now) o (Some c) ≡ begins_with c.now (drop at text)
+    (text : Text) (c : Bor ℕ) (o : Option (Bor ℕ)) → option_copied o ≡ slice_get text 0 →
+    option_eq {T = Bor ℕ} (λ x y. eqb x.now y.now) o (Some c) ≡ begins_with c.now text
 unfolding begins_with
-same_byte text at c None h f = rw (over text at h)
-same_byte text at c (Some x) h f = rw (here text at h.0, f 0)
-
--- a byte stands within the text
-pub stands-within : (text : Text) (i c : ℕ) → begins_with c (drop i text) ≡ true → i < length text
-unfolding begins_with
-stands-within text i c e = ⊎_elim (λ h. ltb-true i (length text) h) (λ h. absurd (past h)) (decide (ltb i (length text)))
-  where
-    past : ltb i (length text) ≡ false → ⊥
-    past h = let n : begins_with c (drop i text) ≡ false = rw (over text i (ltb-false i (length text) h)) in clash e n
+same_byte [] c None h = refl
+same_byte [] c (Some x) h = cc
+same_byte (b ∷ t) c None h = cc
+same_byte (b ∷ t) c (Some x) h = ap (λ (n : ℕ). eqb n c.now) cc
 
 -- what blanks leave is the text behind them
 pub blanks-rest : (text : Text) (p : ℕ) → (q : ℕ) × (blanks text p ≡ passed (record { what = tt; rest = behind_blanks text; at = q }))
@@ -107,62 +97,72 @@ blanks-rest (b ∷ t) p =
     (λ e. rw e (p, refl))
     (decide (blank b))
 
--- a byte behind blanks, and then what a test asks for
-abbrev followed : ℕ → (Text → Bool) → Text → Bool
-followed c test text = begins_with c (behind_blanks text) && test (drop 1 (behind_blanks text))
+-- a token of one byte is read if the text begins with it
+module _ (c : ℕ) where
+  one_byte :
+      (t : Text) (q : ℕ) →
+      literal (c ∷ []) t q ≡ cond (begins_with c t) (passed (record { what = tt; rest = drop 1 t; at = suc q })) (refused Tptp q)
+  unfolding literal begins_with
+  one_byte [] q = refl
+  one_byte (b ∷ t) q = refl
 
--- an excluded tuple of one variable begins with a letter
-pub tuple-one : (text : Text) (v : ℕ) → v ≡ 1 → begins 88 text ≡ begins_tuple v text
-unfolding begins begins_tuple
-tuple-one text v e = rw e
+  one_token :
+      (t : Text) (p : ℕ) →
+      (q : ℕ)
+      × (token (c ∷ []) t p
+      ≡ cond (begins c t) (passed (record { what = tt; rest = drop 1 (behind_blanks t); at = suc q })) (refused Tptp q))
+  unfolding token begins ◌>>=◌ onwards
+  one_token t p = let b = blanks-rest t p in (b.0, rw b.1 (one_byte (behind_blanks t) b.0))
 
-module _ (text : Text) (at i : ℕ) (s : Skips text at i) where
-  pub behind_skip : behind_blanks (drop at text) ≡ drop i text
-  behind_skip = ap (λ (g : Got (Unit {0})). g.rest) (passed-same (sym (blanks-rest (drop at text) at).1 ∙ s.reads))
+  module _ (old : Cursor) where
+    -- what comes of the token, by the test
+    one : Got (Unit {0})
+    one = record { what = tt; rest = drop 1 (behind_blanks old.rest.now); at = suc (one_token old.rest.now old.at).0 }
 
-  pub begins-at : (c : ℕ) → begins_with c (drop i text) ≡ begins c (drop at text)
-  unfolding begins
-  begins-at c = rw behind_skip
+    one_yes : begins c old.rest.now ≡ true → from (token (c ∷ [])) old ≡ passed one
+    unfolding one
+    one_yes y = (one_token old.rest.now old.at).1 ∙ rw y
 
-  -- where no quantifier begins, nothing is foretold
-  pub foretold_none :
-      (all some r : Bool) → all ≡ begins_with 33 (drop i text) → some ≡ begins_with 63 (drop i text) → not (all || some) ≡ true →
-      Foretells text at r
-  unfolding begins
-  foretold_none all some r first second none =
-      let same : (begins_with 33 (behind_blanks (drop at text)) || begins_with 63 (behind_blanks (drop at text))) ≡ (all || some) =
-      rw (behind_skip, first, second) in
-      record { tells = λ begun. clash begun (same ∙ not-true (all || some) none) }
+    one_no : begins c old.rest.now ≡ false → from (token (c ∷ [])) old ≡ refused Tptp (one_token old.rest.now old.at).0
+    one_no n = (one_token old.rest.now old.at).1 ∙ rw n
 
-  -- a byte stands behind the blanks, or another
-  module _ (c : ℕ) (test : Text → Bool) (b : Bool) (e : b ≡ begins_with c (drop i text)) where
-    followed_other : b ≡ false → b ≡ followed c test (drop at text)
-    followed_other n = rw (behind_skip, sym e, n)
+    none : {q : Refusal} {p : ℕ} → from (token (c ∷ [])) old ≡ refused q p → begins c old.rest.now ≡ false
+    none e = ⊎_elim (λ y. refused-passed (sym e ∙ one_yes y)) (λ n. n) (decide (begins c old.rest.now))
 
-    followed_here : b ≡ true → test (drop (i + 1) text) ≡ followed c test (drop at text)
-    unfolding begins_with
-    followed_here y =
-        let h = stands-within text i c (sym e ∙ y) in
-        rw (behind_skip, sym e, y, here text i h)
+    some : (new : Cursor) → Reads (token (c ∷ [])) old tt new → begins c old.rest.now ≡ true
+    some new r = ⊎_elim (λ y. y) (λ n. refused-passed (sym (one_no n) ∙ r.reads)) (decide (begins c old.rest.now))
 
-  -- an excluded tuple of several variables begins with a parenthesis
-  module _ (v : ℕ) (many : v ≡ 1 → ⊥) (b : Bool) (e : b ≡ begins_with 40 (drop i text)) where
-    several : begins_tuple v (drop at text) ≡ followed 40 (begins 88) (drop at text)
-    unfolding begins begins_tuple
-    several = rw (ne_eqb v 1 many)
+    pub ahead :
+        (new : Cursor) (r : Result (Unit {0}) Refused) → Steps (token (c ∷ [])) old new r → is_ok r ≡ begins c old.rest.now
+    ahead new (Ok u) s = sym (some new s)
+    ahead new (Err e) s = sym (none s)
 
-    pub tuple-other : b ≡ false → b ≡ begins_tuple v (drop at text)
-    tuple-other n = followed_other 40 (begins 88) b e n ∙ sym several
+    -- and what stands behind it
+    module _ (test : Text → Bool) where
+      pub ahead_then :
+          (new : Cursor) (r : Result (Unit {0}) Refused) → Steps (token (c ∷ [])) old new r → true ≡ is_ok r →
+          test new.rest.now ≡ (begins c old.rest.now && test (drop 1 (behind_blanks old.rest.now)))
+      unfolding one
+      ahead_then new (Ok u) s e =
+          let same = ap (λ (g : Got (Unit {0})). g.rest) (passed-same (sym s.reads ∙ one_yes (some new s))) in
+          rw (some new s) (ap test same)
+      ahead_then new (Err r) s e = cc
 
-    pub tuple-here : b ≡ true → begins 88 (drop (i + 1) text) ≡ begins_tuple v (drop at text)
-    tuple-here y = followed_here 40 (begins 88) b e y ∙ sym several
+      pub ahead_else :
+          (b : Bool) (new : Cursor) (r : Result (Unit {0}) Refused) → Steps (token (c ∷ [])) old new r → b ≡ is_ok r → b ≡ false →
+          b ≡ (begins c old.rest.now && test (drop 1 (behind_blanks old.rest.now)))
+      ahead_else b new r s is e = rw (sym (ahead new r s) ∙ sym is ∙ e, e)
 
-  -- the connective before one
-  module _ (v : ℕ) (b : Bool) (e : b ≡ begins_with 38 (drop i text)) where
-    pub excluding-other : b ≡ false → b ≡ begins_excluding v (drop at text)
-    unfolding begins_excluding
-    excluding-other n = followed_other 38 (begins_tuple v) b e n
+-- excluded tuples by the bytes that they begin with
+module _ (v : ℕ) (text : Text) where
+  pub tuple-one : v ≡ 1 → begins 88 text ≡ begins_tuple v text
+  unfolding begins begins_tuple
+  tuple-one e = rw e
 
-    pub excluding-here : b ≡ true → begins_tuple v (drop (i + 1) text) ≡ begins_excluding v (drop at text)
-    unfolding begins_excluding
-    excluding-here y = followed_here 38 (begins_tuple v) b e y
+  pub tuple-many : (v ≡ 1 → ⊥) → (begins 40 text && begins 88 (drop 1 (behind_blanks text))) ≡ begins_tuple v text
+  unfolding begins begins_tuple
+  tuple-many n = rw (ne_eqb v 1 n)
+
+  pub excludes_as : (begins 38 text && begins_tuple v (drop 1 (behind_blanks text))) ≡ begins_excluding v text
+  unfolding begins begins_excluding
+  excludes_as = refl

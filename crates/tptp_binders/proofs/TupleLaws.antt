@@ -5,160 +5,157 @@ use native.Mathlib.Omega.{arith}
 use mathlib.Core.Path.{◌≡◌, refl, sym, ap, ◌∙◌}
 use mathlib.Core.Logic.{⊎_elim}
 use mathlib.Core.Bool.{true, false}
-use mathlib.Core.List.{List, [], ◌∷◌, ◌++◌, append-nil}
-use lib.ListN.{length, drop, set, length-append}
+use mathlib.Core.List.{List, [], ◌∷◌, ◌++◌}
+use lib.ListN.{length, set, length-append}
 use lib.Seq.{sets}
 use lib.IntN.{ℤ}
 use lib.Dec.{eqb}
 use borrow.Author.Tests.{eq-eqb, ne_eqb, eqb-true}
+use Rattle.std.specs.Prelude.{Result, Ok, Err}
+use Rattle.text.specs.declared.cursor.Cursor.{Cursor}
 use Rattle.model.specs.Words.{Words}
 use Rattle.model.specs.Bytes.{Text, bytes}
 use Rattle.model.specs.Answer.{Outcome, passed, refused}
 use Rattle.model.specs.Tptp.{excludes, good_tuple}
 use Rattle.model.specs.TptpReading.{Got, Reader, give, onwards, token, opening, unequal, read_unequals, read_tuple, ◌>>=◌}
 use Rattle.model.specs.declared.Refusal.{Refusal}
+use Rattle.model.specs.declared.Refused.{Refused}
 use Rattle.laws.specs.Words.Tests.{decide}
 use Rattle.laws.specs.Tptp.Sound.Lists.{tuple-reads}
 use Rattle.laws.specs.Tptp.Sound.Policies.{item_sound}
-use Rattle.tptp_tokens.specs.Steps.{Step, from, got, Reads, Steps, Value, Valued}
+use Rattle.tptp_tokens.specs.Steps.{from, got, Moved, Reads, Steps, Value, Valued}
 use Rattle.tptp_tokens.specs.Laying.{Stored}
-use Rattle.tptp_tokens.proofs.LayingLaws.{sets_last}
 use Rattle.tptp_binders.specs.Tuples.{StoredAll, tuple_opening, tuple_closing, further_unequals}
-use Rattle.std.specs.Prelude.{Ok, Err}
-use Rattle.tptp_tokens.proofs.TokenLaws.{onward, halt}
-use Rattle.tptp_tokens.proofs.Strict.{excludes_strict}
+use Rattle.tptp_tokens.proofs.MovedLaws.{still, further}
 use Rattle.tptp_tokens.proofs.BehindLaws.{steps_from}
-use Rattle.tptp_tokens.proofs.UpTo.{attach, attach-none, attach-attach}
+use Rattle.tptp_tokens.proofs.LayingLaws.{sets_last}
+use Rattle.tptp_tokens.proofs.UpTo.{attach, attach-none, attach-attach, attach-give, attach-all}
+use Rattle.tptp_tokens.proofs.Strict.{excludes_strict}
 
-module _ (text : Text) where
-  -- the first of several, and the others behind it
-  give-behind :
-      (first : Reader (Unit {0})) (second : Reader (List ℤ)) (k : ℤ) (at : ℕ) →
-      from (first >>= λ _. second >>= λ ks. give (k ∷ ks)) text at ≡ attach (k ∷ []) (from (first >>= λ _. second) text at)
-  unfolding ◌>>=◌ onwards give attach
-  give-behind first second k at = go (from first text at)
-    where
-      inner : (o : Outcome (Got (List ℤ))) → onwards o (λ ks. give (k ∷ ks)) ≡ attach (k ∷ []) o
-      inner (refused q p) = refl
-      inner (passed g) = refl
-
-      go :
-          (o : Outcome (Got (Unit {0}))) →
-          onwards o (λ _. second >>= λ ks. give (k ∷ ks)) ≡ attach (k ∷ []) (onwards o (λ _. second))
-      go (refused q p) = refl
-      go (passed g) = inner (second g.rest g.at)
-
+-- the first of several variables, and the others behind it
+module _ (n x : ℕ) (old : Cursor) where
   first_read :
-      (n x at : ℕ) (k : ℤ) (m : ℕ) → from (unequal x) text at ≡ got text k m →
-      from (read_unequals n x) text at ≡ attach (k ∷ []) (from (further_unequals n (suc x)) text m)
-  unfolding read_unequals further_unequals give attach
-  first_read zero x at k m e = onward (unequal x) _ text at k m e
-  first_read (suc n) x at k m e = onward (unequal x) _ text at k m e ∙ give-behind (token (bytes "|")) (read_unequals n (suc x)) k m
+      (k : ℤ) (mid : Cursor) → from (unequal x) old ≡ got k mid →
+      from (read_unequals n x) old ≡ attach (k ∷ []) (from (further_unequals n (suc x)) mid)
+  unfolding read_unequals further_unequals ◌>>=◌ onwards give attach
+  first_read k mid e = go n
+    where
+      behind :
+          (o : Outcome (Got (Unit {0}))) (m : ℕ) →
+          onwards o (λ _. read_unequals m (suc x) >>= λ ks. give (k ∷ ks)) ≡ attach (k ∷ []) (onwards o (λ _. read_unequals m (suc x)))
+      behind (refused q p) m = refl
+      behind (passed g) m = attach-give k (read_unequals m (suc x) g.rest g.at)
 
-  pub first-refused : (n x at : ℕ) (q : Refusal) (p : ℕ) → from (unequal x) text at ≡ refused q p → from (read_unequals n x) text at ≡ refused q p
-  unfolding read_unequals
-  first-refused zero x at q p e = halt (unequal x) _ text at q p e
-  first-refused (suc n) x at q p e = halt (unequal x) _ text at q p e
+      go : (n : ℕ) → from (read_unequals n x) old ≡ attach (k ∷ []) (from (further_unequals n (suc x)) mid)
+      go zero = rw e
+      go (suc m) = rw e (behind (from (token (bytes "|")) mid) m)
+
+  pub first-refused : (q : Refusal) (p : ℕ) → from (unequal x) old ≡ refused q p → from (read_unequals n x) old ≡ refused q p
+  unfolding read_unequals ◌>>=◌ onwards
+  first-refused q p e = go n
+    where
+      go : (n : ℕ) → from (read_unequals n x) old ≡ refused q p
+      go zero = rw e
+      go (suc m) = rw e
 
 -- so many numbers were read so far, each behind a bar
-pub record Furthering (n x w : ℕ) (text : Text) (at : ℕ) (old out : Words) (next i : ℕ) : Type 0 where
+pub record Furthering (n x w : ℕ) (start here : Cursor) (old out : Words) (i : ℕ) : Type 0 where
   pub ks : List ℤ
   pub number : length ks ≡ i
-  pub goes : from (further_unequals n x) text at ≡ attach ks (from (further_unequals (n - i) (x + i)) text next)
+  pub goes : from (further_unequals n x) start ≡ attach ks (from (further_unequals (n - i) (x + i)) here)
   pub laid : out ≡ sets old w ks
-  pub low : at ≤ next
-  pub high : next ≤ length text
+  pub moved : Moved start here
 
-module _ (n x w : ℕ) (text : Text) (at : ℕ) (old : Words) where
-  pub furthering_none : at ≤ length text → Furthering n x w text at old old at 0
-  furthering_none h = record {
+module _ (n x w : ℕ) (start : Cursor) (old : Words) where
+  pub furthering_none : Furthering n x w start start old old 0
+  furthering_none = record {
     ks = [];
     number = refl;
     goes =
-        sym (attach-none (from (further_unequals n x) text at))
-        ∙ ap (λ (m : ℕ). attach [] (from (further_unequals m x) text at)) (let e : n ≡ n - 0 = omega arith in e)
-        ∙ ap (λ (y : ℕ). attach [] (from (further_unequals (n - 0) y) text at)) (let e : x ≡ x + 0 = omega arith in e);
+        sym (attach-none (from (further_unequals n x) start))
+        ∙ ap (λ (m : ℕ). attach [] (from (further_unequals m x) start)) (let e : n ≡ n - 0 = omega arith in e)
+        ∙ ap (λ (y : ℕ). attach [] (from (further_unequals (n - 0) y) start)) (let e : x ≡ x + 0 = omega arith in e);
     laid = refl;
-    low = omega arith;
-    high = h;
+    moved = still start;
   }
 
-  module _ {out : Words} {next i : ℕ} (f : Furthering n x w text at old out next i) where
+  module _ {here : Cursor} {out : Words} {i : ℕ} (f : Furthering n x w start here old out i) where
     module _ (few : i < n) where
       abbrev m : ℕ
       m = n - (i + 1)
 
-      left : n - i ≡ suc m
-      left = omega arith
+      next : from (further_unequals n x) start ≡ attach f.ks (from (token (124 ∷ []) >>= λ _. read_unequals m (x + i)) here)
+      unfolding further_unequals bytes
+      next =
+          f.goes
+          ∙ ap (λ (k : ℕ). attach f.ks (from (further_unequals k (x + i)) here)) (let e : n - i ≡ suc (n - (i + 1)) = omega arith in e)
 
       -- no bar
-      pub furthering_stop : (q : Refusal) (p : ℕ) → from (token (124 ∷ [])) text next ≡ refused q p → from (further_unequals n x) text at ≡ refused q p
-      unfolding further_unequals bytes attach
-      furthering_stop q p e =
-          let none = ap (λ (k : ℕ). from (further_unequals k (x + i)) text next) left ∙ halt (token (124 ∷ [])) (λ _. read_unequals m (x + i)) text next q p e in
-          f.goes ∙ ap (attach f.ks) none
+      pub furthering_stop : (q : Refusal) (p : ℕ) → from (token (124 ∷ [])) here ≡ refused q p → from (further_unequals n x) start ≡ refused q p
+      unfolding attach ◌>>=◌ onwards
+      furthering_stop q p e = next ∙ rw e
 
-      module _ (bar : ℕ) (s : Reads (token (124 ∷ [])) text next tt bar) where
-        start : from (further_unequals (n - i) (x + i)) text next ≡ from (read_unequals m (x + i)) text bar
-        unfolding further_unequals bytes
-        start =
-            ap (λ (k : ℕ). from (further_unequals k (x + i)) text next) left ∙ onward (token (124 ∷ [])) (λ _. read_unequals m (x + i)) text next tt bar s.reads
+      module _ (mid : Cursor) (s : Reads (token (124 ∷ [])) here tt mid) where
+        one_more : from (further_unequals n x) start ≡ attach f.ks (from (read_unequals m (x + i)) mid)
+        unfolding ◌>>=◌ onwards
+        one_more = next ∙ rw s.reads
 
-        pub furthering_refused : (q : Refusal) (p : ℕ) → from (unequal (x + i)) text bar ≡ refused q p → from (further_unequals n x) text at ≡ refused q p
+        pub furthering_refused :
+            (y : ℕ) → y ≡ x + i → (q : Refusal) (p : ℕ) → from (unequal y) mid ≡ refused q p → from (further_unequals n x) start ≡ refused q p
         unfolding attach
-        furthering_refused q p e = f.goes ∙ ap (attach f.ks) (start ∙ first-refused text m (x + i) bar q p e)
+        furthering_refused y is q p e = one_more ∙ rw (sym is, first-refused m y mid q p e)
 
         -- one more
         pub furthering_more :
-            (out' : Words) (end : ℕ) → Value (unequal (x + i)) (Stored (w + i) out out') text bar end → Furthering n x w text at old out' end (i + 1)
-        furthering_more out' end u = record {
+            (y : ℕ) → y ≡ x + i → (out' : Words) (end : Cursor) → Value (unequal y) (Stored (w + i) out out') mid end →
+            Furthering n x w start end old out' (i + 1)
+        furthering_more y is out' end u = record {
           ks = f.ks ++ u.what ∷ [];
           number = omega (arith, f.number, length-append f.ks (u.what ∷ []));
           goes =
-              f.goes
-              ∙ ap (attach f.ks) (start ∙ first_read text m (x + i) bar u.what end u.reads.reads)
-              ∙ attach-attach f.ks (u.what ∷ []) (from (further_unequals m (suc (x + i))) text end)
-              ∙ ap (λ (y : ℕ). attach (f.ks ++ u.what ∷ []) (from (further_unequals m y) text end))
-              (let e : suc (x + i) ≡ x + (i + 1) = omega arith in e);
+              one_more
+              ∙ rw (sym is) (ap (attach f.ks) (first_read m y mid u.what end u.reads.reads))
+              ∙ attach-attach f.ks (u.what ∷ []) (from (further_unequals m (suc y)) end)
+              ∙ ap (λ (z : ℕ). attach (f.ks ++ u.what ∷ []) (from (further_unequals m z) end))
+              (let e : suc y ≡ x + (i + 1) = omega (arith, is) in e);
           laid =
               u.holds
               ∙ ap (λ (o : Words). set o (w + i) u.what) f.laid
               ∙ ap (λ (j : ℕ). set (sets old w f.ks) (w + j) u.what) (sym f.number)
               ∙ sets_last f.ks old w u.what;
-          low = omega (arith, f.low, s.low, u.reads.low);
-          high = u.reads.high;
+          moved = further _ _ _ f.moved (further _ _ _ s.moved u.reads.moved);
         }
 
     -- all of them
-    pub furthering_end : i ≡ n → Value (further_unequals n x) (StoredAll n w old out) text at next
-    unfolding further_unequals give attach
+    pub furthering_end : i ≡ n → Value (further_unequals n x) (StoredAll n w old out) start here
+    unfolding further_unequals give
     furthering_end e = record {
       what = f.ks;
       reads = record {
-        low = f.low;
-        high = f.high;
+        moved = f.moved;
         reads =
             f.goes
-            ∙ ap (λ (m : ℕ). attach f.ks (from (further_unequals m (x + i)) text next)) (let z : n - i ≡ 0 = omega arith in z)
-            ∙ ap (λ (us : List ℤ). got text us next) (append-nil f.ks);
+            ∙ ap (λ (m : ℕ). attach f.ks (from (further_unequals m (x + i)) here)) (let z : n - i ≡ 0 = omega arith in z)
+            ∙ attach-all f.ks here;
       };
       holds = record { number = f.number ∙ e; laid = f.laid };
     }
 
 -- v variables and their numbers: the first, and the others behind it
-module _ (text : Text) (at x v w : ℕ) (out out₁ out' : Words) (h : 1 ≤ v) (next : ℕ) (f : Value (unequal x) (Stored w out out₁) text at next) where
-  first_only : from (read_unequals (v - 1) x) text at ≡ attach (f.what ∷ []) (from (further_unequals (v - 1) (x + 1)) text next)
+module _ (x v w : ℕ) (out out₁ out' : Words) (h : 1 ≤ v) (old mid new : Cursor) (f : Value (unequal x) (Stored w out out₁) old mid) where
+  first_only : from (read_unequals (v - 1) x) old ≡ attach (f.what ∷ []) (from (further_unequals (v - 1) (x + 1)) mid)
   first_only =
-      first_read text (v - 1) x at f.what next f.reads.reads
-      ∙ ap (λ (y : ℕ). attach (f.what ∷ []) (from (further_unequals (v - 1) y) text next)) (sym (add-one x))
+      first_read (v - 1) x old f.what mid f.reads.reads
+      ∙ ap (λ (y : ℕ). attach (f.what ∷ []) (from (further_unequals (v - 1) y) mid)) (sym (add-one x))
 
-  pub unequals-read : (r : Step) → Valued (further_unequals (v - 1) (x + 1)) (StoredAll (v - 1) (w + 1) out₁ out') text next r → Valued (read_unequals (v - 1) x) (StoredAll v w out out') text at r
+  pub unequals-read :
+      (r : Result (Unit {0}) Refused) → Valued (further_unequals (v - 1) (x + 1)) (StoredAll (v - 1) (w + 1) out₁ out') mid new r →
+      Valued (read_unequals (v - 1) x) (StoredAll v w out out') old new r
   unfolding attach
-  unequals-read (Ok end) g = record {
+  unequals-read (Ok u) g = record {
     what = f.what ∷ g.what;
     reads = record {
-      low = omega (arith, f.reads.low, g.reads.low);
-      high = g.reads.high;
+      moved = further _ _ _ f.reads.moved g.reads.moved;
       reads = first_only ∙ ap (attach (f.what ∷ [])) g.reads.reads;
     };
     holds = record {
@@ -172,22 +169,23 @@ module _ (text : Text) (at x v w : ℕ) (out out₁ out' : Words) (h : 1 ≤ v) 
   unequals-read (Err e) g = first_only ∙ ap (attach (f.what ∷ [])) g
 
 -- an excluded tuple: of one variable, or in parentheses
-module _ (text : Text) (at room v : ℕ) where
-  pub opening_one : v ≡ 1 → at ≤ length text → Steps (tuple_opening room v) text at (Ok at)
+module _ (room v : ℕ) (old : Cursor) where
+  pub opening_one : v ≡ 1 → Reads (tuple_opening room v) old tt old
   unfolding tuple_opening give
-  opening_one e h = record { low = omega arith; high = h; reads = rw (eq-eqb v 1 e) }
+  opening_one e = record { moved = still old; reads = rw (eq-eqb v 1 e) }
 
-  pub opening_more : (v ≡ 1 → ⊥) → (r : Step) → Steps (opening room) text at r → Steps (tuple_opening room v) text at r
-  unfolding tuple_opening
-  opening_more n = steps_from (tuple_opening room v) (opening room) text at at (rw (ne_eqb v 1 n)) (omega arith)
-
-  pub closing_one : v ≡ 1 → at ≤ length text → Steps (tuple_closing v) text at (Ok at)
+  pub closing_one : v ≡ 1 → Reads (tuple_closing v) old tt old
   unfolding tuple_closing give
-  closing_one e h = record { low = omega arith; high = h; reads = rw (eq-eqb v 1 e) }
+  closing_one e = record { moved = still old; reads = rw (eq-eqb v 1 e) }
 
-  pub closing_more : (v ≡ 1 → ⊥) → (r : Step) → Steps (token (41 ∷ [])) text at r → Steps (tuple_closing v) text at r
-  unfolding tuple_closing bytes
-  closing_more n = steps_from (tuple_closing v) (token (41 ∷ [])) text at at (rw (ne_eqb v 1 n)) (omega arith)
+  module _ (n : v ≡ 1 → ⊥) (new : Cursor) (r : Result (Unit {0}) Refused) where
+    pub opening_more : Steps (opening room) old new r → Steps (tuple_opening room v) old new r
+    unfolding tuple_opening
+    opening_more = steps_from old old new (still old) (tuple_opening room v) (opening room) (rw (ne_eqb v 1 n)) r
+
+    pub closing_more : Steps (token (41 ∷ [])) old new r → Steps (tuple_closing v) old new r
+    unfolding tuple_closing bytes
+    closing_more = steps_from old old new (still old) (tuple_closing v) (token (41 ∷ [])) (rw (ne_eqb v 1 n)) r
 
 unfoldable pub tuple_parts : (room v x : ℕ) → Reader (List ℤ)
 tuple_parts room v x = do
@@ -212,37 +210,11 @@ tuple-as room v x t p = ⊎_elim one many (decide (eqb v 1))
     many : eqb v 1 ≡ false → read_tuple room v x t p ≡ tuple_parts room v x t p
     many e = rw e
 
-module _ (text : Text) (at room v x : ℕ) where
-  pub tuple-unopened : (q : Refusal) (p : ℕ) → from (tuple_opening room v) text at ≡ refused q p → from (read_tuple room v x) text at ≡ refused q p
-  unfolding tuple_parts ◌>>=◌ onwards
-  tuple-unopened q p e = tuple-as room v x (drop at text) at ∙ rw e
-
-  module _ (start : ℕ) (o : Reads (tuple_opening room v) text at tt start) where
-    pub tuple-unread : (q : Refusal) (p : ℕ) → from (read_unequals (v - 1) x) text start ≡ refused q p → from (read_tuple room v x) text at ≡ refused q p
-    unfolding tuple_parts ◌>>=◌ onwards
-    tuple-unread q p e = tuple-as room v x (drop at text) at ∙ rw (o.reads, e)
-
-    pub tuple-read :
-        {facts : List ℤ → Type 0} (inside : ℕ) → Value (read_unequals (v - 1) x) facts text start inside → (r : Step) → Steps (tuple_closing v) text inside r →
-        Valued (read_tuple room v x) facts text at r
-    unfolding tuple_parts give ◌>>=◌ onwards
-    tuple-read inside u (Ok next) c = record {
-      what = u.what;
-      reads = record {
-        low = omega (arith, o.low, u.reads.low, c.low);
-        high = c.high;
-        reads = tuple-as room v x (drop at text) at ∙ rw (o.reads, u.reads.reads, c.reads);
-      };
-      holds = u.holds;
-    }
-    tuple-read inside u (Err e) c = tuple-as room v x (drop at text) at ∙ rw (o.reads, u.reads.reads, c)
-
 -- a tuple takes a byte at least
 pub tuple_strict :
-    (text : Text) (at room v x next : ℕ) (ks : List ℤ) → 1 ≤ v → from (read_tuple room v x) text at ≡ got text ks next → at < next
-tuple_strict text at room v x next ks h e =
-    let g : Got (List ℤ) = record { what = ks; rest = drop next text; at = next } in
-    let read = item_sound (excludes x) (good_tuple v) {told = ⊥} (tuple-reads room v x h) (drop at text) at g e in
-    let (u, split, is) = read.used in
-    let shorter = excludes_strict x ks (drop at text) (drop next text) read.stand in
-    omega (arith, is, shorter, ap length split, length-append u (drop next text))
+    (room v x : ℕ) (old new : Cursor) (ks : List ℤ) → 1 ≤ v → from (read_tuple room v x) old ≡ got ks new →
+    length new.rest.now < length old.rest.now
+tuple_strict room v x old new ks h e =
+    let g : Got (List ℤ) = record { what = ks; rest = new.rest.now; at = new.at } in
+    let read = item_sound (excludes x) (good_tuple v) {told = ⊥} (tuple-reads room v x h) old.rest.now old.at g e in
+    excludes_strict x ks old.rest.now new.rest.now read.stand

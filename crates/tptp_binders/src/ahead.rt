@@ -1,20 +1,19 @@
 // What stands ahead in a text: the first byte that can follow an operand, and whether excluded tuples begin there. Nothing is refused
-// here, whatever the text.
-ghost use Rattle.std.specs.Prelude.{◌≡◌, ◌≤◌, length, drop};
+// here, whatever the text, and nothing is passed: what is read ahead is read from a copy of the place.
+ghost use Rattle.std.specs.Prelude.{◌≡◌};
 ghost use Rattle.model.specs.TptpReading.{begins_with, begins_tuple, begins_excluding};
-ghost use Rattle.tptp_binders.specs.Ahead.{StopsAt, Foretells, begins};
+ghost use Rattle.tptp_binders.specs.Ahead.{StopsBehind, StopsAt, Foretells, begins};
 
-use tptp_tokens::tokens::skip;
+use text::cursor::Cursor;
+use tptp_tokens::tokens::expect;
 
-// The first index from one on where a connective or a closing parenthesis stands outside the parentheses opened from there on; or the
-// length.
-pub fn stop_index(text: &[u8], at: usize) -> usize
-    requires { at ≤ length text.now }
-    ensures { StopsAt text.now at result }
+// How many bytes stand before the first connective or closing parenthesis outside the parentheses opened in them: all, if there is none.
+fn stop_index(rest: &[u8]) -> usize
+    ensures { StopsBehind rest.now result }
 {
     let mut depth: usize = 0;
-    for i in at..text.len() {
-        let b = text[i];
+    for i in 0..rest.len() {
+        let b = rest[i];
         if b == 40 {
             depth += 1;
         } else if b == 41 {
@@ -26,57 +25,59 @@ pub fn stop_index(text: &[u8], at: usize) -> usize
             return i;
         }
     }
-    text.len()
+    rest.len()
 }
 
-// The byte at an index is this one.
-pub fn stands(text: &[u8], at: usize, c: u8) -> bool
-    ensures { result ≡ begins_with c (drop at text.now) }
+// Where that byte stands, or the end.
+pub fn stop<'a>(here: &Cursor<'a>) -> Cursor<'a>
+    ensures { StopsAt here.now result }
 {
-    text.get(at) == Some(&c)
+    let mut ahead = *here;
+    ahead.pass(stop_index(here.rest));
+    ahead
+}
+
+// The next byte is this one.
+pub fn stands(here: &Cursor<'_>, c: u8) -> bool
+    ensures { result ≡ begins_with c here.now.rest.now }
+{
+    here.rest.first() == Some(&c)
 }
 
 // Whether an operand stands in an all-of, by the connective behind it. It is told of one that begins as a quantifier: only what this costs
 // hangs on it, so that of other operands nothing is passed ahead.
-pub fn under_all(text: &[u8], at: usize) -> bool
-    requires { at ≤ length text.now }
-    ensures { Foretells text.now at result }
+pub fn under_all(here: &Cursor<'_>) -> bool
+    ensures { Foretells here.now.rest.now result }
 {
-    let i = skip(text, at);
-    let all = stands(text, i, 33);
-    let some = stands(text, i, 63);
-    if !(all | some) {
+    if !(begins(here, 33) | begins(here, 63)) {
         return true;
     }
-    let stop = stop_index(text, at);
-    stands(text, stop, 38)
+    stands(&stop(here), 38)
 }
 
 // The first byte behind blanks is this one.
-pub fn begins(text: &[u8], at: usize, c: u8) -> bool
-    requires { at ≤ length text.now }
-    ensures { result ≡ begins c (drop at text.now) }
+pub fn begins(here: &Cursor<'_>, c: u8) -> bool
+    ensures { result ≡ begins c here.now.rest.now }
 {
-    stands(text, skip(text, at), c)
+    let mut ahead = *here;
+    expect(&mut ahead, c).is_ok()
 }
 
 // Behind blanks a text begins with an excluded tuple of v variables.
-fn begins_tuple(text: &[u8], at: usize, v: usize) -> bool
-    requires { at ≤ length text.now }
-    ensures { result ≡ begins_tuple v (drop at text.now) }
+fn begins_tuple(here: &Cursor<'_>, v: usize) -> bool
+    ensures { result ≡ begins_tuple v here.now.rest.now }
 {
     if v == 1 {
-        return begins(text, at, 88);
+        return begins(here, 88);
     }
-    let i = skip(text, at);
-    stands(text, i, 40) && begins(text, i + 1, 88)
+    let mut ahead = *here;
+    expect(&mut ahead, 40).is_ok() && begins(&ahead, 88)
 }
 
 // Behind blanks a text begins with the connective before an excluded tuple of v variables.
-pub fn begins_excluding(text: &[u8], at: usize, v: usize) -> bool
-    requires { at ≤ length text.now }
-    ensures { result ≡ begins_excluding v (drop at text.now) }
+pub fn begins_excluding(here: &Cursor<'_>, v: usize) -> bool
+    ensures { result ≡ begins_excluding v here.now.rest.now }
 {
-    let i = skip(text, at);
-    stands(text, i, 38) && begins_tuple(text, i + 1, v)
+    let mut ahead = *here;
+    expect(&mut ahead, 38).is_ok() && begins_tuple(&ahead, v)
 }

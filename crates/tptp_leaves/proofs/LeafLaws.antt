@@ -1,48 +1,59 @@
 -- Laws for the reading of nodes with none below them.
-use Prim.Native.Nat.{ℕ, suc, ◌+◌, ◌*◌, ◌≤◌, ◌<◌}
+use Prim.Native.Nat.{ℕ, suc, ◌+◌, ◌*◌, ◌≤◌}
 use native.Mathlib.Omega.{arith}
 use mathlib.Core.Path.{◌≡◌, refl, sym, ap, ◌∙◌}
-use mathlib.Core.Logic.{⊎_elim}
 use mathlib.Core.Bool.{Bool, true, false, cond}
 use mathlib.Core.List.{List, [], ◌∷◌, ◌++◌}
-use lib.ListN.{length, take, set, get_or, length-append}
+use lib.ListN.{length, take, drop, set, length-append}
 use lib.Seq.{take-set-lt}
 use lib.IntN.{ℤ, pos}
-use borrow.Author.Tests.{eq-eqb, ne_eqb}
+use borrow.Author.Tests.{ne_eqb}
+use Rattle.std.specs.Prelude.{Option, Some, None, slice_get, Result}
+use Rattle.text.specs.declared.cursor.Cursor.{Cursor}
 use Rattle.model.specs.Words.{Words}
 use Rattle.model.specs.Lists.{gather}
-use Rattle.model.specs.Bytes.{Text, bytes, blank}
-use Rattle.model.specs.Answer.{refused}
+use Rattle.model.specs.Bytes.{Text, bytes}
+use Rattle.model.specs.Answer.{passed, refused}
 use Rattle.model.specs.Tree.{Term, constant, variable, Tree, plain, atom, compare, encode_term, encode}
-use Rattle.model.specs.TptpReading.{stop, blanks, onwards, peek, look, literal, token, ◌>>=◌}
+use Rattle.model.specs.TptpReading.{stop, blanks, onwards, peek, literal, token, ◌>>=◌}
 use Rattle.model.specs.TptpReading.{read_atom, read_compare, read_dollar, read_negated}
 use Rattle.model.specs.declared.Refusal.TheVariants.{Tptp}
-use Rattle.laws.specs.Lists.Span.{side}
+use Rattle.model.specs.declared.Refused.{Refused}
 use Rattle.laws.specs.Putting.Modes.{terms-length}
-use Rattle.tptp_tokens.specs.Steps.{Step, from, got, Skips, Valued}
-use Rattle.tptp_leaves.specs.Terms.{TermStands, TermsStand}
-use Rattle.tptp_tokens.specs.Laying.{Stored}
-use Rattle.tptp_leaves.specs.Leaves.{SecondNatural, LeafStands, read_plain, behind_dollar, behind_negation, read_leaf}
-use Rattle.tptp_tokens.proofs.TokenLaws.{here, over, skip_stop, onward, halt, look-here, look-over, token-here}
-use Rattle.tptp_leaves.proofs.TermLaws.{two-words}
+use Rattle.tptp_tokens.specs.Steps.{from, got, Skips, Valued}
+use Rattle.tptp_leaves.specs.declared.own.Own.{Own}
+use Rattle.tptp_leaves.specs.declared.terms.TermWords.{TermWords}
+use Rattle.tptp_leaves.specs.Room.{Becomes}
+use Rattle.tptp_leaves.specs.Terms.{TermsStand}
+use Rattle.tptp_leaves.specs.Leaves.{Unblank, LeafPut, read_plain, behind_dollar, behind_negation, read_leaf}
+use Rattle.tptp_tokens.proofs.MovedLaws.{still}
 use Rattle.tptp_tokens.proofs.BehindLaws.{valued_from}
+use Rattle.tptp_tokens.proofs.TokenLaws.{begun, ended, look-here, look-over, token-here}
+use Rattle.tptp_leaves.proofs.TermLaws.{two-words, term-put, kept-further}
 
 -- an atom
-module _ (b : Bool) (own own₁ own₂ own₃ : Words) (long : 15 ≤ length own) (tag : own₁ ≡ set own 0 (pos (cond b 2 3))) where
-  pub atom-stands : (p : ℕ) (ts : List Term) → SecondNatural own₁ own₂ p → TermsStand own₂ own₃ ts → LeafStands own₃ (atom b p ts)
-  unfolding encode
-  atom-stands p ts e t =
-      let front : take 2 own₂ ≡ pos (cond b 2 3) ∷ pos p ∷ [] =
-      ap (take 2) (e ∙ ap (λ (ws : Words). set ws 1 (pos p)) tag) ∙ two-words own 0 (pos (cond b 2 3)) (pos p) (omega arith) in
-      let size : suc (suc (suc (length (gather encode_term ts)))) ≡ 3 + 2 * length ts = omega (arith, terms-length ts) in
-      record {
+pub atom-stands :
+    (b : Bool) (p : ℕ) (ts : List Term) (own own₁ own₂ own₃ : Own) (x : ℕ) → x ≡ cond b 2 3 →
+    Becomes own (set own.words.now 0 (pos x)) own₁ → Becomes own₁ (set own₁.words.now 1 (pos p)) own₂ → TermsStand own₂ own₃ ts →
+    LeafPut own own₃ (atom b p ts)
+unfolding encode
+atom-stands b p ts own own₁ own₂ own₃ x is tag e t =
+    let ws = own.words.now in
+    let front : take 2 own₂.words.now ≡ pos (cond b 2 3) ∷ pos p ∷ [] =
+    two-words ws own₂.words.now 0 (pos (cond b 2 3)) (pos p) (omega (arith, own.long))
+    (e.now ∙ ap (λ (us : Words). set us 1 (pos p)) (tag.now ∙ ap (λ (n : ℕ). set ws 0 (pos n)) is)) in
+    let size : suc (suc (suc (length (gather encode_term ts)))) ≡ 3 + 2 * length ts = omega (arith, terms-length ts) in
+    record {
+      kept = kept-further own own₁ own₃ tag.kept (kept-further own₁ own₂ own₃ e.kept t.kept);
+      stands = record {
         leaf = refl;
         most = omega (arith, terms-length ts, t.most);
         words =
-            ap (λ (n : ℕ). take n own₃) size
+            ap (λ (n : ℕ). take n own₃.words.now) size
             ∙ t.words
-            ∙ ap (λ (ws : Words). ws ++ pos (length ts) ∷ gather encode_term ts) front;
-      }
+            ∙ ap (λ (us : Words). us ++ pos (length ts) ∷ gather encode_term ts) front;
+      };
+    }
 
 -- a comparison
 pub term-two : (t : Term) → length (encode_term t) ≡ 2
@@ -50,140 +61,170 @@ unfolding encode_term
 term-two (constant k) = refl
 term-two (variable x) = refl
 
-module _ (b : Bool) (own own₁ own₂ own₃ own₄ : Words) (long : 15 ≤ length own) (tag : own₁ ≡ set own 0 (pos (cond b 4 5))) where
+module _
+    (b : Bool) (own own₁ own₂ own₃ own₄ : Own) (n : ℕ) (is : n ≡ cond b 4 5) (tag : Becomes own (set own.words.now 0 (pos n)) own₁) where
   pub compare-stands :
-      (d : ℤ) (x y : Term) → TermStands 2 own₁ own₂ x → Stored 1 own₂ own₃ d → TermStands 4 own₃ own₄ y → LeafStands own₄ (compare b d x y)
+      (d z : ℤ) → z ≡ d → (x y : Term) (w v : TermWords) →
+      encode_term x ≡ w.kind ∷ w.number ∷ [] → Becomes own₁ (set (set own₁.words.now 2 w.kind) 3 w.number) own₂ →
+      Becomes own₂ (set own₂.words.now 1 z) own₃ →
+      encode_term y ≡ v.kind ∷ v.number ∷ [] → Becomes own₃ (set (set own₃.words.now 4 v.kind) 5 v.number) own₄ →
+      LeafPut own own₄ (compare b d x y)
   unfolding encode
-  compare-stands d x y u e v = record {
-    leaf = refl;
-    most = omega (arith, length-append (encode_term x) (encode_term y), term-two x, term-two y);
-    words = ap (λ (n : ℕ). take n own₄) size ∙ v ∙ ap (λ (ws : Words). ws ++ encode_term y) (front own long tag);
+  compare-stands d z same x y w v xs p e ys q = record {
+    kept = kept-further own own₁ own₄ tag.kept (kept-further own₁ own₂ own₄ p.kept (kept-further own₂ own₃ own₄ e.kept q.kept));
+    stands = record {
+      leaf = refl;
+      most = omega (arith, length-append (encode_term x) (encode_term y), term-two x, term-two y);
+      words =
+          ap (λ (k : ℕ). take k own₄.words.now) size
+          ∙ term-put own₃ own₄ 4 v (omega arith) y ys q
+          ∙ ap (λ (ws : Words). ws ++ encode_term y) (front own.words.now own.long (tag.now ∙ ap (λ (k : ℕ). set own.words.now 0 (pos k)) is));
+    };
   }
     where
       size : suc (suc (length (encode_term x ++ encode_term y))) ≡ 6
       size = omega (arith, length-append (encode_term x) (encode_term y), term-two x, term-two y)
 
-      front : (own : Words) → 15 ≤ length own → own₁ ≡ set own 0 (pos (cond b 4 5)) → take 4 own₃ ≡ pos (cond b 4 5) ∷ d ∷ encode_term x
+      front : (ws : Words) → 15 ≤ length ws → own₁.words.now ≡ set ws 0 (pos (cond b 4 5)) → take 4 own₃.words.now ≡ pos (cond b 4 5) ∷ d ∷ encode_term x
       front [] h t = absurd (omega arith)
       front (k ∷ []) h t = absurd (omega arith)
       front (k ∷ l ∷ ws) h t =
-          ap (take 4) e
-          ∙ take-set-lt 4 own₂ 1 d (omega arith)
-          ∙ ap (λ (us : Words). set us 1 d) (u ∙ ap (λ (us : Words). take 2 us ++ encode_term x) t)
+          ap (take 4) (e.now ∙ ap (λ (i : ℤ). set own₂.words.now 1 i) same)
+          ∙ take-set-lt 4 own₂.words.now 1 d (omega arith)
+          ∙ ap (λ (us : Words). set us 1 d) (term-put own₁ own₂ 2 w (omega arith) x xs p ∙ ap (λ (us : Words). take 2 us ++ encode_term x) t)
 
 -- plain true or false
-pub plain-stands : (b : Bool) (own own₁ : Words) → 15 ≤ length own → own₁ ≡ set own 0 (pos (cond b 1 0)) → LeafStands own₁ (plain b)
+pub plain-stands :
+    (b : Bool) (own own₁ : Own) (n : ℕ) → n ≡ cond b 1 0 → Becomes own (set own.words.now 0 (pos n)) own₁ → LeafPut own own₁ (plain b)
 unfolding encode
-plain-stands b [] own₁ l t = absurd (omega arith)
-plain-stands b (k ∷ ws) own₁ l t = record { leaf = refl; most = omega arith; words = ap (take 1) t }
+plain-stands b own own₁ n is p = record {
+  kept = p.kept;
+  stands = record { leaf = refl; most = omega arith; words = front own.words.now own.long (p.now ∙ ap (λ (k : ℕ). set own.words.now 0 (pos k)) is) };
+}
+  where
+    front : (ws : Words) → 15 ≤ length ws → own₁.words.now ≡ set ws 0 (pos (cond b 1 0)) → take 1 own₁.words.now ≡ pos (cond b 1 0) ∷ []
+    front [] h t = absurd (omega arith)
+    front (k ∷ ws) h t = ap (take 1) t
+
+-- a byte is another one
+other : (t : Text) (b c : ℕ) → slice_get t 0 ≡ Some b → (slice_get t 0 ≡ Some c → ⊥) → b ≡ c → ⊥
+other t b c e n z = n (e ∙ ap (λ (d : ℕ). Some d) z)
 
 -- behind a dollar
-module _ (text : Text) (at room : ℕ) where
-  module _ (h : at < length text) where
-    peeked : from peek text at ≡ got text (get_or text at 0) at
-    unfolding peek
-    peeked = rw (here text at h)
+module _ (here : Cursor) (room : ℕ) where
+  peeked : (b : ℕ) → slice_get here.rest.now 0 ≡ Some b → from peek here ≡ got b here
+  unfolding peek
+  peeked b = go here.rest.now
+    where
+      go : (t : Text) → slice_get t 0 ≡ Some b → peek t here.at ≡ passed (record { what = b; rest = t; at = here.at })
+      go t h = rw (begun t b h)
 
+  peek_over : slice_get here.rest.now 0 ≡ None → from peek here ≡ refused Tptp here.at
+  unfolding peek
+  peek_over e = rw (ended here.rest.now e)
+
+  less_over : slice_get here.rest.now 0 ≡ None → from (literal (bytes "lesseq") >>= λ _. read_compare room true) here ≡ refused Tptp here.at
+  unfolding bytes literal ◌>>=◌ onwards
+  less_over e = rw (ended here.rest.now e)
+
+  -- neither plain true nor false: the comparison's name is read, which the end of the text refuses as well
+  pub dollar-compare :
+      (slice_get here.rest.now 0 ≡ Some 116 → ⊥) → (slice_get here.rest.now 0 ≡ Some 102 → ⊥) →
+      from (behind_dollar room) here ≡ from (literal (bytes "lesseq") >>= λ _. read_compare room true) here
+  unfolding ◌>>=◌ onwards
+  dollar-compare n m = go (slice_get here.rest.now 0) refl
+    where
+      go :
+          (o : Option ℕ) → slice_get here.rest.now 0 ≡ o →
+          from (behind_dollar room) here ≡ from (literal (bytes "lesseq") >>= λ _. read_compare room true) here
+      go None e = rw (peek_over e) (sym (less_over e))
+      go (Some b) e = rw (peeked b e, ne_eqb b 116 (other here.rest.now b 116 e n), ne_eqb b 102 (other here.rest.now b 102 e m))
+
+  module _ (facts : Tree → Type 0) (end : Cursor) (r : Result (Unit {0}) Refused) where
     pub dollar-true :
-        get_or text at 0 ≡ 116 → (facts : Tree → Type 0) (r : Step) → Valued (read_plain (bytes "true") true) facts text at r → Valued (behind_dollar room) facts text at r
-    dollar-true e facts =
-        valued_from (behind_dollar room) (read_plain (bytes "true") true) facts text at at
-        (onward peek _ text at (get_or text at 0) at peeked ∙ rw (eq-eqb (get_or text at 0) 116 e))
-        (omega arith)
+        slice_get here.rest.now 0 ≡ Some 116 → Valued (read_plain (bytes "true") true) facts here end r →
+        Valued (behind_dollar room) facts here end r
+    unfolding ◌>>=◌ onwards
+    dollar-true e =
+        valued_from here here end (still here) (behind_dollar room) (read_plain (bytes "true") true) facts (rw (peeked 116 e)) r
 
     pub dollar-false :
-        get_or text at 0 ≡ 102 → (facts : Tree → Type 0) (r : Step) → Valued (read_plain (bytes "false") false) facts text at r → Valued (behind_dollar room) facts text at r
-    dollar-false e facts =
-        let n : get_or text at 0 ≡ 116 → ⊥ = λ k. omega (arith, e, k) in
-        valued_from (behind_dollar room) (read_plain (bytes "false") false) facts text at at
-        (onward peek _ text at (get_or text at 0) at peeked ∙ rw (ne_eqb (get_or text at 0) 116 n, eq-eqb (get_or text at 0) 102 e))
-        (omega arith)
-
-  -- neither: the comparison's name is read, which the end of the text refuses as well
-  pub dollar-compare :
-      (at < length text → get_or text at 0 ≡ 116 → ⊥) →
-      (at < length text → get_or text at 0 ≡ 102 → ⊥) →
-      from (behind_dollar room) text at ≡ from (literal (bytes "lesseq") >>= λ _. read_compare room true) text at
-  unfolding peek literal bytes
-  dollar-compare n m =
-      ⊎_elim
-      (λ (h : at < length text).
-      onward peek _ text at (get_or text at 0) at (peeked h)
-      ∙ rw (ne_eqb (get_or text at 0) 116 (n h), ne_eqb (get_or text at 0) 102 (m h)))
-      (λ (h : length text ≤ at).
-      halt peek _ text at Tptp at (ap (λ (t : Text). peek t at) (over text at h))
-      ∙ sym (halt (literal (bytes "lesseq")) (λ _. read_compare room true) text at Tptp at (ap (λ (t : Text). literal (bytes "lesseq") t at) (over text at h))))
-      (side (length text) at)
+        slice_get here.rest.now 0 ≡ Some 102 → Valued (read_plain (bytes "false") false) facts here end r →
+        Valued (behind_dollar room) facts here end r
+    unfolding ◌>>=◌ onwards
+    dollar-false e =
+        valued_from here here end (still here) (behind_dollar room) (read_plain (bytes "false") false) facts (rw (peeked 102 e)) r
 
 -- behind a negation
-module _ (text : Text) (at room i : ℕ) (s : Skips text at i) where
-  pub negation-atom :
-      i < length text → get_or text i 0 ≡ 112 → (facts : Tree → Type 0) (r : Step) → Valued (read_atom room false) facts text i r →
-      Valued (behind_negation room) facts text at r
-  negation-atom h e facts =
-      valued_from (behind_negation room) (read_atom room false) facts text at i
-      (onward look _ text at (get_or text i 0) i (look-here text at i s h) ∙ rw (eq-eqb (get_or text i 0) 112 e))
-      s.low
-
-  name-over : length text ≤ i → from (token (bytes "$lesseq")) text i ≡ refused Tptp i
-  unfolding token blanks literal ◌>>=◌ onwards bytes
-  name-over h = ap (λ (t : Text). token (bytes "$lesseq") t i) (over text i h)
+module _ (old mid : Cursor) (s : Skips old mid) (room : ℕ) where
+  name_over : slice_get mid.rest.now 0 ≡ None → from (token (bytes "$lesseq") >>= λ _. read_compare room false) mid ≡ refused Tptp mid.at
+  unfolding bytes token blanks literal ◌>>=◌ onwards
+  name_over e = rw (ended mid.rest.now e)
 
   -- no atom: the comparison's name is read, which the end of the text refuses as well
   pub negation-compare :
-      (i < length text → get_or text i 0 ≡ 112 → ⊥) →
-      from (behind_negation room) text at ≡ from (token (bytes "$lesseq") >>= λ _. read_compare room false) text i
-  unfolding bytes
-  negation-compare e =
-      ⊎_elim
-      (λ (h : i < length text). onward look _ text at (get_or text i 0) i (look-here text at i s h) ∙ rw (ne_eqb (get_or text i 0) 112 (e h)))
-      (λ (h : length text ≤ i).
-      halt look _ text at Tptp i (look-over text at i s h)
-      ∙ sym (halt (token (bytes "$lesseq")) (λ _. read_compare room false) text i Tptp i (name-over h)))
-      (side (length text) i)
+      (slice_get mid.rest.now 0 ≡ Some 112 → ⊥) →
+      from (behind_negation room) old ≡ from (token (bytes "$lesseq") >>= λ _. read_compare room false) mid
+  unfolding ◌>>=◌ onwards
+  negation-compare n = go (slice_get mid.rest.now 0) refl
+    where
+      go :
+          (o : Option ℕ) → slice_get mid.rest.now 0 ≡ o →
+          from (behind_negation room) old ≡ from (token (bytes "$lesseq") >>= λ _. read_compare room false) mid
+      go None e = rw (look-over old mid s e) (sym (name_over e))
+      go (Some b) e = rw (look-here old mid s b e, ne_eqb b 112 (other mid.rest.now b 112 e n))
+
+  pub negation-atom :
+      (facts : Tree → Type 0) (end : Cursor) (r : Result (Unit {0}) Refused) → slice_get mid.rest.now 0 ≡ Some 112 →
+      Valued (read_atom room false) facts mid end r → Valued (behind_negation room) facts old end r
+  unfolding ◌>>=◌ onwards
+  negation-atom facts end r e =
+      valued_from old mid end s.reads.moved (behind_negation room) (read_atom room false) facts (rw (look-here old mid s 112 e)) r
 
 -- a node with none below it
-module _ (text : Text) (at room : ℕ) (h : at < length text) (n : blank (get_or text at 0) ≡ false) where
-  self : Skips text at at
-  self = record { low = omega arith; high = omega arith; reads = skip_stop text at h n; stop = λ _. n }
-
-  looked : from look text at ≡ got text (get_or text at 0) at
-  looked = look-here text at at self h
+module _ (here : Cursor) (room : ℕ) (u : Unblank here.rest.now) where
+  self : Skips here here
+  unfolding blanks
+  self = record { reads = record { moved = still here; reads = go here.rest.now u }; stop = u }
+    where
+      go : (t : Text) → Unblank t → blanks t here.at ≡ passed (record { what = tt; rest = t; at = here.at })
+      go [] u = refl
+      go (b ∷ t) u = rw (u b refl)
 
   pub leaf-none :
-      (get_or text at 0 ≡ 36 → ⊥) → (get_or text at 0 ≡ 112 → ⊥) → (get_or text at 0 ≡ 126 → ⊥) → from (read_leaf room) text at ≡ refused Tptp at
-  unfolding stop
-  leaf-none d p e =
-      onward look _ text at (get_or text at 0) at looked
-      ∙ rw (ne_eqb (get_or text at 0) 36 d, ne_eqb (get_or text at 0) 112 p, ne_eqb (get_or text at 0) 126 e)
+      (slice_get here.rest.now 0 ≡ Some 36 → ⊥) → (slice_get here.rest.now 0 ≡ Some 112 → ⊥) → (slice_get here.rest.now 0 ≡ Some 126 → ⊥) →
+      from (read_leaf room) here ≡ refused Tptp here.at
+  unfolding stop ◌>>=◌ onwards
+  leaf-none d p n = go (slice_get here.rest.now 0) refl
+    where
+      go : (o : Option ℕ) → slice_get here.rest.now 0 ≡ o → from (read_leaf room) here ≡ refused Tptp here.at
+      go None e = rw (look-over here here self e)
+      go (Some b) e =
+          rw (
+            look-here here here self b e,
+            ne_eqb b 36 (other here.rest.now b 36 e d),
+            ne_eqb b 112 (other here.rest.now b 112 e p),
+            ne_eqb b 126 (other here.rest.now b 126 e n),
+          )
 
-  module _ (facts : Tree → Type 0) (r : Step) where
-    pub leaf-dollar : get_or text at 0 ≡ 36 → Valued (behind_dollar room) facts text (at + 1) r → Valued (read_leaf room) facts text at r
-    unfolding read_dollar bytes
-    leaf-dollar e =
-        valued_from (read_leaf room) (behind_dollar room) facts text at (at + 1)
-        (onward look _ text at (get_or text at 0) at looked
-        ∙ rw (eq-eqb (get_or text at 0) 36 e)
-        (onward (token (36 ∷ [])) (λ _. behind_dollar room) text at tt (at + 1) (token-here text at at self 36 h e).reads))
-        (omega arith)
-        r
+  module _ (facts : Tree → Type 0) (end : Cursor) (r : Result (Unit {0}) Refused) where
+    pub leaf-atom :
+        slice_get here.rest.now 0 ≡ Some 112 → Valued (read_atom room true) facts here end r → Valued (read_leaf room) facts here end r
+    unfolding ◌>>=◌ onwards
+    leaf-atom e =
+        valued_from here here end (still here) (read_leaf room) (read_atom room true) facts (rw (look-here here here self 112 e)) r
 
-    module _ (d : get_or text at 0 ≡ 36 → ⊥) where
-      pub leaf-atom : get_or text at 0 ≡ 112 → Valued (read_atom room true) facts text at r → Valued (read_leaf room) facts text at r
-      leaf-atom e =
-          valued_from (read_leaf room) (read_atom room true) facts text at at
-          (onward look _ text at (get_or text at 0) at looked ∙ rw (ne_eqb (get_or text at 0) 36 d, eq-eqb (get_or text at 0) 112 e))
-          (omega arith)
-          r
+    module _ (new : Cursor) (p : new.rest.now ≡ drop 1 here.rest.now) (a : new.at ≡ here.at + 1) where
+      pub leaf-dollar :
+          slice_get here.rest.now 0 ≡ Some 36 → Valued (behind_dollar room) facts new end r → Valued (read_leaf room) facts here end r
+      unfolding read_dollar bytes ◌>>=◌ onwards
+      leaf-dollar e =
+          let t = token-here here here self new p a 36 e in
+          valued_from here new end t.moved (read_leaf room) (behind_dollar room) facts (rw (look-here here here self 36 e, t.reads)) r
 
-      module _ (p : get_or text at 0 ≡ 112 → ⊥) where
-        pub leaf_negated :
-            get_or text at 0 ≡ 126 → Valued (behind_negation room) facts text (at + 1) r → Valued (read_leaf room) facts text at r
-        unfolding read_negated bytes
-        leaf_negated e =
-            valued_from (read_leaf room) (behind_negation room) facts text at (at + 1)
-            (onward look _ text at (get_or text at 0) at looked
-            ∙ rw (ne_eqb (get_or text at 0) 36 d, ne_eqb (get_or text at 0) 112 p, eq-eqb (get_or text at 0) 126 e)
-            (onward (token (126 ∷ [])) (λ _. behind_negation room) text at tt (at + 1) (token-here text at at self 126 h e).reads))
-            (omega arith)
-            r
+      pub leaf-negated :
+          slice_get here.rest.now 0 ≡ Some 126 → Valued (behind_negation room) facts new end r → Valued (read_leaf room) facts here end r
+      unfolding read_negated bytes ◌>>=◌ onwards
+      leaf-negated e =
+          let t = token-here here here self new p a 126 e in
+          valued_from here new end t.moved (read_leaf room) (behind_negation room) facts (rw (look-here here here self 126 e, t.reads)) r

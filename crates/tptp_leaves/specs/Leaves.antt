@@ -1,13 +1,15 @@
 -- What the reading of nodes with none below them comes to.
-use Rattle.std.specs.Prelude.{ℕ, ◌≤◌, ◌≡◌, Bool, true, false, cond, length, take, set, eqb, pos}
+use Rattle.std.specs.Prelude.{ℕ, ◌≤◌, ◌≡◌, Bool, true, false, cond, length, take, eqb, slice_get, Some}
 use Rattle.model.specs.Words.{Words}
-use Rattle.model.specs.Bytes.{Text, bytes, dollar, tilde, letter_p, letter_t, letter_f}
+use Rattle.model.specs.Bytes.{Text, bytes, blank, dollar, tilde, letter_p, letter_t, letter_f}
 use Rattle.model.specs.Tree.{Tree, plain, atom, compare, join, quantifier, some, encode}
 use Rattle.model.specs.TptpReading.{Reader, give, stop, look, peek, token, literal, read_atom, read_compare, read_dollar, read_negated, ◌>>=◌}
+use Rattle.tptp_leaves.specs.declared.own.Own.{Own}
+use Rattle.tptp_leaves.specs.Room.{Kept}
 
--- a number is the second word
-abbrev pub SecondNatural : (own own' : Words) (n : ℕ) → Type 0
-SecondNatural own own' n = own' ≡ set own 1 (pos n)
+-- no blank stands in front
+abbrev pub Unblank : (text : Text) → Type 0
+Unblank text = (b : ℕ) → slice_get text 0 ≡ Some b → blank b ≡ false
 
 -- a node has none below it
 abbrev pub is_leaf : (tree : Tree) → Bool
@@ -23,6 +25,11 @@ pub record LeafStands (own : Words) (tree : Tree) : Type 0 where
   pub leaf : is_leaf tree ≡ true
   pub most : length (encode tree) ≤ 15
   pub words : take (length (encode tree)) own ≡ encode tree
+
+-- its words were put into their room
+pub record LeafPut (own own' : Own) (tree : Tree) : Type 0 where
+  pub kept : Kept own own'
+  pub stands : LeafStands own'.words.now tree
 
 -- plain true or false, by these bytes
 abbrev pub read_plain : (word : Text) (b : Bool) → Reader Tree

@@ -1,13 +1,20 @@
 -- What the reading of terms comes to.
-use Rattle.std.specs.Prelude.{ℕ, ◌+◌, ◌*◌, ◌≤◌, ◌≡◌, List, ◌∷◌, ◌++◌, length, take, pos}
-use Rattle.model.specs.Words.{Words}
+use Rattle.std.specs.Prelude.{◌+◌, ◌*◌, ◌≤◌, ◌≡◌, List, ◌∷◌, [], ◌++◌, length, take, pos, Result, Ok, Err}
 use Rattle.model.specs.Lists.{gather}
+use Rattle.model.specs.Answer.{refused}
 use Rattle.model.specs.Tree.{Term, constant, variable, encode_term}
 use Rattle.model.specs.TptpReading.{Reader, give, integer, natural, ◌>>=◌}
+use Rattle.model.specs.declared.Refused.{Refused}
+use Rattle.text.specs.declared.cursor.Cursor.{Cursor}
+use Rattle.tptp_tokens.specs.Steps.{from, Value}
+use Rattle.tptp_leaves.specs.declared.terms.TermWords.{TermWords}
+use Rattle.tptp_leaves.specs.declared.own.Own.{Own}
+use Rattle.tptp_leaves.specs.Room.{Kept}
 
--- the two words of a term stand from an index on, behind the words that stood there
-abbrev pub TermStands : (k : ℕ) (own own' : Words) (t : Term) → Type 0
-TermStands k own own' t = take (k + 2) own' ≡ take k own ++ encode_term t
+-- a reader comes to a term with these words, or to a refusal
+abbrev pub TermRead : (reader : Reader Term) (old new : Cursor) (r : Result TermWords Refused) → Type 0
+TermRead reader old new (Ok w) = Value reader (λ t. encode_term t ≡ w.kind ∷ w.number ∷ []) old new
+TermRead reader old new (Err e) = from reader old ≡ refused e.0 e.1
 
 -- behind the letter of a variable; a constant
 abbrev pub read_variable : Reader Term
@@ -21,6 +28,7 @@ read_constant = do
   give (constant k)
 
 -- the number of terms, at most six, and their words stand behind two words
-pub record TermsStand (own own' : Words) (ts : List Term) : Type 0 where
+pub record TermsStand (own own' : Own) (ts : List Term) : Type 0 where
+  pub kept : Kept own own'
   pub most : length ts ≤ 6
-  pub words : take (3 + 2 * length ts) own' ≡ take 2 own ++ pos (length ts) ∷ gather encode_term ts
+  pub words : take (3 + 2 * length ts) own'.words.now ≡ take 2 own.words.now ++ pos (length ts) ∷ gather encode_term ts

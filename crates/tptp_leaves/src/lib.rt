@@ -2,4 +2,5 @@
 #![tactic(auto)]
 
 pub mod leaves;
+pub mod own;
 pub mod terms;

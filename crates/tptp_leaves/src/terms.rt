@@ -1,75 +1,66 @@
-// Terms, as they stand in a text. Their words go to a small room of their own, which holds the words of one atom.
-ghost use Rattle.std.specs.Prelude.{◌≡◌, ◌+◌, ◌≤◌, pos, length, set};
-ghost use Rattle.text.specs.Reading.{signed, Sized};
+// Terms, as they stand in a text. The words of several go to a small room of their own, which holds the words of one atom.
 ghost use Rattle.model.specs.TptpReading as R;
 ghost use Rattle.tptp_tokens.specs.Steps.{Valued};
 ghost use Rattle.tptp_leaves.specs.Terms as T;
 
-use model::{Refusal, Refused};
+use crate::own::Own;
+use model::Refused;
 use text::bytes;
-use text::word::put;
+use text::cursor::Cursor;
 use tptp_tokens::numbers::{integer, natural};
-use tptp_tokens::tokens::{Step, skip};
+use tptp_tokens::several::another;
+use tptp_tokens::tokens::skip;
 
-// The words of a term go to an index: its kind, and its number.
-fn put_term(own: &mut [i32], k: usize, kind: usize, magnitude: usize, negative: bool)
-    requires { (k + 2 ≤ length own.old) × (kind ≤ 1) × Sized negative magnitude }
-    ensures { own.new ≡ set (set own.old k (pos kind)) (k + 1) (signed negative magnitude) }
-{
-    put(own, k, kind, false);
-    put(own, k + 1, magnitude, negative);
+// The words of a term: its kind, a constant (0) or a variable (1), and its number.
+#[derive(Clone, Copy)]
+pub struct TermWords {
+    pub kind: i32,
+    pub number: i32,
 }
 
-// A variable, whose letter stands before an index.
-fn variable(text: &[u8], at: usize, own: &mut [i32], k: usize) -> Step
-    requires { (at ≤ length text.now) × (k + 2 ≤ length own.old) }
-    ensures { Valued T.read_variable (T.TermStands k own.old own.new) text.now at result }
+// A variable, whose letter was passed.
+fn variable(here: &mut Cursor<'_>) -> Result<TermWords, Refused>
+    ensures { T.TermRead T.read_variable here.old here.new result }
 {
-    let found = natural(text, at)?;
-    put_term(own, k, 1, found.number, false);
-    Ok(found.next)
+    let number = natural(here)?;
+    Ok(TermWords {
+        kind: 1,
+        number: number as i32,
+    })
 }
 
 // A constant.
-fn constant(text: &[u8], at: usize, own: &mut [i32], k: usize) -> Step
-    requires { (at ≤ length text.now) × (k + 2 ≤ length own.old) }
-    ensures { Valued T.read_constant (T.TermStands k own.old own.new) text.now at result }
+fn constant(here: &mut Cursor<'_>) -> Result<TermWords, Refused>
+    ensures { T.TermRead T.read_constant here.old here.new result }
 {
-    let found = integer(text, at)?;
-    put_term(own, k, 0, found.magnitude, found.negative);
-    Ok(found.next)
+    let number = integer(here)?;
+    Ok(TermWords { kind: 0, number })
 }
 
-// A term, behind blanks. Its two words go to an index.
-pub fn term(text: &[u8], at: usize, own: &mut [i32], k: usize) -> Step
-    requires { (at ≤ length text.now) × (k + 2 ≤ length own.old) }
-    ensures { Valued R.term (T.TermStands k own.old own.new) text.now at result }
+// A term, behind blanks.
+pub fn term(here: &mut Cursor<'_>) -> Result<TermWords, Refused>
+    ensures { T.TermRead R.term here.old here.new result }
 {
-    let i = skip(text, at);
-    if text.get(i) == Some(&88) {
-        return variable(text, i + 1, own, k);
+    skip(here);
+    if here.rest.first() == Some(&88) {
+        here.pass(1);
+        return variable(here);
     }
-    constant(text, i, own, k)
+    constant(here)
 }
 
 // One to six terms with commas between them. Their number and their words go behind the first two words.
-pub fn terms(text: &[u8], at: usize, own: &mut [i32]) -> Step
-    requires { (at ≤ length text.now) × (15 ≤ length own.old) }
-    ensures { Valued R.terms (T.TermsStand own.old own.new) text.now at result }
+pub fn terms(here: &mut Cursor<'_>, own: &mut Own<'_>) -> Result<(), Refused>
+    ensures { Valued R.terms (T.TermsStand own.old own.new) here.old here.new result }
 {
-    let first = term(text, at, own, 3)?;
-    own[2] = 1;
-    let mut next = first;
+    own.put_term(3, term(here)?);
+    own.put(2, 1);
     for n in 1..6 {
-        let i = skip(text, next);
-        if text.len() <= i {
-            return Err(Refused(Refusal::Tptp, i));
+        if !another(here, bytes::COMMA)? {
+            return Ok(());
         }
-        if text[i] != bytes::COMMA {
-            return Ok(i);
-        }
-        next = term(text, i + 1, own, 3 + 2 * n)?;
-        put(own, 2, n + 1, false);
+        own.put_term(3 + 2 * n, term(here)?);
+        own.put(2, n + 1);
     }
-    Ok(next)
+    Ok(())
 }

@@ -2,30 +2,27 @@
 use Prim.Native.Nat.{ℕ, zero, suc, ◌+◌, ◌-◌, ◌≤◌, ◌<◌}
 use native.Mathlib.Omega.{arith}
 use mathlib.Core.Path.{◌≡◌, refl, sym, ap, ◌∙◌}
-use mathlib.Core.Logic.{⊎_elim}
-use mathlib.Core.Bool.{Bool, cond}
-use mathlib.Core.List.{List, [], ◌∷◌, ◌++◌, append-nil}
-use lib.ListN.{length, drop, get_or, length-append, length-drop}
-use lib.Dec.{leb}
-use borrow.Author.Tests.{leb-true, leb-false}
+use mathlib.Core.Bool.{Bool, true, false, cond}
+use mathlib.Core.List.{List, [], ◌∷◌, ◌++◌}
+use lib.ListN.{length, length-append}
+use Rattle.text.specs.declared.cursor.Cursor.{Cursor}
 use Rattle.model.specs.Words.{Words}
 use Rattle.model.specs.Bytes.{Text, ampersand, bar}
-use Rattle.model.specs.Answer.{refused}
+use Rattle.model.specs.Answer.{refused, passed}
 use Rattle.model.specs.Tree.{Tree}
 use Rattle.model.specs.Level.{Role}
 use Rattle.model.specs.Reading.{is_formula}
-use Rattle.model.specs.TptpReading.{Reader, onwards, ◌>>=◌, blanks, peek, look, more, up_to, trees, read_operand, readers}
+use Rattle.model.specs.TptpReading.{Got, Reader, onwards, ◌>>=◌, blanks, peek, look, more, up_to, trees, read_operand, readers}
 use Rattle.model.specs.declared.Refusal.{Refusal}
 use Rattle.model.specs.declared.Refusal.TheVariants.{Tptp}
 use Rattle.laws.specs.Answer.{refused-passed}
-use Rattle.laws.specs.Words.Tests.{decide}
-use Rattle.tptp_tokens.specs.Steps.{from, got, Skips, Value}
-use Rattle.modes.specs.declared.marks.Marks.{Marks}
+use Rattle.tptp_tokens.specs.Steps.{from, got, Moved, Reads, Value}
+use Rattle.tptp_tokens.specs.Several.{another}
 use Rattle.tptp_state.specs.Told.{Passed, Ready, Told, Handed, Joined}
 use Rattle.tptp_reading.specs.Formula.{Begins, Follows, Further}
 use Rattle.tptp_state.specs.declared.state.State.{State}
-use Rattle.tptp_tokens.proofs.TokenLaws.{over}
-use Rattle.tptp_tokens.proofs.UpTo.{attach, attach-none, attach-attach, upto_over, upto_stop, upto_more, upto_refused}
+use Rattle.tptp_tokens.proofs.MovedLaws.{still, further}
+use Rattle.tptp_tokens.proofs.UpTo.{attach, attach-none, several_refused, several_stop, several_none, several_more}
 use Rattle.tptp_reading.proofs.JoinLaws.{told_more}
 
 -- at the end of a text there is no operand
@@ -35,39 +32,32 @@ operand-none zero formula scope at = refl
 operand-none (suc room) formula scope at = refl
 
 operand-there :
-    (room : ℕ) (formula : Bool) (scope : ℕ) (text : Text) (at : ℕ) (t : Tree) (next : ℕ) →
-    from ((readers room).operand formula scope) text at ≡ got text t next →
-    at < length text
-operand-there room formula scope text at t next e =
-    ⊎_elim
-    (λ h. refused-passed (sym (operand-none room formula scope at)
-    ∙ ap (λ (u : Text). (readers room).operand formula scope u at) (sym (over text at (leb-true (length text) at h)))
-    ∙ e))
-    (λ h. leb-false (length text) at h)
-    (decide (leb (length text) at))
+    (room : ℕ) (formula : Bool) (scope : ℕ) (t : Text) (p : ℕ) (g : Got Tree) →
+    (readers room).operand formula scope t p ≡ passed g →
+    1 ≤ length t
+operand-there room formula scope [] p g e = refused-passed (sym (operand-none room formula scope p) ∙ e)
+operand-there room formula scope (b ∷ t) p g e = omega arith
 
 -- so many operands with the first were read so far; there is fuel for those that are left
 pub record Joining
-    (room : ℕ) (b : Bool) (table : Words) (role : Role) (above scope : ℕ) (start : Marks) (first : State) (text : Text) (at : ℕ)
-    (old out : Words) (state : State) (next n : ℕ) : Type 0 where
+    (room : ℕ) (b : Bool) (table : Words) (role : Role) (above scope : ℕ) (start : Marks) (first : State) (old here : Cursor)
+    (before out : Words) (state : State) (n : ℕ) : Type 0 where
   pub ts : List Tree
   pub number : suc (length ts) ≡ n
-  pub few : n ≤ suc next
+  pub few : n + length here.rest.now ≤ suc (length old.rest.now)
   pub fuel : ℕ
   pub some : 1 ≤ fuel
-  pub enough : length text ≤ fuel + next
+  pub enough : length here.rest.now ≤ fuel
   pub goes :
-      from (more (cond b ampersand bar) ((readers room).operand (is_formula role) scope)) text at
-      ≡ attach ts (from (up_to fuel (cond b ampersand bar) ((readers room).operand (is_formula role) scope)) text next)
-  pub follows : Follows table b role above scope start first state old out ts
+      from (more (cond b ampersand bar) ((readers room).operand (is_formula role) scope)) old
+      ≡ attach ts (from (up_to fuel (cond b ampersand bar) ((readers room).operand (is_formula role) scope)) here)
+  pub follows : Follows table b role above scope start first state before out ts
   pub ready : Ready above scope state
-  pub long : length out ≡ length old
-  pub low : at ≤ next
-  pub high : next ≤ length text
+  pub long : length out ≡ length before
+  pub moved : Moved old here
 
 module _
-    (room : ℕ) (b : Bool) (table : Words) (role : Role) (above scope : ℕ) (start : Marks) (first : State) (text : Text) (at : ℕ)
-    (old : Words)
+    (room : ℕ) (b : Bool) (table : Words) (role : Role) (above scope : ℕ) (start : Marks) (first : State) (old : Cursor) (before : Words)
   where
     abbrev one : Reader Tree
     one = (readers room).operand (is_formula role) scope
@@ -76,99 +66,87 @@ module _
     byte = cond b ampersand bar
 
     pub joining-start :
-        Begins table text at room above scope first → at < length text →
-        Joining room b table role above scope start first text at old old first at 1
+        Begins table room above scope first → 1 ≤ length old.rest.now →
+        Joining room b table role above scope start first old old before before first 1
     unfolding more trees
     joining-start begins h = record {
       ts = [];
       number = refl;
       few = omega arith;
-      fuel = length (drop at text);
-      some = omega (arith, length-drop at text);
-      enough = omega (arith, length-drop at text);
+      fuel = length old.rest.now;
+      some = h;
+      enough = omega arith;
       goes = sym (attach-none _);
       follows = λ f u out e a. a;
       ready = begins.ready;
       long = refl;
-      low = omega arith;
-      high = omega arith;
+      moved = still old;
     }
 
     module _
-        {out : Words} {state : State} {next n : ℕ}
-        (t : Joining room b table role above scope start first text at old out state next n) (i : ℕ) (s : Skips text next i)
+        {out : Words} {state : State} {n : ℕ} (here : Cursor)
+        (t : Joining room b table role above scope start first old here before out state n)
+        (c : ℕ) (is : c ≡ byte)
       where
         abbrev f : ℕ
         f = t.fuel - 1
 
-        goes_on_lem : from (more byte one) text at ≡ attach t.ts (from (up_to (suc f) byte one) text next)
-        goes_on_lem =
-            t.goes
-            ∙ ap (λ (k : ℕ). attach t.ts (from (up_to k byte one) text next))
-            (let e : t.fuel ≡ suc (t.fuel - 1) = omega (arith, t.some) in e)
+        burns : t.fuel ≡ suc f
+        burns = omega (arith, t.some)
 
         -- the text ends
-        pub joining-over : length text ≤ i → from (more byte one) text at ≡ refused Tptp i
-        unfolding attach
-        joining-over h = goes_on_lem ∙ ap (attach t.ts) (upto_over one byte text next f i s h)
+        pub joining-over : (q : Refusal) (p : ℕ) → from (another c) here ≡ refused q p → from (more byte one) old ≡ refused q p
+        joining-over q p e = several_refused one byte t.ts here f t.fuel burns t.goes q p (rw (sym is) e)
 
-        module _ (h : i < length text) where
+        module _ (follow : Bool) (mid : Cursor) (a : Reads (another c) here follow mid) where
           -- another byte stands here
           pub joining-stop :
-              (c : ℕ) → c ≡ byte → (get_or text i 0 ≡ c → ⊥) →
-              Value (more byte one) (Further table b role above scope start first state old out n) text at i
-          unfolding attach
-          joining-stop c is e = record {
+              follow ≡ false → Value (more byte one) (Further table b role above scope start first state before out n) old mid
+          joining-stop e = record {
             what = t.ts;
             reads = record {
-              low = omega (arith, t.low, s.low);
-              high = s.high;
-              reads =
-                  goes_on_lem
-                  ∙ ap (attach t.ts) (upto_stop one byte text next f i s h (λ k. e (k ∙ sym is)))
-                  ∙ ap (λ (us : List Tree). got text us i) (append-nil t.ts);
+              moved = further old here mid t.moved a.moved;
+              reads = several_stop one byte t.ts here f t.fuel burns t.goes follow e mid (rw (sym is) a.reads);
             };
             holds = record { number = t.number; follows = t.follows };
           }
 
-          module _ (c : ℕ) (is : c ≡ byte) (e : get_or text i 0 ≡ c) where
+          module _ (yes : follow ≡ true) where
             -- the next operand was refused
-            pub joining-refused : (q : Refusal) (p : ℕ) → from one text (i + 1) ≡ refused q p → from (more byte one) text at ≡ refused q p
-            unfolding attach
-            joining-refused q p why = goes_on_lem ∙ ap (attach t.ts) (upto_refused one byte text next f i s h (e ∙ is) q p why)
+            pub joining-refused : (q : Refusal) (p : ℕ) → from one mid ≡ refused q p → from (more byte one) old ≡ refused q p
+            joining-refused q p why = several_none one byte t.ts here f t.fuel burns t.goes follow yes mid (rw (sym is) a.reads) q p why
 
             -- it was read
             pub joining-more :
-                (handed known joint : State) (out' : Words) (behind : ℕ) →
-                Value one (λ tree. Told table tree role above scope handed known out out') text (i + 1) behind →
+                here.at < mid.at →
+                (handed known joint : State) (out' : Words) (behind : Cursor) →
+                Value one (λ tree. Told table tree role above scope handed known out out') mid behind →
                 Handed b start state handed →
                 Joined b state.set known joint →
                 length out' ≡ length out →
-                Joining room b table role above scope start first text at old out' joint behind (n + 1)
-            joining-more handed known joint out' behind v hand j l =
-                let there = operand-there room (is_formula role) scope text (i + 1) v.what behind v.reads.reads in
+                Joining room b table role above scope start first old behind before out' joint (n + 1)
+            joining-more less handed known joint out' behind v hand j l =
+                let there = operand-there room (is_formula role) scope mid.rest.now mid.at _ v.reads.reads in
                 let was : handed.asked ≡ state.asked = ap (λ (x : State). x.asked) hand in
                 let passes : joint.asked ≡ Passed → state.asked ≡ Passed = λ p. sym was ∙ v.holds.passes (sym j.asked ∙ p) in
+                let m = a.moved.whole in
+                let k = v.reads.moved in
                 record {
                   ts = t.ts ++ v.what ∷ [];
                   number = omega (arith, length-append t.ts (v.what ∷ []), t.number);
-                  few = omega (arith, t.few, s.low, v.reads.low);
+                  few = omega (arith, t.few, less, m, k.low, k.whole);
                   fuel = f;
-                  some = omega (arith, t.enough, there, s.low);
-                  enough = omega (arith, t.enough, s.low, v.reads.low, t.some);
-                  goes =
-                      goes_on_lem
-                      ∙ ap (attach t.ts) (upto_more one byte text next f i s h (e ∙ is) v.what behind v.reads.reads)
-                      ∙ attach-attach t.ts (v.what ∷ []) (from (up_to f byte one) text behind);
-                  follows = λ g u words same a.
+                  some = omega (arith, t.enough, less, m, there);
+                  enough = omega (arith, t.enough, less, m, k.low, k.whole);
+                  goes = several_more one byte t.ts here f t.fuel burns t.goes follow yes mid (rw (sym is) a.reads) v.what behind v.reads.reads;
+                  follows = λ g u words same all.
                       told_more table b g t.ts v.what role above scope start u state handed known joint words out out'
-                      (t.follows g u words same a) same hand v.holds j;
+                      (t.follows g u words same all) same hand v.holds j;
                   ready = record {
                     counted = omega (arith, j.words, v.holds.counted);
                     level = λ p. t.ready.level (passes p);
                     range = λ p. t.ready.range (passes p);
                   };
                   long = l ∙ t.long;
-                  low = omega (arith, t.low, s.low, v.reads.low);
-                  high = v.reads.high;
+                  moved = further old here behind t.moved (further here mid behind a.moved v.reads.moved);
                 }

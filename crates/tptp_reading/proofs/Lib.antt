@@ -1,12 +1,12 @@
 pub mod AheadTrees
+pub mod StopLaws
 pub mod RoomLaws
-pub mod OperandLaws
-pub mod PolicyLaws
+pub mod MoreLaws
 pub mod JoinLaws
 pub mod ChildrenLaws
-pub mod StopLaws
 pub mod ChainLaws
+pub mod OperandLaws
 pub mod SomeLaws
-pub mod MoreLaws
-pub mod RestrictionLaws
 pub mod QuantifierLaws
+pub mod RestrictionLaws
+pub mod PolicyLaws

@@ -6,8 +6,11 @@ use mathlib.Core.Path.{◌≡◌, refl, sym, ap, subst, ◌∙◌}
 use mathlib.Core.Logic.{⊎_elim}
 use mathlib.Core.Bool.{cond}
 use mathlib.Core.List.{List, [], ◌∷◌}
-use lib.ListN.{length, drop, get_or, length-drop, length-append}
+use lib.ListN.{length, length-append}
 use lib.Dec.{eqb}
+use Rattle.std.specs.Prelude.{slice_get, Some}
+use Rattle.std.proofs.lemmas.Option.{slice_get_within}
+use Rattle.text.specs.declared.cursor.Cursor.{Cursor}
 use Rattle.model.specs.Bytes.{Text}
 use Rattle.model.specs.Answer.{Outcome, passed, refused}
 use Rattle.model.specs.Tptp.{Stand}
@@ -92,15 +95,17 @@ module _ {A : Type 0} (c : ℕ) (one : Reader A) where
             (decide (eqb g.what c))
 
     -- behind blanks
-    pub more-later : (text : Text) (at i : ℕ) → Skips text at i → i < length text → from (more c one) text at ≡ from (more c one) text i
+    pub more-later :
+        (old mid : Cursor) → Skips old mid → (b : ℕ) → slice_get mid.rest.now 0 ≡ Some b → from (more c one) old ≡ from (more c one) mid
     unfolding more up_to
-    more-later text at i s h =
-        let n = length text in
-        let here = length-drop at text in
-        let there = length-drop i text in
-        same_fuel (length (drop at text)) (suc n) (drop at text) at
-        (omega (arith, here, s.low)) (omega arith) (omega arith) (omega (arith, here))
-        ∙ onward look _ text at (get_or text i 0) i (look-here text at i s h)
-        ∙ sym (onward look _ text i (get_or text i 0) i (look-here text i i (skips_self text at i s h) h))
-        ∙ same_fuel (suc n) (length (drop i text)) (drop i text) i
-        (omega arith) (omega (arith, there)) (omega (arith, there)) (omega arith)
+    more-later old mid s b h =
+        let n = length old.rest.now in
+        let some = slice_get_within mid.rest.now 0 b h in
+        let low = s.reads.moved.low in
+        let whole = s.reads.moved.whole in
+        same_fuel n (suc n) old.rest.now old.at
+        (omega (arith, some, low, whole)) (omega arith) (omega arith) (omega arith)
+        ∙ onward look _ old b mid (look-here old mid s b h)
+        ∙ sym (onward look _ mid b mid (look-here mid mid (skips_self old mid s b h) b h))
+        ∙ same_fuel (suc n) (length mid.rest.now) mid.rest.now mid.at
+        (omega arith) (omega (arith, low, whole)) (omega (arith, some)) (omega arith)

@@ -4,14 +4,16 @@ use native.Mathlib.Omega.{arith}
 use mathlib.Core.Path.{◌≡◌, refl, sym, ap, subst, ◌∙◌, fun_ext}
 use mathlib.Core.Logic.{⊎_elim}
 use mathlib.Core.Bool.{Bool, true, false, cond}
-use mathlib.Core.List.{[], ◌∷◌, ◌++◌}
-use lib.ListN.{length, set, get_or, length-append}
+use mathlib.Core.List.{List, [], ◌∷◌, ◌++◌}
+use lib.ListN.{length, drop, set, length-append}
 use lib.Seq.{sets}
 use lib.Dec.{leb, ltb}
 use lib.IntN.{pos}
 use borrow.Author.Tests.{leb-true}
+use Rattle.std.specs.Prelude.{slice_get, Some}
+use Rattle.text.specs.declared.cursor.Cursor.{Cursor}
 use Rattle.model.specs.Words.{Words, same, policy_limit, level_limit, scope_limit}
-use Rattle.model.specs.Bytes.{Text, bytes, blank, exclamation, interrogation}
+use Rattle.model.specs.Bytes.{bytes, blank, exclamation, interrogation}
 use Rattle.model.specs.Lists.{gather}
 use Rattle.model.specs.Answer.{Outcome, refused, ◌>>=◌}
 use Rattle.model.specs.Tree.{Tree, quantifier, encode}
@@ -29,20 +31,20 @@ use Rattle.tables.specs.Checked.{outcome}
 use Rattle.std.specs.Prelude.{Result, Ok, Err}
 use Rattle.model.specs.declared.Refused.{Refused}
 use Rattle.modes.specs.Mode.{set_of}
-use Rattle.tptp_tokens.specs.Steps.{Step, from, Reads, Steps, Value, Valued}
-use Rattle.tptp_binders.specs.Binder.{IsCount}
+use Rattle.tptp_tokens.specs.Steps.{from, Reads, Steps, Value, Valued}
 use Rattle.tptp_tokens.specs.Laying.{most_words, Laid}
 use Rattle.modes.specs.declared.marks.Marks.{Marks}
 use Rattle.tptp_state.specs.Told.{Passed, told, Told, Settled, Entered, Introduced, Outer}
 use Rattle.tptp_reading.specs.Formula.{Begins, beneath, RestrictedTold}
 use Rattle.tptp_state.specs.declared.state.State.{State}
+use Rattle.tptp_tokens.proofs.MovedLaws.{further}
 use Rattle.tptp_tokens.proofs.TokenLaws.{onward, halt, token-here}
 use Rattle.tptp_tokens.proofs.BehindLaws.{closed_from}
 use Rattle.tptp_state.proofs.StateLaws.{asked-passed}
 use Rattle.tptp_binders.proofs.TuplesLaws.{sets-append}
 use Rattle.tptp_tokens.proofs.LayingLaws.{laid_three}
 use Rattle.tptp_reading.proofs.SomeLaws.{entered_passed, entered_ready}
-use Rattle.tptp_reading.proofs.StopLaws.{skips_here}
+use Rattle.tptp_reading.proofs.StopLaws.{same_first, skips_here}
 use Rattle.tptp_reading.proofs.RoomLaws.{opening-room, beneath_less}
 
 -- tuples of one number at least are as many numbers at least
@@ -75,7 +77,7 @@ module _
     (is-deep : deep ≡ leb level level_limit) (is_free : free ≡ leb (scope + v) scope_limit)
     (entered : Entered 3 deep free marks s handed)
     (outer : Outer scope marks)
-    (restricted : RestrictedTold table level scope v handed out mid count known c)
+    (restricted : RestrictedTold table level scope v handed known out mid count c)
     (introduced : Introduced scope v s.words known between)
     (body : Told table f formula level (scope + v) between r mid last)
     (tagged : tag ≡ cond b 8 9)
@@ -218,18 +220,25 @@ cost-few (operand a) b = ⊎_elim (λ e. rw e (omega arith)) (λ e. rw e (omega 
 
 -- the byte that a quantifier begins with
 mark-read :
-    (b : Bool) (text : Text) (at : ℕ) → at < length text → get_or text at 0 ≡ cond b exclamation interrogation →
-    Reads (token (cond b (bytes "!") (bytes "?"))) text at tt (at + 1)
+    (b : Bool) (old at : Cursor) → slice_get old.rest.now 0 ≡ Some (cond b exclamation interrogation) →
+    at.rest.now ≡ drop 1 old.rest.now → at.at ≡ old.at + 1 →
+    Reads (token (cond b (bytes "!") (bytes "?"))) old tt at
 unfolding bytes blank
-mark-read true text at h e = token-here text at at (skips_here text at h (rw e)) exclamation h e
-mark-read false text at h e = token-here text at at (skips_here text at h (rw e)) interrogation h e
+mark-read true old at h r e =
+    token-here old old (skips_here old (λ b k. rw (same_first old.rest.now b exclamation k h) refl)) at r e exclamation h
+mark-read false old at h r e =
+    token-here old old (skips_here old (λ b k. rw (same_first old.rest.now b interrogation k h) refl)) at r e interrogation h
 
 -- a quantifier is read up to its restriction
 module _
-    (b : Bool) (text : Text) (at room scope : ℕ) (h : at < length text) (byte : get_or text at 0 ≡ cond b exclamation interrogation)
+    (b : Bool) (old at : Cursor) (room scope : ℕ) (byte : slice_get old.rest.now 0 ≡ Some (cond b exclamation interrogation))
+    (passed : at.rest.now ≡ drop 1 old.rest.now) (on : at.at ≡ old.at + 1)
   where
     abbrev reader : Reader Tree
     reader = read_quantifier room (beneath room) b scope
+
+    mark : Reads (token (cond b (bytes "!") (bytes "?"))) old tt at
+    mark = mark-read b old at byte passed on
 
     abbrev sign : Reader (Unit {0})
     sign = token (cond b (bytes "=>") (bytes "&"))
@@ -245,96 +254,87 @@ module _
     rest below v = R.◌>>=◌ (below.restriction v scope) λ c. R.◌>>=◌ sign λ _. behind-sign below v c
 
     -- its binder was refused
-    pub quantifier_unbound : (q : Refusal) (p : ℕ) → from (read_binder 3 scope) text (at + 1) ≡ refused q p → from reader text at ≡ refused q p
+    pub quantifier_unbound : (q : Refusal) (p : ℕ) → from (read_binder 3 scope) at ≡ refused q p → from reader old ≡ refused q p
     unfolding read_quantifier
     quantifier_unbound q p e =
-        onward (token (cond b (bytes "!") (bytes "?"))) _ text at tt (at + 1) (mark-read b text at h byte).reads
-        ∙ halt (read_binder 3 scope) _ text (at + 1) q p e
+        onward (token (cond b (bytes "!") (bytes "?"))) _ old tt at mark.reads ∙ halt (read_binder 3 scope) _ at q p e
 
-    module _ (count next : ℕ) (binds : Value (read_binder 3 scope) (IsCount 3 count) text (at + 1) next) where
-      bound : from reader text at ≡ from (R.◌>>=◌ (opening room) λ _. rest (beneath room) binds.what) text next
+    module _ (v : ℕ) (next : Cursor) (binds : Reads (read_binder 3 scope) at v next × (1 ≤ v) × (v ≤ 4)) where
+      bound : from reader old ≡ from (R.◌>>=◌ (opening room) λ _. rest (beneath room) v) next
       unfolding read_quantifier
       bound =
-          onward (token (cond b (bytes "!") (bytes "?"))) _ text at tt (at + 1) (mark-read b text at h byte).reads
-          ∙ onward (read_binder 3 scope) _ text (at + 1) binds.what next binds.reads.reads
-
-      -- so many variables
-      pub quantifier-variables : (1 ≤ count) × (count ≤ 4)
-      quantifier-variables = let is = binds.holds in (omega (arith, is.is, is.least), omega (arith, is.is, is.few))
+          onward (token (cond b (bytes "!") (bytes "?"))) _ old tt at mark.reads
+          ∙ onward (read_binder 3 scope) _ at v next binds.0.reads
 
       -- its parenthesis was refused
-      pub quantifier-refused : (q : Refusal) (p : ℕ) → from (opening room) text next ≡ refused q p → from reader text at ≡ refused q p
-      quantifier-refused q p e = bound ∙ halt (opening room) _ text next q p e
+      pub quantifier-refused : (q : Refusal) (p : ℕ) → from (opening room) next ≡ refused q p → from reader old ≡ refused q p
+      quantifier-refused q p e = bound ∙ halt (opening room) _ next q p e
 
-      module _ (inside : ℕ) (opens : Reads (opening room) text next tt inside) (lower : ℕ) (less : lower ≡ room - 1) where
+      module _ (inside : Cursor) (opens : Reads (opening room) next tt inside) (lower : ℕ) (less : lower ≡ room - 1) where
         some₁ : 1 ≤ room
-        some₁ = opening-room room text next inside opens.reads
+        some₁ = opening-room room next inside opens.reads
 
         -- its restriction may begin
         pub quantifier-begins :
             (table : Words) (role : Role) (above level : ℕ) (deep free : Bool) (marks : Marks) (s handed : State) →
-            Begins table text at room above scope s →
+            Begins table room above scope s →
             level ≡ above + cost role (M.Tag.quantifier b) →
             deep ≡ leb level level_limit →
-            free ≡ leb (scope + count) scope_limit →
+            free ≡ leb (scope + v) scope_limit →
             Entered 3 deep free marks s handed →
             Outer scope marks →
-            (lower < room) × Begins table text inside lower level (scope + count) handed
-        quantifier-begins table role above level deep free marks s handed begins costs is-deep is_free entered outer =
-            let few = quantifier-variables.1 in (
-              omega (arith, some₁, less),
-              record {
-                high = opens.high;
-                levels = omega (arith, some₁, less, begins.levels, costs, cost-few role b);
-                variables = omega (arith, some₁, less, few, begins.variables);
-                ready =
-                    entered_ready table 3 deep free marks s handed above scope level (scope + count) begins.ready entered
-                    (λ is. leb-true level level_limit (sym is-deep ∙ is))
-                    (λ is. leb-true (scope + count) scope_limit (sym is_free ∙ is));
-              },
-            )
+            (lower < room) × Begins table lower level (scope + v) handed
+        quantifier-begins table role above level deep free marks s handed begins costs is-deep is_free entered outer = (
+          omega (arith, some₁, less),
+          record {
+            levels = omega (arith, some₁, less, begins.levels, costs, cost-few role b);
+            variables = omega (arith, some₁, less, binds.2, begins.variables);
+            ready =
+                entered_ready table 3 deep free marks s handed above scope level (scope + v) begins.ready entered
+                (λ is. leb-true level level_limit (sym is-deep ∙ is))
+                (λ is. leb-true (scope + v) scope_limit (sym is_free ∙ is));
+          },
+        )
 
-        inner : from reader text at ≡ from (rest (readers lower) count) text inside
+        inner : from reader old ≡ from (rest (readers lower) v) inside
         inner =
             bound
-            ∙ onward (opening room) _ text next tt inside opens.reads
-            ∙ ap (λ (v : ℕ). from (rest (beneath room) v) text inside) binds.holds.is
-            ∙ ap (λ (below : Readers). from (rest below count) text inside) (beneath_less room lower some₁ less)
+            ∙ onward (opening room) _ next tt inside opens.reads
+            ∙ ap (λ (below : Readers). from (rest below v) inside) (beneath_less room lower some₁ less)
 
         -- its restriction was refused
         pub quantifier_unrestricted :
-            (q : Refusal) (p : ℕ) → from ((readers lower).restriction count scope) text inside ≡ refused q p → from reader text at ≡ refused q p
-        quantifier_unrestricted q p e = inner ∙ halt ((readers lower).restriction count scope) _ text inside q p e
+            (q : Refusal) (p : ℕ) → from ((readers lower).restriction v scope) inside ≡ refused q p → from reader old ≡ refused q p
+        quantifier_unrestricted q p e = inner ∙ halt ((readers lower).restriction v scope) _ inside q p e
 
         -- the restriction, and what stands behind it
         module _
-            (table : Words) (level : ℕ) (handed known : State) (out mid : Words) (excluded end : ℕ)
+            (table : Words) (level : ℕ) (handed known : State) (out mid : Words) (excluded : ℕ) (end : Cursor)
             (restricts :
-            Value ((readers lower).restriction count scope) (RestrictedTold table level scope count handed out mid excluded known) text inside end)
+            Value ((readers lower).restriction v scope) (RestrictedTold table level scope v handed known out mid excluded) inside end)
           where
-            restricted : from reader text at ≡ from (R.◌>>=◌ sign λ _. behind-sign (readers lower) count restricts.what) text end
-            restricted = inner ∙ onward ((readers lower).restriction count scope) _ text inside restricts.what end restricts.reads.reads
+            restricted : from reader old ≡ from (R.◌>>=◌ sign λ _. behind-sign (readers lower) v restricts.what) end
+            restricted = inner ∙ onward ((readers lower).restriction v scope) _ inside restricts.what end restricts.reads.reads
 
-            pub quantifier_unsigned : (q : Refusal) (p : ℕ) → from sign text end ≡ refused q p → from reader text at ≡ refused q p
-            quantifier_unsigned q p e = restricted ∙ halt sign _ text end q p e
+            pub quantifier_unsigned : (q : Refusal) (p : ℕ) → from sign end ≡ refused q p → from reader old ≡ refused q p
+            quantifier_unsigned q p e = restricted ∙ halt sign _ end q p e
 
-            module _ (start : ℕ) (signs : Reads sign text end tt start) where
-              signed : from reader text at ≡ from (behind-sign (readers lower) count restricts.what) text start
-              signed = restricted ∙ onward sign _ text end tt start signs.reads
+            module _ (start : Cursor) (signs : Reads sign end tt start) where
+              signed : from reader old ≡ from (behind-sign (readers lower) v restricts.what) start
+              signed = restricted ∙ onward sign _ end tt start signs.reads
 
               -- its body may begin
               pub quantifier-body :
                   (s between : State) (lower' : ℕ) →
                   lower' ≡ room - 1 →
-                  Begins table text inside lower level (scope + count) handed →
-                  Introduced scope count s.words known between →
-                  Begins table text start lower' level (scope + count) between
+                  Begins table lower level (scope + v) handed →
+                  Introduced scope v s.words known between →
+                  Begins table lower' level (scope + v) between
               quantifier-body s between lower' less' begins introduced =
                   let told = restricts.holds.told in
                   let asked : between.asked ≡ Passed → handed.asked ≡ Passed =
                   λ p. sym restricts.holds.asked ∙ told.passes (sym introduced.asked ∙ p) in
                   record {
-                    high = signs.high;
                     levels = omega (arith, less, less', begins.levels);
                     variables = omega (arith, less, less', begins.variables);
                     ready = record {
@@ -346,52 +346,53 @@ module _
 
               module _ (lower' : ℕ) (less' : lower' ≡ room - 1) where
                 abbrev body : Reader Tree
-                body = (readers lower').operand (is_formula formula) (scope + count)
+                body = (readers lower').operand (is_formula formula) (scope + v)
 
                 -- its body was refused
-                pub quantifier_bodiless : (q : Refusal) (p : ℕ) → from body text start ≡ refused q p → from reader text at ≡ refused q p
+                pub quantifier_bodiless : (q : Refusal) (p : ℕ) → from body start ≡ refused q p → from reader old ≡ refused q p
                 unfolding is_formula
                 quantifier_bodiless q p e =
                     signed
-                    ∙ halt ((readers lower).operand true (scope + count)) _ text start q p
-                    (ap (λ (k : ℕ). from ((readers k).operand true (scope + count)) text start) (less ∙ sym less') ∙ e)
+                    ∙ halt ((readers lower).operand true (scope + v)) _ start q p
+                    (ap (λ (k : ℕ). from ((readers k).operand true (scope + v)) start) (less ∙ sym less') ∙ e)
 
                 -- the body, and the closing parenthesis
                 pub quantifier-read :
                     (role : Role) (above tag second third : ℕ) (s between r : State) (last out₁ out₂ out' : Words) (deep free : Bool)
-                    (marks : Marks) (last-end : ℕ) (close : Step) →
+                    (marks : Marks) (last-end new : Cursor) (close : Result (Unit {0}) Refused) →
                     is_formula role ≡ true →
                     level ≡ above + cost role (M.Tag.quantifier b) →
                     deep ≡ leb level level_limit →
-                    free ≡ leb (scope + count) scope_limit →
+                    free ≡ leb (scope + v) scope_limit →
                     Entered 3 deep free marks s handed →
                     Outer scope marks →
-                    Introduced scope count s.words known between →
-                    Value body (λ f. Told table f formula level (scope + count) between r mid last) text start last-end →
+                    Introduced scope v s.words known between →
+                    Value body (λ f. Told table f formula level (scope + v) between r mid last) start last-end →
                     tag ≡ cond b 8 9 →
                     Laid s.words tag last out₁ →
-                    Laid second count out₁ out₂ →
+                    Laid second v out₁ out₂ →
                     second ≡ s.words + 1 →
                     Laid third excluded out₂ out' →
                     third ≡ s.words + 2 →
-                    Steps (token (41 ∷ [])) text last-end close →
-                    Valued reader (λ t. Told table t role above scope s r out out') text at close
+                    Steps (token (41 ∷ [])) last-end new close →
+                    Valued reader (λ t. Told table t role above scope s r out out') old new close
                 unfolding is_formula cost bytes
                 quantifier-read
-                    role above tag second third s between r last out₁ out₂ out' deep free marks last-end close kind costs is-deep is_free entered
-                    outer introduced reads tagged laid₁ laid₂ at₂ laid₃ at₃ closes =
-                    let (some, few) = quantifier-variables in
+                    role above tag second third s between r last out₁ out₂ out' deep free marks last-end new close kind costs is-deep is_free
+                    entered outer introduced reads tagged laid₁ laid₂ at₂ laid₃ at₃ closes =
                     let c = restricts.what in
-                    let Body : Tree → Type 0 = λ f. Told table f formula level (scope + count) between r mid last in
+                    let Body : Tree → Type 0 = λ f. Told table f formula level (scope + v) between r mid last in
                     let f =
-                    subst (λ (k : ℕ). Value ((readers k).operand true (scope + count)) Body text start last-end) (less' ∙ sym less) reads in
-                    closed_from reader (token (41 ∷ [])) (quantifier b count c.excluded c.restriction f.what)
-                    (λ t. Told table t role above scope s r out out') text at last-end
-                    (signed ∙ onward ((readers lower).operand true (scope + count)) _ text start f.what last-end f.reads.reads)
-                    (omega (arith, binds.reads.low, opens.low, restricts.reads.low, signs.low, f.reads.low))
-                    (told-quantifier table b count c f.what role above scope level excluded tag
+                    subst (λ (k : ℕ). Value ((readers k).operand true (scope + v)) Body start last-end) (less' ∙ sym less) reads in
+                    let front = further old at next mark.moved binds.0.moved in
+                    let head = further old inside end (further old next inside front opens.moved) restricts.reads.moved in
+                    let moved = further old start last-end (further old end start head signs.moved) f.reads.moved in
+                    closed_from old last-end new moved reader (token (41 ∷ [])) (quantifier b v c.excluded c.restriction f.what)
+                    (λ t. Told table t role above scope s r out out')
+                    (signed ∙ onward ((readers lower).operand true (scope + v)) _ start f.what last-end f.reads.reads)
+                    (told-quantifier table b v c f.what role above scope level excluded tag
                     s handed known between r out mid last out₁ out₂ out' deep free marks
-                    kind costs some few is-deep is_free entered outer restricts.holds introduced f.holds tagged laid₁
-                    (subst (λ (k : ℕ). Laid k count out₁ out₂) at₂ laid₂)
+                    kind costs binds.1 binds.2 is-deep is_free entered outer restricts.holds introduced f.holds tagged laid₁
+                    (subst (λ (k : ℕ). Laid k v out₁ out₂) at₂ laid₂)
                     (subst (λ (k : ℕ). Laid k excluded out₂ out') at₃ laid₃))
                     close closes

@@ -1,14 +1,16 @@
 -- Laws for the reading of a quantifier's restriction: with excluded tuples, as an all-of or any-of, and as an operand.
 use Prim.Native.Nat.{ℕ, zero, suc, ◌+◌, ◌*◌, ◌-◌, ◌≤◌, ◌<◌, min}
 use native.Mathlib.Omega.{arith}
-use mathlib.Core.Path.{◌≡◌, refl, sym, ap, subst, ◌∙◌}
+use mathlib.Core.Path.{◌≡◌, refl, sym, ap, ◌∙◌}
 use mathlib.Core.Logic.{inl, ⊎_elim}
 use mathlib.Core.Bool.{Bool, true, false}
 use mathlib.Core.List.{List, [], ◌∷◌}
-use lib.ListN.{length, drop, get_or}
-use lib.Dec.{ltb}
+use lib.Dec.{eqb}
+use lib.ListN.{length}
 use lib.IntN.{ℤ}
-use borrow.Author.Tests.{ltb-true, ltb-false}
+use Rattle.std.specs.Prelude.{Result, Ok, Err}
+use Rattle.std.proofs.lemmas.Option.{slice_get-get_or}
+use Rattle.text.specs.declared.cursor.Cursor.{Cursor}
 use Rattle.model.specs.Words.{Words}
 use Rattle.model.specs.Lists.{gather}
 use Rattle.model.specs.Bytes.{Text, bytes, blank, ampersand}
@@ -18,28 +20,30 @@ use Rattle.model.specs.Level.{restriction}
 use Rattle.model.specs.Reading.{is_formula}
 use Rattle.model.specs.Tptp.{excludes, good_tuple}
 use Rattle.model.specs.TptpReading as R
-use Rattle.model.specs.TptpReading.{Got, Reader, Readers, Restricted, give, look, onwards, token, opening, more, joining, excluding}
-use Rattle.model.specs.TptpReading.{read_tuple, read_operand, read_restriction, readers, behind_blanks, begins_with, begins_excluding, ◌>>=◌}
+use Rattle.model.specs.TptpReading.{Got, Reader, Readers, Restricted, give, blanks, peek, look, onwards, literal, token, opening, more, joining}
+use Rattle.model.specs.TptpReading.{excluding, read_tuple, read_operand, read_restriction, readers, behind_blanks, begins_with, begins_excluding}
+use Rattle.model.specs.TptpReading.{◌>>=◌}
+use Rattle.model.specs.declared.Refused.{Refused}
 use Rattle.model.specs.declared.Refusal.{Refusal}
 use Rattle.model.specs.declared.Refusal.TheVariants.{Tptp}
 use Rattle.laws.specs.Words.Tests.{decide, clash, and_left}
 use Rattle.laws.specs.Tptp.Sound.Lists.{tuple-reads}
 use Rattle.laws.specs.Tptp.Sound.Policies.{item_sound}
-use Rattle.tptp_tokens.specs.Steps.{Step, from, got, Skips, Reads, Value, Valued}
+use Rattle.tptp_tokens.specs.Steps.{from, got, Moved, Skips, Reads, Value}
 use Rattle.tptp_binders.specs.Ahead.{StopsAt, begins}
 use Rattle.tptp_tokens.specs.Laying.{most_words}
 use Rattle.tptp_binders.specs.Tuples.{StoredTuples}
 use Rattle.tptp_state.specs.Told.{Told}
-use Rattle.tptp_reading.specs.Formula.{Begins, beneath, chained, exclusion, RestrictedTold}
+use Rattle.tptp_reading.specs.Formula.{Begins, beneath, chained, exclusion, Numbered, RestrictedTold}
 use Rattle.tptp_state.specs.declared.state.State.{State}
-use Rattle.tptp_tokens.proofs.TokenLaws.{over, onward, halt, given_then, closed_then, look-here, look-over, token-from}
-use Rattle.tptp_tokens.proofs.BehindLaws.{valued_from}
-use Rattle.tptp_tokens.proofs.UpTo.{skips_self}
+use Rattle.tptp_tokens.proofs.MovedLaws.{still, further, same_place}
+use Rattle.tptp_tokens.proofs.TokenLaws.{onward, halt, given_then, closed_then}
 use Rattle.tptp_tokens.proofs.Strict.{excludes_strict}
-use Rattle.tptp_binders.proofs.AheadLaws.{behind_skip}
+use Rattle.tptp_binders.proofs.AheadLaws.{blanks-rest}
 use Rattle.tptp_reading.proofs.AheadTrees.{operand-stopping, stopping-here}
 use Rattle.tptp_reading.proofs.MoreLaws.{more-later}
-use Rattle.tptp_reading.proofs.StopLaws.{begins-here, begins-over, skips, joining_strays, excluding_strays}
+use Rattle.tptp_reading.proofs.StopLaws.{behind_skip, stops-behind, joining_strays, excluding_strays}
+use Rattle.tptp_reading.proofs.ChainLaws.{behind-blank}
 use Rattle.tptp_reading.proofs.RoomLaws.{opening-room}
 use Rattle.tptp_reading.proofs.OperandLaws.{operand-is}
 
@@ -54,13 +58,10 @@ unfolding begins_excluding
 excluding-blanks v t = rw (blanks-once t)
 
 -- where they begin there is a byte
-pub excluding-some : (v : ℕ) (text : Text) (i : ℕ) → begins_excluding v (drop i text) ≡ true → i < length text
+pub excluding-some : (v : ℕ) (text : Text) → begins_excluding v text ≡ true → 1 ≤ length text
 unfolding begins_excluding behind_blanks begins_with
-excluding-some v text i e =
-    ⊎_elim
-    (λ k. ltb-true i (length text) k)
-    (λ k. let nothing = over text i (ltb-false i (length text) k) in clash (rw nothing at e) refl)
-    (decide (ltb i (length text)))
+excluding-some v [] e = clash e refl
+excluding-some v (b ∷ t) e = omega arith
 
 -- a tuple takes a byte at least
 tuple_shortens :
@@ -102,12 +103,11 @@ module _ (room v x : ℕ) (first : Tree) (one : Reader Tree) (t : Text) (p : ℕ
 
 -- behind the words of excluded tuples an operand may begin
 pub excluding-begins :
-    (table : Words) (text : Text) (at room level scope words n : ℕ) (s : State) →
-    Begins table text at room level scope s →
+    (table : Words) (room level scope words n : ℕ) (s : State) →
+    Begins table room level scope s →
     words ≡ min n most_words →
-    Begins table text at room level scope (record { words = words; asked = s.asked; moded = s.moded; set = s.set })
-excluding-begins table text at room level scope words n s b e = record {
-  high = b.high;
+    Begins table room level scope (record { words = words; asked = s.asked; moded = s.moded; set = s.set })
+excluding-begins table room level scope words n s b e = record {
   levels = b.levels;
   variables = b.variables;
   ready = record {
@@ -118,7 +118,7 @@ excluding-begins table text at room level scope words n s b e = record {
 }
 
 -- a restriction with excluded tuples
-module _ (text : Text) (at stop room x v : ℕ) where
+module _ (here stop : Cursor) (room x v : ℕ) where
   abbrev one : Reader Tree
   one = (readers room).operand (is_formula restriction) (x + v)
 
@@ -129,82 +129,85 @@ module _ (text : Text) (at stop room x v : ℕ) where
   ends r = token (bytes ")") >>= λ _. give r
 
   -- the restriction was refused
-  pub excluding-refused : (q : Refusal) (p : ℕ) → from one text at ≡ refused q p → from (exclusion room v x) text at ≡ refused q p
+  pub excluding-refused : (q : Refusal) (p : ℕ) → from one here ≡ refused q p → from (exclusion room v x) here ≡ refused q p
   unfolding is_formula
-  excluding-refused q p e = halt one _ text at q p e
+  excluding-refused q p e = halt one _ here q p e
 
   module _
-      {Known : Tree → Type 0} (behind i : ℕ) (value : Value one Known text at behind) (skipped : Skips text behind i)
-      (some : 1 ≤ v) (stops : StopsAt text at stop) (is : begins_excluding v (drop stop text) ≡ true)
+      {Known : Tree → Type 0} (behind mid : Cursor) (value : Value one Known here behind) (skipped : Skips behind mid)
+      (some : 1 ≤ v) (stops : StopsAt here stop) (is : begins_excluding v stop.rest.now ≡ true)
     where
       abbrev c : Tree
       c = value.what
 
       -- something else stands behind it
-      pub excluding-other : (i ≡ stop → ⊥) → from (exclusion room v x) text at ≡ refused Tptp i
+      pub excluding-other : (mid.at ≡ stop.at → ⊥) → from (exclusion room v x) here ≡ refused Tptp mid.at
       unfolding is_formula
       excluding-other n =
-          onward one _ text at c behind value.reads.reads
-          ∙ halt (excluding (suc room) (readers room) c one v x) _ text behind Tptp i
-          (none-behind room v x c one (drop behind text) behind
-          (excluding_strays room false (x + v) text at behind stop i c stops value.reads.reads skipped n v)
-          ∙ halt (joining R.stop c one) _ text behind Tptp i
-          (joining_strays room false (x + v) text at behind stop i c stops value.reads.reads skipped n one))
+          onward one _ here c behind value.reads.reads
+          ∙ halt (excluding (suc room) (readers room) c one v x) _ behind Tptp mid.at
+          (none-behind room v x c one behind.rest.now behind.at
+          (excluding_strays room false (x + v) here behind stop c value.reads stops mid skipped n v)
+          ∙ halt (joining R.stop c one) _ behind Tptp mid.at
+          (joining_strays room false (x + v) here behind stop c value.reads stops mid skipped n one))
 
       -- the tuples stand behind it
-      module _ (same : i ≡ stop) where
-        there : Skips text behind stop
-        there = subst (Skips text behind) same skipped
+      module _ (same : mid.at ≡ stop.at) where
+        rests : mid.rest.now ≡ stop.rest.now
+        rests = same_place here mid stop (further here behind mid value.reads.moved skipped.reads.moved) stops.moved same
 
-        goes : from (exclusion room v x) text at ≡ from (more ampersand tuple >>= λ tuples. ends (with_tuples c tuples)) text stop
+        goes : from (exclusion room v x) here ≡ from (more ampersand tuple >>= λ tuples. ends (with_tuples c tuples)) stop
         unfolding is_formula
         goes =
-            let begun = sym (excluding-blanks v (drop behind text)) ∙ ap (begins_excluding v) (behind_skip text behind stop there) ∙ is in
-            onward one (λ first. excluding (suc room) (readers room) first one v x >>= ends) text at c behind value.reads.reads
+            let begun = sym (excluding-blanks v behind.rest.now) ∙ ap (begins_excluding v) (behind_skip behind mid skipped ∙ rests) ∙ is in
+            let some-left = excluding-some v stop.rest.now is in
+            let byte = slice_get-get_or mid.rest.now 0 0 (omega (arith, some-left, ap length rests)) in
+            onward one (λ first. excluding (suc room) (readers room) first one v x >>= ends) here c behind value.reads.reads
             ∙ same_then (excluding (suc room) (readers room) c one v x) (more ampersand tuple >>= λ tuples. give (with_tuples c tuples)) ends
-            (drop behind text) (drop behind text) behind behind
-            (tuples-behind room v x c one (drop behind text) behind begun)
-            ∙ given_then (more ampersand tuple) (with_tuples c) ends (drop behind text) behind
+            behind.rest.now behind.rest.now behind.at behind.at
+            (tuples-behind room v x c one behind.rest.now behind.at begun)
+            ∙ given_then (more ampersand tuple) (with_tuples c) ends behind.rest.now behind.at
             ∙ same_then (more ampersand tuple) (more ampersand tuple) (λ tuples. ends (with_tuples c tuples))
-            (drop behind text) (drop stop text) behind stop
-            (more-later ampersand tuple (tuple_shortens room v x some) text behind stop there (excluding-some v text stop is))
+            behind.rest.now stop.rest.now behind.at stop.at
+            (more-later ampersand tuple (tuple_shortens room v x some) behind mid skipped _ byte
+            ∙ ap (λ (t : Text). more ampersand tuple t mid.at) rests
+            ∙ ap (λ (p : ℕ). more ampersand tuple stop.rest.now p) same)
 
         -- they were refused
-        pub excluding_unlisted : (q : Refusal) (p : ℕ) → from (more ampersand tuple) text stop ≡ refused q p → from (exclusion room v x) text at ≡ refused q p
-        excluding_unlisted q p e = goes ∙ halt (more ampersand tuple) _ text stop q p e
+        pub excluding_unlisted : (q : Refusal) (p : ℕ) → from (more ampersand tuple) stop ≡ refused q p → from (exclusion room v x) here ≡ refused q p
+        excluding_unlisted q p e = goes ∙ halt (more ampersand tuple) _ stop q p e
 
-        module _ {Stored : List (List ℤ) → Type 0} (next : ℕ) (tuples : Value (more ampersand tuple) Stored text stop next) where
+        module _ {Stored : List (List ℤ) → Type 0} (next : Cursor) (tuples : Value (more ampersand tuple) Stored stop next) where
           -- no closing parenthesis stands behind them
-          pub excluding_unclosed : (q : Refusal) (p : ℕ) → from (token (41 ∷ [])) text next ≡ refused q p → from (exclusion room v x) text at ≡ refused q p
+          pub excluding_unclosed : (q : Refusal) (p : ℕ) → from (token (41 ∷ [])) next ≡ refused q p → from (exclusion room v x) here ≡ refused q p
           unfolding bytes
           excluding_unclosed q p e =
-              goes ∙ onward (more ampersand tuple) _ text stop tuples.what next tuples.reads.reads ∙ halt (token (41 ∷ [])) _ text next q p e
+              goes ∙ onward (more ampersand tuple) _ stop tuples.what next tuples.reads.reads ∙ halt (token (41 ∷ [])) _ next q p e
 
           pub excluding-read :
-              {facts : Restricted → Type 0} (close : ℕ) → Reads (token (41 ∷ [])) text next tt close → facts (with_tuples c tuples.what) →
-              Value (exclusion room v x) facts text at close
+              {facts : Restricted → Type 0} (close : Cursor) → Reads (token (41 ∷ [])) next tt close → facts (with_tuples c tuples.what) →
+              Value (exclusion room v x) facts here close
           unfolding bytes give
           excluding-read close closes holds = record {
             what = with_tuples c tuples.what;
             reads = record {
-              low = omega (arith, value.reads.low, there.low, tuples.reads.low, closes.low);
-              high = closes.high;
+              moved = further here next close (further here stop next stops.moved tuples.reads.moved) closes.moved;
               reads =
                   goes
-                  ∙ onward (more ampersand tuple) _ text stop tuples.what next tuples.reads.reads
-                  ∙ onward (token (41 ∷ [])) (λ _. give (with_tuples c tuples.what)) text next tt close closes.reads;
+                  ∙ onward (more ampersand tuple) _ stop tuples.what next tuples.reads.reads
+                  ∙ onward (token (41 ∷ [])) (λ _. give (with_tuples c tuples.what)) next tt close closes.reads;
             };
             holds = holds;
           }
 
 -- what is known behind it: the tuples were laid before it
 pub excluding-told :
-    (table : Words) (level x v : ℕ) (s : State) (out between out' : Words) (n words : ℕ) (c : Tree) (tuples : List (List ℤ)) (last : State) →
+    (table : Words) (level x v : ℕ) (s last : State) (out between out' : Words) (n words : ℕ) (c : Tree) (tuples : List (List ℤ)) →
     StoredTuples v s.words n out between tuples →
     words ≡ min (s.words + v * n) most_words →
     Told table c restriction level (x + v) (record { words = words; asked = s.asked; moded = s.moded; set = s.set }) last between out' →
-    RestrictedTold table level x v s out out' n last (with_tuples c tuples)
-excluding-told table level x v s out between out' n words c tuples last stored count told = record {
+    RestrictedTold table level x v s last out out' n (with_tuples c tuples)
+excluding-told table level x v s last out between out' n words c tuples stored count told = record {
   number = stored.number;
   size = stored.size;
   handed = record { words = words; asked = s.asked; moded = s.moded; set = s.set };
@@ -224,29 +227,41 @@ restriction_as zero v x = refl
 restriction_as (suc room) v x = refl
 
 -- blanks before an operand do not matter, nor before a parenthesis
-module _ (text : Text) (at i : ℕ) (s : Skips text at i) (h : i < length text) where
-  look-later : {A : Type 0} (next : ℕ → Reader A) → from (look >>= next) text at ≡ from (look >>= next) text i
-  look-later next =
-      onward look next text at (get_or text i 0) i (look-here text at i s h)
-      ∙ sym (onward look next text i (get_or text i 0) i (look-here text i i (skips_self text at i s h) h))
+look-at : (b : ℕ) (u : Text) (q : ℕ) → blank b ≡ false → look (b ∷ u) q ≡ passed (record { what = b; rest = b ∷ u; at = q })
+unfolding look blanks peek ◌>>=◌ onwards
+look-at b u q n = rw n refl
 
-  operand-later :
-      (room : ℕ) (below : Readers) (formula : Bool) (scope : ℕ) →
-      from (read_operand room below formula scope) text at ≡ from (read_operand room below formula scope) text i
-  unfolding read_operand
-  operand-later room below formula scope = look-later _
+module _ (t : Text) (p : ℕ) where
+  abbrev place : ℕ
+  place = (blanks-rest t p).0
 
-  opening-later : (room : ℕ) → from (opening room) text at ≡ from (opening room) text i
-  unfolding opening
-  opening-later zero = look-later _
-  opening-later (suc room) =
-      token-from text at i s (bytes "(") ∙ sym (token-from text i i (skips_self text at i s h) (bytes "("))
+  look-ahead : look t p ≡ peek (behind_blanks t) place
+  unfolding look ◌>>=◌ onwards
+  look-ahead = ap (λ (o : Outcome (Got (Unit {0}))). onwards o (λ _. peek)) (blanks-rest t p).1
 
-operand-over :
-    (text : Text) (at i : ℕ) → Skips text at i → length text ≤ i → (room : ℕ) (below : Readers) (formula : Bool) (scope : ℕ) →
-    from (read_operand room below formula scope) text at ≡ refused Tptp i
-unfolding read_operand
-operand-over text at i s end room below formula scope = halt look _ text at Tptp i (look-over text at i s end)
+  look-over : behind_blanks t ≡ [] → look t p ≡ refused Tptp place
+  unfolding peek
+  look-over e = look-ahead ∙ ap (λ (u : Text). peek u place) e
+
+  module _ (b : ℕ) (u : Text) (e : behind_blanks t ≡ b ∷ u) where
+    look-on : look t p ≡ passed (record { what = b; rest = b ∷ u; at = place })
+    unfolding peek
+    look-on = look-ahead ∙ ap (λ (u : Text). peek u place) e
+
+    look-later : {A : Type 0} (next : ℕ → Reader A) → (look >>= next) t p ≡ (look >>= next) (b ∷ u) place
+    unfolding ◌>>=◌ onwards
+    look-later next = ap (λ (o : Outcome (Got ℕ)). onwards o next) (look-on ∙ sym (look-at b u place (behind-blank t b u e)))
+
+    operand-later :
+        (room : ℕ) (below : Readers) (formula : Bool) (scope : ℕ) →
+        read_operand room below formula scope t p ≡ read_operand room below formula scope (b ∷ u) place
+    unfolding read_operand
+    operand-later room below formula scope = look-later _
+
+    opening-later : (room : ℕ) → opening room t p ≡ opening room (b ∷ u) place
+    unfolding opening token blanks bytes ◌>>=◌ onwards
+    opening-later zero = look-later _
+    opening-later (suc room) = rw ((blanks-rest t p).1, e) (rw (behind-blank t b u e) refl)
 
 -- behind the parenthesis of a restriction
 abbrev opened : ℕ → Readers → ℕ → ℕ → Reader Restricted
@@ -256,84 +271,98 @@ opened room below v x =
     token (bytes ")") >>= λ _.
     give r
 
-module _ (text : Text) (at room v x : ℕ) (h : at ≤ length text) where
+module _ (t : Text) (p room v x : ℕ) where
+  alone_over :
+      behind_blanks t ≡ [] →
+      read_restriction room (beneath room) v x t p ≡ (read_operand room (beneath room) false (x + v) >>= λ c. give (with_tuples c [])) t p
+  unfolding read_restriction read_operand ◌>>=◌ onwards
+  alone_over e = rw (look-over t p e) refl
+
+  module _ (b : ℕ) (u : Text) (e : behind_blanks t ≡ b ∷ u) where
+    alone-on :
+        eqb b 40 ≡ false →
+        read_restriction room (beneath room) v x t p ≡ (read_operand room (beneath room) false (x + v) >>= λ c. give (with_tuples c [])) t p
+    unfolding read_restriction ◌>>=◌ onwards
+    alone-on n =
+        let operand = read_operand room (beneath room) false (x + v) in
+        rw (look-on t p b u e, n)
+        (same_then operand operand (λ c. give (with_tuples c [])) (b ∷ u) t (place t p) p
+        (sym (operand-later t p b u e room (beneath room) false (x + v))))
+
+    opens-on :
+        eqb b 40 ≡ true →
+        read_restriction room (beneath room) v x t p ≡ (opening room >>= λ _. opened room (beneath room) v x) t p
+    unfolding read_restriction ◌>>=◌ onwards
+    opens-on y =
+        rw (look-on t p b u e, y)
+        (same_then (opening room) (opening room) (λ _. opened room (beneath room) v x) (b ∷ u) t (place t p) p
+        (sym (opening-later t p b u e room)))
+
+module _ (t : Text) (p room v x : ℕ) where
+  abbrev single-reader : Reader Tree
+  single-reader = read_operand room (beneath room) false (x + v)
+
   -- a restriction that begins with no parenthesis is an operand
   alone-same :
-      begins 40 (drop at text) ≡ false →
-      from ((readers room).restriction v x) text at ≡ from ((readers room).operand false (x + v) >>= λ c. give (with_tuples c [])) text at
-  unfolding read_restriction
+      begins 40 t ≡ false → (readers room).restriction v x t p ≡ ((readers room).operand false (x + v) >>= λ c. give (with_tuples c [])) t p
+  unfolding begins begins_with
   alone-same none =
-      let (i, s) = skips text at h in
-      let operand = read_operand room (beneath room) false (x + v) in
-      let rest : Tree → Reader Restricted = λ c. give (with_tuples c []) in
-      ap (λ (r : Reader Restricted). from r text at) (restriction_as room v x)
-      ∙ ⊎_elim
-      (λ k.
-      let inside = ltb-true i (length text) k in
-      onward look _ text at (get_or text i 0) i (look-here text at i s inside)
-      ∙ rw (begins-here text at i s 40 inside ∙ none)
-      (same_then operand operand rest (drop i text) (drop at text) i at
-      (sym (operand-later text at i s inside room (beneath room) false (x + v)))))
-      (λ k.
-      let end = ltb-false i (length text) k in
-      halt look _ text at Tptp i (look-over text at i s end)
-      ∙ sym (halt operand rest text at Tptp i (operand-over text at i s end room (beneath room) false (x + v))))
-      (decide (ltb i (length text)))
-      ∙ ap (λ (r : Reader Tree). from (r >>= rest) text at) (sym (operand-is room false (x + v)))
+      ap (λ (r : Reader Restricted). r t p) (restriction_as room v x)
+      ∙ go (behind_blanks t) refl
+      ∙ ap (λ (r : Reader Tree). (r >>= λ c. give (with_tuples c [])) t p) (sym (operand-is room false (x + v)))
+    where
+      go :
+          (u : Text) → behind_blanks t ≡ u →
+          read_restriction room (beneath room) v x t p ≡ (single-reader >>= λ c. give (with_tuples c [])) t p
+      go [] e = alone_over t p room v x e
+      go (b ∷ u) e = alone-on t p room v x b u e (ap (begins_with 40) (sym e) ∙ none)
 
   -- one that begins with a parenthesis opens it
   opens_same :
-      begins 40 (drop at text) ≡ true →
-      from ((readers room).restriction v x) text at ≡ from (opening room >>= λ _. opened room (beneath room) v x) text at
-  unfolding read_restriction
-  opens_same is =
-      let (i, s) = skips text at h in
-      ap (λ (r : Reader Restricted). from r text at) (restriction_as room v x)
-      ∙ ⊎_elim
-      (λ k.
-      let inside = ltb-true i (length text) k in
-      onward look _ text at (get_or text i 0) i (look-here text at i s inside)
-      ∙ rw (begins-here text at i s 40 inside ∙ is)
-      (same_then (opening room) (opening room) (λ _. opened room (beneath room) v x) (drop i text) (drop at text) i at
-      (sym (opening-later text at i s inside room))))
-      (λ k. clash is (sym (begins-over text at i s 40 (ltb-false i (length text) k))))
-      (decide (ltb i (length text)))
+      begins 40 t ≡ true → (readers room).restriction v x t p ≡ (opening room >>= λ _. opened room (beneath room) v x) t p
+  unfolding begins begins_with
+  opens_same is = ap (λ (r : Reader Restricted). r t p) (restriction_as room v x) ∙ go (behind_blanks t) refl
+    where
+      go :
+          (u : Text) → behind_blanks t ≡ u →
+          read_restriction room (beneath room) v x t p ≡ (opening room >>= λ _. opened room (beneath room) v x) t p
+      go [] e = clash is (ap (begins_with 40) e)
+      go (b ∷ u) e = opens-on t p room v x b u e (ap (begins_with 40) (sym e) ∙ is)
 
 -- and behind it stands an all-of or any-of, or a restriction and its excluded tuples
 opened_inside :
-    (text : Text) (at room lower v x inside : ℕ) → at ≤ length text → begins 40 (drop at text) ≡ true → lower ≡ room - 1 →
-    from (opening room) text at ≡ got text tt inside →
-    from ((readers room).restriction v x) text at ≡ from (exclusion lower v x) text inside
+    (here inside : Cursor) (room lower v x : ℕ) → begins 40 here.rest.now ≡ true → lower ≡ room - 1 →
+    from (opening room) here ≡ got tt inside →
+    from ((readers room).restriction v x) here ≡ from (exclusion lower v x) inside
 unfolding beneath
-opened_inside text at zero lower v x inside h is less e =
-    absurd (let some : 1 ≤ 0 = opening-room 0 text at inside e in omega (arith, some))
-opened_inside text at (suc room) lower v x inside h is less e =
-    opens_same text at (suc room) v x h is
-    ∙ onward (opening (suc room)) _ text at tt inside e
-    ∙ ap (λ (k : ℕ). from (exclusion k v x) text inside) (let same : room ≡ lower = omega arith in same)
+opened_inside here inside zero lower v x is less e =
+    absurd (let some : 1 ≤ 0 = opening-room 0 here inside e in omega (arith, some))
+opened_inside here inside (suc room) lower v x is less e =
+    opens_same here.rest.now here.at (suc room) v x is
+    ∙ onward (opening (suc room)) _ here tt inside e
+    ∙ ap (λ (k : ℕ). from (exclusion k v x) inside) (let same : room ≡ lower = omega arith in same)
 
 -- where none begin at the byte that can follow an operand, none begin behind the operand
 none_after :
-    (text : Text) (at stop room v x : ℕ) (g : Got Tree) → StopsAt text at stop → begins_excluding v (drop stop text) ≡ false →
-    from ((readers room).operand false (x + v)) text at ≡ passed g →
+    (here stop : Cursor) (room v x : ℕ) (g : Got Tree) → StopsAt here stop → begins_excluding v stop.rest.now ≡ false →
+    from ((readers room).operand false (x + v)) here ≡ passed g →
     begins_excluding v g.rest ≡ false
 unfolding begins_excluding
-none_after text at stop room v x g stops none e =
+none_after here stop room v x g stops none e =
     ⊎_elim
     (λ k.
     let connective = and_left (begins_with ampersand (behind_blanks g.rest)) _ k in
-    let same : drop stop text ≡ behind_blanks g.rest =
-    stops.stops ∙ operand-stopping room false (x + v) (drop at text) at g e ∙ stopping-here 38 g.rest (inl refl) connective in
+    let same = stops-behind room false (x + v) here g stop stops e 38 (inl refl) connective in
     clash k (sym (excluding-blanks v g.rest) ∙ ap (begins_excluding v) (sym same) ∙ none))
     (λ k. k)
     (decide (begins_excluding v g.rest))
 
 -- an all-of or any-of, where no excluded tuples begin at the byte that can follow its first operand
 chained_same :
-    (text : Text) (at stop room v x : ℕ) → StopsAt text at stop → begins_excluding v (drop stop text) ≡ false →
-    from (exclusion room v x) text at ≡ from (chained ((readers room).operand false (x + v)) >>= λ c. give (with_tuples c [])) text at
+    (here stop : Cursor) (room v x : ℕ) → StopsAt here stop → begins_excluding v stop.rest.now ≡ false →
+    from (exclusion room v x) here ≡ from (chained ((readers room).operand false (x + v)) >>= λ c. give (with_tuples c [])) here
 unfolding ◌>>=◌ onwards
-chained_same text at stop room v x stops none = go (from one text at) refl
+chained_same here stop room v x stops none = go (from one here) refl
   where
     one : Reader Tree
     one = (readers room).operand false (x + v)
@@ -345,7 +374,7 @@ chained_same text at stop room v x stops none = go (from one text at) refl
     closing r = token (bytes ")") >>= λ _. give r
 
     go :
-        (o : Outcome (Got Tree)) → from one text at ≡ o →
+        (o : Outcome (Got Tree)) → from one here ≡ o →
         onwards o (λ first. excluding (suc room) (readers room) first one v x >>= closing)
         ≡ onwards (onwards o (λ first. joining R.stop first one >>= λ t. token (bytes ")") >>= λ _. give t)) rest
     go (refused q p) e = refl
@@ -353,22 +382,21 @@ chained_same text at stop room v x stops none = go (from one text at) refl
         let c = g.what in
         let join = joining R.stop c one in
         same_then (excluding (suc room) (readers room) c one v x) (join >>= rest) closing g.rest g.rest g.at g.at
-        (none-behind room v x c one g.rest g.at (none_after text at stop room v x g stops none e))
+        (none-behind room v x c one g.rest g.at (none_after here stop room v x g stops none e))
         ∙ given_then join (λ t. with_tuples t []) closing g.rest g.at
         ∙ closed_then join (bytes ")") (λ t. give (with_tuples t [])) g.rest g.at
 
 -- behind its parenthesis there is room for one less
 pub restricted-begins :
-    (table : Words) (text : Text) (at room level scope lower inside : ℕ) (s : State) →
-    Begins table text at room level scope s →
-    Reads (opening room) text at tt inside →
+    (table : Words) (room level scope lower : ℕ) (here inside : Cursor) (s : State) →
+    Begins table room level scope s →
+    Reads (opening room) here tt inside →
     lower ≡ room - 1 →
-    (lower < room) × Begins table text inside lower level scope s × (level + 1 + 2 * lower ≤ 600)
-restricted-begins table text at room level scope lower inside s b reads less =
-    let some = opening-room room text at inside reads.reads in (
+    (lower < room) × Begins table lower level scope s × (level + 1 + 2 * lower ≤ 600)
+restricted-begins table room level scope lower here inside s b reads less =
+    let some = opening-room room here inside reads.reads in (
       omega (arith, some),
       record {
-        high = reads.high;
         levels = omega (arith, some, b.levels);
         variables = omega (arith, some, b.variables);
         ready = b.ready;
@@ -378,11 +406,11 @@ restricted-begins table text at room level scope lower inside s b reads less =
 
 -- a restriction with no excluded tuples
 pub plain-told :
-    (table : Words) (level x v : ℕ) (s : State) (out out' : Words) (c : Tree) (last : State) → s.words ≤ most_words →
+    (table : Words) (level x v : ℕ) (s last : State) (out out' : Words) (c : Tree) → s.words ≤ most_words →
     Told table c restriction level (x + v) s last out out' →
-    RestrictedTold table level x v s out out' 0 last (with_tuples c [])
+    RestrictedTold table level x v s last out out' 0 (with_tuples c [])
 unfolding gather
-plain-told table level x v s out out' c last few told = record {
+plain-told table level x v s last out out' c few told = record {
   number = refl;
   size = omega arith;
   handed = s;
@@ -395,71 +423,77 @@ plain-told table level x v s out out' c last few told = record {
   told = told;
 }
 
-module _ (text : Text) (v x : ℕ) where
-  plain-read :
-      (whole : Reader Restricted) (one : Reader Tree) (at j : ℕ) → from whole text at ≡ from (one >>= λ c. give (with_tuples c [])) text j → at ≤ j →
-      {facts : Tree → Type 0} {told : Restricted → Type 0} (next : ℕ) → Value one facts text j next →
-      ((c : Tree) → facts c → told (with_tuples c [])) →
-      Value whole told text at next
-  unfolding give
-  plain-read whole one at j e l next value h = record {
-    what = with_tuples value.what [];
-    reads = record {
-      low = omega (arith, value.reads.low);
-      high = value.reads.high;
-      reads = e ∙ onward one (λ c. give (with_tuples c [])) text j value.what next value.reads.reads;
-    };
-    holds = h value.what value.holds;
-  }
+plain-read :
+    (whole : Reader Restricted) (one : Reader Tree) (old mid next : Cursor) → from whole old ≡ from (one >>= λ c. give (with_tuples c [])) mid →
+    Moved old mid →
+    {facts : Tree → Type 0} {told : Restricted → Type 0} → Value one facts mid next →
+    ((c : Tree) → facts c → told (with_tuples c [])) →
+    Value whole told old next
+unfolding give
+plain-read whole one old mid next e m value h = record {
+  what = with_tuples value.what [];
+  reads = record {
+    moved = further old mid next m value.reads.moved;
+    reads = e ∙ onward one (λ c. give (with_tuples c [])) mid value.what next value.reads.reads;
+  };
+  holds = h value.what value.holds;
+}
 
-  module _ (at room : ℕ) (h : at ≤ length text) where
-    abbrev restricts : Reader Restricted
-    restricts = (readers room).restriction v x
+module _ (here : Cursor) (v x room : ℕ) where
+  abbrev restricts : Reader Restricted
+  restricts = (readers room).restriction v x
 
-    -- an operand
-    module _ (none : begins 40 (drop at text) ≡ false) where
-      abbrev single : Reader Tree
-      single = (readers room).operand (is_formula restriction) (x + v)
+  -- an operand
+  module _ (none : begins 40 here.rest.now ≡ false) where
+    abbrev single : Reader Tree
+    single = (readers room).operand (is_formula restriction) (x + v)
 
-      pub alone-refused : (q : Refusal) (p : ℕ) → from single text at ≡ refused q p → from restricts text at ≡ refused q p
-      unfolding is_formula
-      alone-refused q p e = alone-same text at room v x h none ∙ halt single _ text at q p e
+    pub alone-refused : (q : Refusal) (p : ℕ) → from single here ≡ refused q p → from restricts here ≡ refused q p
+    unfolding is_formula
+    alone-refused q p e = alone-same here.rest.now here.at room v x none ∙ halt single _ here q p e
 
-      pub restricted-alone :
-          {facts : Tree → Type 0} {told : Restricted → Type 0} (next : ℕ) → Value single facts text at next →
-          ((c : Tree) → facts c → told (with_tuples c [])) →
-          Value restricts told text at next
-      unfolding is_formula
-      restricted-alone next value = plain-read restricts single at at (alone-same text at room v x h none) (omega arith) next value
+    pub restricted-alone :
+        {facts : Tree → Type 0} {told : Restricted → Type 0} (next : Cursor) → Value single facts here next →
+        ((c : Tree) → facts c → told (with_tuples c [])) →
+        Value restricts told here next
+    unfolding is_formula
+    restricted-alone next value =
+        plain-read restricts single here here next (alone-same here.rest.now here.at room v x none) (still here) value
 
-    -- its parenthesis is refused, or opens
-    module _ (is : begins 40 (drop at text) ≡ true) where
-      pub restricted-refused : (q : Refusal) (p : ℕ) → from (opening room) text at ≡ refused q p → from restricts text at ≡ refused q p
-      restricted-refused q p e = opens_same text at room v x h is ∙ halt (opening room) _ text at q p e
+  -- its parenthesis is refused, or opens
+  module _ (is : begins 40 here.rest.now ≡ true) where
+    pub restricted-refused : (q : Refusal) (p : ℕ) → from (opening room) here ≡ refused q p → from restricts here ≡ refused q p
+    restricted-refused q p e = opens_same here.rest.now here.at room v x is ∙ halt (opening room) _ here q p e
 
-      module _ (lower inside : ℕ) (opens : Reads (opening room) text at tt inside) (less : lower ≡ room - 1) where
-        inner : from restricts text at ≡ from (exclusion lower v x) text inside
-        inner = opened_inside text at room lower v x inside h is less opens.reads
+    module _ (lower : ℕ) (inside : Cursor) (opens : Reads (opening room) here tt inside) (less : lower ≡ room - 1) where
+      inner : from restricts here ≡ from (exclusion lower v x) inside
+      inner = opened_inside here inside room lower v x is less opens.reads
 
-        -- with excluded tuples
-        pub restricted-excluding :
-            (told : Restricted → Type 0) (r : Step) → Valued (exclusion lower v x) told text inside r → Valued restricts told text at r
-        restricted-excluding told = valued_from restricts (exclusion lower v x) told text at inside inner opens.low
+      -- with excluded tuples
+      pub restricted-excluding :
+          (told : ℕ → Restricted → Type 0) (next : Cursor) (r : Result ℕ Refused) → Numbered (exclusion lower v x) told inside next r →
+          Numbered restricts told here next r
+      restricted-excluding told next (Ok n) value = record {
+        what = value.what;
+        reads = record { moved = further here inside next opens.moved value.reads.moved; reads = inner ∙ value.reads.reads };
+        holds = value.holds;
+      }
+      restricted-excluding told next (Err e) r = inner ∙ r
 
-        -- an all-of or any-of
-        module _ (stop : ℕ) (stops : StopsAt text inside stop) (none : begins_excluding v (drop stop text) ≡ false) where
-          abbrev joint : Reader Tree
-          joint = chained ((readers lower).operand (is_formula restriction) (x + v))
+      -- an all-of or any-of
+      module _ (stop : Cursor) (stops : StopsAt inside stop) (none : begins_excluding v stop.rest.now ≡ false) where
+        abbrev joint : Reader Tree
+        joint = chained ((readers lower).operand (is_formula restriction) (x + v))
 
-          as_joint : from restricts text at ≡ from (joint >>= λ c. give (with_tuples c [])) text inside
-          unfolding is_formula
-          as_joint = inner ∙ chained_same text inside stop lower v x stops none
+        as_joint : from restricts here ≡ from (joint >>= λ c. give (with_tuples c [])) inside
+        unfolding is_formula
+        as_joint = inner ∙ chained_same inside stop lower v x stops none
 
-          pub joint-refused : (q : Refusal) (p : ℕ) → from joint text inside ≡ refused q p → from restricts text at ≡ refused q p
-          joint-refused q p e = as_joint ∙ halt joint _ text inside q p e
+        pub joint-refused : (q : Refusal) (p : ℕ) → from joint inside ≡ refused q p → from restricts here ≡ refused q p
+        joint-refused q p e = as_joint ∙ halt joint _ inside q p e
 
-          pub restricted-chain :
-              {facts : Tree → Type 0} {told : Restricted → Type 0} (next : ℕ) → Value joint facts text inside next →
-              ((c : Tree) → facts c → told (with_tuples c [])) →
-              Value restricts told text at next
-          restricted-chain next value = plain-read restricts joint at inside as_joint opens.low next value
+        pub restricted-chain :
+            {facts : Tree → Type 0} {told : Restricted → Type 0} (next : Cursor) → Value joint facts inside next →
+            ((c : Tree) → facts c → told (with_tuples c [])) →
+            Value restricts told here next
+        restricted-chain next value = plain-read restricts joint here inside next as_joint opens.moved value

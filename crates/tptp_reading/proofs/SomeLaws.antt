@@ -2,14 +2,16 @@
 use Prim.Native.Nat.{ℕ, ◌+◌, ◌*◌, ◌-◌, ◌≤◌, ◌<◌}
 use native.Mathlib.Numerals.{add-one}
 use native.Mathlib.Omega.{arith}
-use mathlib.Core.Path.{◌≡◌, sym, ap, ◌∙◌}
+use mathlib.Core.Path.{◌≡◌, refl, sym, ap, ◌∙◌}
 use mathlib.Core.Bool.{Bool, true, false, not, ◌&&◌}
-use mathlib.Core.List.{[], ◌∷◌}
-use lib.ListN.{length, drop, set, get_or}
+use mathlib.Core.List.{List, [], ◌∷◌}
+use lib.ListN.{length, drop, set}
 use lib.Seq.{sets}
 use lib.Dec.{ltb, eqb}
 use lib.IntN.{pos}
 use borrow.Author.Tests.{ltb-true}
+use Rattle.std.specs.Prelude.{slice_get, Some}
+use Rattle.text.specs.declared.cursor.Cursor.{Cursor}
 use Rattle.model.specs.Words.{Words, scope_limit, level_limit}
 use Rattle.model.specs.Bytes.{Text, bytes, blank, interrogation}
 use Rattle.model.specs.Answer.{Outcome, passed, refused, ask, ◌>>=◌}
@@ -25,16 +27,16 @@ use Rattle.laws.specs.Answer.{ask-passed, then_passed, then_both, then_assoc}
 use Rattle.laws.specs.Reading.Trees.{ask_tree}
 use Rattle.tables.specs.Checked.{outcome}
 use Rattle.tptp_tokens.specs.Steps.{from, Reads, Value}
-use Rattle.tptp_binders.specs.Binder.{IsCount}
 use Rattle.tptp_tokens.specs.Laying.{Laid}
 use Rattle.modes.specs.declared.marks.Marks.{Marks}
 use Rattle.tptp_state.specs.Told.{Passed, told, Ready, Told, Entered, Dropped}
 use Rattle.tptp_reading.specs.Formula.{Begins, beneath, closed}
 use Rattle.tptp_state.specs.declared.state.State.{State}
+use Rattle.tptp_tokens.proofs.MovedLaws.{further}
 use Rattle.tptp_tokens.proofs.TokenLaws.{onward, halt, closed_then, token-here}
 use Rattle.tptp_state.proofs.StateLaws.{asked-passed}
 use Rattle.tptp_tokens.proofs.LayingLaws.{laid_one}
-use Rattle.tptp_reading.proofs.StopLaws.{skips_here}
+use Rattle.tptp_reading.proofs.StopLaws.{same_first, skips_here}
 use Rattle.tptp_reading.proofs.RoomLaws.{opening-room, beneath_less}
 
 -- behind the first words of a node: both questions at it passed
@@ -118,92 +120,95 @@ module _
             ∙ rw (start, deep, free, add-one above, add-one scope)
 
 -- a "some" is read up to its child
-module _ (text : Text) (at room scope : ℕ) (h : at < length text) (byte : get_or text at 0 ≡ interrogation) where
-  abbrev reader : Reader Tree
-  reader = read_some room (beneath room) scope
+module _
+    (old at : Cursor) (room scope : ℕ) (byte : slice_get old.rest.now 0 ≡ Some interrogation)
+    (passed : at.rest.now ≡ drop 1 old.rest.now) (on : at.at ≡ old.at + 1)
+  where
+    abbrev reader : Reader Tree
+    reader = read_some room (beneath room) scope
 
-  mark : Reads (token (interrogation ∷ [])) text at tt (at + 1)
-  unfolding blank
-  mark = token-here text at at (skips_here text at h (rw byte)) interrogation h byte
+    mark : Reads (token (interrogation ∷ [])) old tt at
+    unfolding blank
+    mark =
+        token-here old old (skips_here old (λ b h. rw (same_first old.rest.now b interrogation h byte) refl)) at passed on interrogation byte
 
-  -- its binder was refused
-  pub some_unbound : (q : Refusal) (p : ℕ) → from (read_binder 0 scope) text (at + 1) ≡ refused q p → from reader text at ≡ refused q p
-  unfolding read_some bytes
-  some_unbound q p e =
-      onward (token (interrogation ∷ [])) _ text at tt (at + 1) mark.reads ∙ halt (read_binder 0 scope) _ text (at + 1) q p e
-
-  module _ (count next : ℕ) (binds : Value (read_binder 0 scope) (IsCount 0 count) text (at + 1) next) where
-    bound : from reader text at ≡ from
-        (R.◌>>=◌ (opening room) λ _. R.◌>>=◌ (R.whole ((beneath room).operand false (scope + 1))) λ c. R.◌>>=◌ (token (bytes ")")) λ _. give (some c)) text next
+    -- its binder was refused
+    pub some_unbound : (q : Refusal) (p : ℕ) → from (read_binder 0 scope) at ≡ refused q p → from reader old ≡ refused q p
     unfolding read_some bytes
-    bound =
-        onward (token (interrogation ∷ [])) _ text at tt (at + 1) mark.reads
-        ∙ onward (read_binder 0 scope) _ text (at + 1) binds.what next binds.reads.reads
+    some_unbound q p e =
+        onward (token (interrogation ∷ [])) _ old tt at mark.reads ∙ halt (read_binder 0 scope) _ at q p e
 
-    -- its parenthesis was refused
-    pub some-refused : (q : Refusal) (p : ℕ) → from (opening room) text next ≡ refused q p → from reader text at ≡ refused q p
-    some-refused q p e = bound ∙ halt (opening room) _ text next q p e
+    module _ (count : ℕ) (next : Cursor) (binds : Reads (read_binder 0 scope) at count next) where
+      bound : from reader old ≡ from
+          (R.◌>>=◌ (opening room) λ _. R.◌>>=◌ (R.whole ((beneath room).operand false (scope + 1))) λ c. R.◌>>=◌ (token (bytes ")")) λ _. give (some c)) next
+      unfolding read_some bytes
+      bound =
+          onward (token (interrogation ∷ [])) _ old tt at mark.reads
+          ∙ onward (read_binder 0 scope) _ at count next binds.reads
 
-    module _ (inside : ℕ) (opens : Reads (opening room) text next tt inside) where
-      some₁ : 1 ≤ room
-      some₁ = opening-room room text next inside opens.reads
+      -- its parenthesis was refused
+      pub some-refused : (q : Refusal) (p : ℕ) → from (opening room) next ≡ refused q p → from reader old ≡ refused q p
+      some-refused q p e = bound ∙ halt (opening room) _ next q p e
 
-      -- its child may begin
-      pub some-begins :
-          (table : Words) (above lower : ℕ) (deep free : Bool) (s handed : State) →
-          Begins table text at room above scope s →
-          lower ≡ room - 1 →
-          deep ≡ ltb above level_limit →
-          free ≡ ltb scope scope_limit →
-          Entered 1 deep free s.set s handed →
-          (5 * lower + 4 < 5 * room) × Begins table text inside lower (above + 1) (scope + 1) handed × (above + 1 + 1 + 2 * lower ≤ 600)
-      some-begins table above lower deep free s handed begins less is-deep is_free entered = (
-        omega (arith, some₁),
-        record {
-          high = opens.high;
-          levels = omega (arith, some₁, begins.levels);
-          variables = omega (arith, some₁, begins.variables);
-          ready =
-              entered_ready table 1 deep free s.set s handed above scope (above + 1) (scope + 1) begins.ready entered
-              (λ is. omega (arith, ltb-true above level_limit (sym is-deep ∙ is)))
-              (λ is. omega (arith, ltb-true scope scope_limit (sym is_free ∙ is)));
-        },
-        omega (arith, some₁, begins.levels),
-      )
+      module _ (inside : Cursor) (opens : Reads (opening room) next tt inside) where
+        some₁ : 1 ≤ room
+        some₁ = opening-room room next inside opens.reads
 
-      module _ (lower : ℕ) (less : lower ≡ room - 1) where
-        abbrev child : Reader Tree
-        child = closed ((readers lower).operand (is_formula restriction) (scope + 1))
+        -- its child may begin
+        pub some-begins :
+            (table : Words) (above lower : ℕ) (deep free : Bool) (s handed : State) →
+            Begins table room above scope s →
+            lower ≡ room - 1 →
+            deep ≡ ltb above level_limit →
+            free ≡ ltb scope scope_limit →
+            Entered 1 deep free s.set s handed →
+            (5 * lower + 4 < 5 * room) × Begins table lower (above + 1) (scope + 1) handed × (above + 1 + 1 + 2 * lower ≤ 600)
+        some-begins table above lower deep free s handed begins less is-deep is_free entered = (
+          omega (arith, some₁),
+          record {
+            levels = omega (arith, some₁, begins.levels);
+            variables = omega (arith, some₁, begins.variables);
+            ready =
+                entered_ready table 1 deep free s.set s handed above scope (above + 1) (scope + 1) begins.ready entered
+                (λ is. omega (arith, ltb-true above level_limit (sym is-deep ∙ is)))
+                (λ is. omega (arith, ltb-true scope scope_limit (sym is_free ∙ is)));
+          },
+          omega (arith, some₁, begins.levels),
+        )
 
-        goes : from reader text at ≡ from (R.◌>>=◌ child λ c. give (some c)) text inside
-        unfolding is_formula
-        goes =
-            bound
-            ∙ onward (opening room) _ text next tt inside opens.reads
-            ∙ ap (λ (b : Readers). from (R.◌>>=◌ (R.whole (b.operand false (scope + 1))) λ c. R.◌>>=◌ (token (bytes ")")) λ _. give (some c)) text inside)
-            (beneath_less room lower some₁ less)
-            ∙ closed_then (R.whole ((readers lower).operand false (scope + 1))) (bytes ")") (λ c. give (some c)) (drop inside text) inside
+        module _ (lower : ℕ) (less : lower ≡ room - 1) where
+          abbrev child : Reader Tree
+          child = closed ((readers lower).operand (is_formula restriction) (scope + 1))
 
-        -- its child was refused
-        pub some_childless : (q : Refusal) (p : ℕ) → from child text inside ≡ refused q p → from reader text at ≡ refused q p
-        some_childless q p e = goes ∙ halt child _ text inside q p e
+          goes : from reader old ≡ from (R.◌>>=◌ child λ c. give (some c)) inside
+          unfolding is_formula
+          goes =
+              bound
+              ∙ onward (opening room) _ next tt inside opens.reads
+              ∙ ap (λ (b : Readers). from (R.◌>>=◌ (R.whole (b.operand false (scope + 1))) λ c. R.◌>>=◌ (token (bytes ")")) λ _. give (some c)) inside)
+              (beneath_less room lower some₁ less)
+              ∙ closed_then (R.whole ((readers lower).operand false (scope + 1))) (bytes ")") (λ c. give (some c)) inside.rest.now inside.at
 
-        pub some_read :
-            (table : Words) (above : ℕ) (s handed known r : State) (out mid out' : Words) (level range : Bool) (end : ℕ) →
-            level ≡ ltb above level_limit →
-            range ≡ ltb scope scope_limit →
-            Entered 1 level range s.set s handed →
-            Value child (λ c. Told table c restriction (above + 1) (scope + 1) handed known out mid) text inside end →
-            Laid s.words 10 mid out' →
-            Dropped scope s.words known r →
-            Value reader (λ t. Told table t restriction above scope s r out out') text at end
-        unfolding give
-        some_read table above s handed known r out mid out' level range end deep free entered below laid dropped = record {
-          what = some below.what;
-          reads = record {
-            low = omega (arith, binds.reads.low, opens.low, below.reads.low);
-            high = below.reads.high;
-            reads = goes ∙ onward child (λ c. give (some c)) text inside below.what end below.reads.reads;
-          };
-          holds = told-some table below.what above scope s handed known r out mid out' level range deep free entered below.holds laid dropped;
-        }
+          -- its child was refused
+          pub some_childless : (q : Refusal) (p : ℕ) → from child inside ≡ refused q p → from reader old ≡ refused q p
+          some_childless q p e = goes ∙ halt child _ inside q p e
+
+          pub some_read :
+              (table : Words) (above : ℕ) (s handed known r : State) (out mid out' : Words) (level range : Bool) (end : Cursor) →
+              level ≡ ltb above level_limit →
+              range ≡ ltb scope scope_limit →
+              Entered 1 level range s.set s handed →
+              Value child (λ c. Told table c restriction (above + 1) (scope + 1) handed known out mid) inside end →
+              Laid s.words 10 mid out' →
+              Dropped scope s.words known r →
+              Value reader (λ t. Told table t restriction above scope s r out out') old end
+          unfolding give
+          some_read table above s handed known r out mid out' level range end deep free entered below laid dropped = record {
+            what = some below.what;
+            reads = record {
+              moved =
+                  further old inside end (further old next inside (further old at next mark.moved binds.moved) opens.moved) below.reads.moved;
+              reads = goes ∙ onward child (λ c. give (some c)) inside below.what end below.reads.reads;
+            };
+            holds = told-some table below.what above scope s handed known r out mid out' level range deep free entered below.holds laid dropped;
+          }

@@ -1,116 +1,144 @@
 -- Laws for the byte behind an operand, where a scan from the operand's first byte on stopped: if it stopped elsewhere, that byte is no
 -- connective and no closing parenthesis.
-use Prim.Native.Nat.{ℕ, zero, suc, ◌+◌, ◌≤◌, ◌<◌}
+use Prim.Native.Nat.{ℕ, ◌+◌}
 use native.Mathlib.Omega.{arith}
 use mathlib.Core.Path.{◌≡◌, refl, sym, ap, ◌∙◌}
 use mathlib.Core.Logic.{◌⊎◌, inl, inr, ⊎_elim}
-use mathlib.Core.Bool.{Bool, false}
-use lib.ListN.{length, drop, get_or, length-drop}
-use lib.Dec.{ltb, eqb}
-use borrow.Author.Tests.{eq-eqb, ne_eqb, ltb-true, ltb-false}
-use Rattle.model.specs.Bytes.{Text, blank}
-use Rattle.model.specs.Answer.{refused}
-use Rattle.model.specs.Tree.{Tree}
+use mathlib.Core.Bool.{Bool, true, false, cond}
+use mathlib.Core.List.{[], ◌∷◌}
+use lib.ListN.{length}
+use lib.Dec.{eqb}
+use borrow.Author.Tests.{eq-eqb, ne_eqb, eqb-true}
+use Rattle.std.specs.Prelude.{slice_get, Some, None}
+use Rattle.std.proofs.lemmas.Option.{get_or_from_slice_get}
+use Rattle.text.specs.declared.cursor.Cursor.{Cursor}
+use Rattle.model.specs.Bytes.{Text, blank, ampersand, bar}
+use Rattle.model.specs.Answer.{passed, refused}
+use Rattle.model.specs.Tree.{Tree, join, cons}
 use Rattle.model.specs.TptpReading as R
-use Rattle.model.specs.TptpReading.{Reader, look, joining, readers, begins_with, begins_excluding}
+use Rattle.model.specs.TptpReading.{Got, Reader, give, ◌>>=◌, blanks, look, more, trees, joining, readers, behind_blanks, begins_with}
+use Rattle.model.specs.TptpReading.{begins_excluding}
 use Rattle.model.specs.declared.Refusal.TheVariants.{Tptp}
-use Rattle.laws.specs.Words.Tests.{decide}
-use Rattle.tptp_tokens.specs.Steps.{from, got, Skips}
-use Rattle.tptp_binders.specs.Ahead.{StopsAt, begins}
-use Rattle.tptp_tokens.proofs.TokenLaws.{here, over, onward, halt, look-here, look-over, skip_more, skip_stop, skip_end}
-use Rattle.tptp_binders.proofs.AheadLaws.{behind_skip, begins-at, excluding-other}
+use Rattle.laws.specs.Answer.{passed-same}
+use Rattle.laws.specs.Words.Tests.{decide, clash, and_left}
+use Rattle.tptp_tokens.specs.Steps.{from, Reads, Skips}
+use Rattle.tptp_binders.specs.Ahead.{StopsAt}
+use Rattle.tptp_tokens.proofs.MovedLaws.{still, further}
+use Rattle.tptp_tokens.proofs.TokenLaws.{begun, onward, halt, look-here, look-over}
+use Rattle.tptp_binders.proofs.AheadLaws.{blanks-rest}
 use Rattle.tptp_reading.proofs.AheadTrees.{operand-stopping, stopping-here}
 
--- the first byte behind blanks, or none
-pub begins-here : (text : Text) (at i : ℕ) → Skips text at i → (c : ℕ) → i < length text → eqb (get_or text i 0) c ≡ begins c (drop at text)
-unfolding begins_with
-begins-here text at i s c h = ap (begins_with c) (sym (here text i h)) ∙ begins-at text at i s c
+-- a text begins with a byte, or is at its end
+pub first-cases : (t : Text) → (slice_get t 0 ≡ None) ⊎ ((b : ℕ) × (slice_get t 0 ≡ Some b))
+first-cases [] = inl refl
+first-cases (b ∷ t) = inr (b, refl)
 
-pub begins-over : (text : Text) (at i : ℕ) → Skips text at i → (c : ℕ) → length text ≤ i → false ≡ begins c (drop at text)
+pub same_first : (t : Text) (b c : ℕ) → slice_get t 0 ≡ Some b → slice_get t 0 ≡ Some c → b ≡ c
+same_first t b c h k = sym (get_or_from_slice_get t 0 b 0 h) ∙ get_or_from_slice_get t 0 c 0 k
+
+pub begins-byte : (t : Text) (c : ℕ) → begins_with c t ≡ true → slice_get t 0 ≡ Some c
 unfolding begins_with
-begins-over text at i s c h = ap (begins_with c) (sym (over text i h)) ∙ begins-at text at i s c
+begins-byte [] c e = clash e refl
+begins-byte (b ∷ t) c e = ap Some (eqb-true b c e)
+
+pub byte-begins : (t : Text) (b c : ℕ) → slice_get t 0 ≡ Some b → begins_with c t ≡ eqb b c
+unfolding begins_with
+byte-begins t b c h = rw (begun t b h) refl
+
+pub here-begins : (t : Text) (c : ℕ) → slice_get t 0 ≡ Some c → begins_with c t ≡ true
+here-begins t c h = byte-begins t c c h ∙ eq-eqb c c refl
 
 -- no blank stands where another byte does
-pub skips_here : (text : Text) (at : ℕ) → at < length text → blank (get_or text at 0) ≡ false → Skips text at at
-skips_here text at h e = record { low = omega arith; high = omega arith; reads = skip_stop text at h e; stop = λ _. e }
+pub skips_here : (here : Cursor) → ((b : ℕ) → slice_get here.rest.now 0 ≡ Some b → blank b ≡ false) → Skips here here
+unfolding blanks
+skips_here here h = record { reads = record { moved = still here; reads = go here.rest.now h }; stop = h }
+  where
+    go :
+        (t : Text) → ((b : ℕ) → slice_get t 0 ≡ Some b → blank b ≡ false) →
+        blanks t here.at ≡ passed (record { what = tt; rest = t; at = here.at })
+    go [] h = refl
+    go (b ∷ t) h = rw (h b refl)
 
--- there is a first index where no blank stands
-skips_within : (n : ℕ) (text : Text) (at : ℕ) → length text ≤ n + at → at ≤ length text → (i : ℕ) × Skips text at i
-skips_within zero text at h l =
-    (length text, record { low = l; high = omega arith; reads = skip_end text at (omega arith); stop = λ k. absurd (omega arith) })
-skips_within (suc n) text at h l =
+-- blanks leave the text behind them
+pub behind_skip : (old mid : Cursor) → Skips old mid → behind_blanks old.rest.now ≡ mid.rest.now
+behind_skip old mid s =
+    ap (λ (g : Got (Unit {0})). g.rest) (passed-same (sym (blanks-rest old.rest.now old.at).1 ∙ s.reads.reads))
+
+-- what stands behind a first operand: nothing, a connective, or another byte
+module _ (alone : Reader Tree) (first : Tree) (one : Reader Tree) (old mid : Cursor) (s : Skips old mid) where
+  joining-over : slice_get mid.rest.now 0 ≡ None → from (joining alone first one) old ≡ refused Tptp mid.at
+  unfolding joining
+  joining-over h = halt look _ old Tptp mid.at (look-over old mid s h)
+
+  pub joining-more :
+      (b : Bool) →
+      slice_get mid.rest.now 0 ≡ Some (cond b ampersand bar) →
+      from (joining alone first one) old
+      ≡ from (more (cond b ampersand bar) one >>= λ ts. give (join b (cons first (trees ts)))) mid
+  unfolding joining
+  joining-more true e = onward look _ old ampersand mid (look-here old mid s ampersand e)
+  joining-more false e = onward look _ old bar mid (look-here old mid s bar e)
+
+  joining-alone :
+      (b : ℕ) → slice_get mid.rest.now 0 ≡ Some b → (b ≡ 38 → ⊥) → (b ≡ 124 → ⊥) → from (joining alone first one) old ≡ from alone mid
+  unfolding joining
+  joining-alone b h n m = onward look _ old b mid (look-here old mid s b h) ∙ rw (ne_eqb b 38 n, ne_eqb b 124 m) refl
+
+-- no connective goes on
+pub joining-none :
+    (first : Tree) (one : Reader Tree) (old mid : Cursor) → Skips old mid →
+    ((c : ℕ) → (c ≡ 38) ⊎ (c ≡ 124) → slice_get mid.rest.now 0 ≡ Some c → ⊥) →
+    from (joining R.stop first one) old ≡ refused Tptp mid.at
+unfolding R.stop
+joining-none first one old mid s none =
     ⊎_elim
+    (λ k. joining-over R.stop first one old mid s k)
     (λ k.
-    let inside = ltb-true at (length text) k in
-    ⊎_elim
-    (λ e.
-    let (i, s) = skips_within n text (at + 1) (omega arith) (omega (arith, inside)) in
-    (i, record { low = omega (arith, s.low); high = s.high; reads = skip_more text at inside e ∙ s.reads; stop = s.stop }))
-    (λ e. (at, skips_here text at inside e))
-    (decide (blank (get_or text at 0))))
-    (λ k.
-    let end = ltb-false at (length text) k in
-    (length text, record { low = l; high = omega arith; reads = skip_end text at (omega (arith, end, l)); stop = λ i. absurd (omega (arith, i)) }))
-    (decide (ltb at (length text)))
+    let (b, h) = k in
+    joining-alone R.stop first one old mid s b h
+    (λ (e : b ≡ 38). none b (inl e) h)
+    (λ (e : b ≡ 124). none b (inr e) h))
+    (first-cases mid.rest.now)
 
-pub skips : (text : Text) (at : ℕ) → at ≤ length text → (i : ℕ) × Skips text at i
-skips text at h = skips_within (length text) text at (omega arith) h
-
--- a byte that can follow an operand stands behind one where the scan stops
-pub stops-there :
-    (room : ℕ) (formula : Bool) (scope : ℕ) (text : Text) (at : ℕ) (t : Tree) (behind i stop c : ℕ) →
-    from ((readers room).operand formula scope) text at ≡ got text t behind →
-    Skips text behind i →
-    StopsAt text at stop →
-    (c ≡ 38) ⊎ (c ≡ 124) ⊎ (c ≡ 41) →
-    i < length text →
-    get_or text i 0 ≡ c →
-    stop ≡ i
-unfolding begins
-stops-there room formula scope text at t behind i stop c e s stops is h here =
-    let begun = sym (begins-here text behind i s c h) ∙ eq-eqb (get_or text i 0) c here in
-    let same =
-    stops.stops
-    ∙ operand-stopping room formula scope (drop at text) at (record { what = t; rest = drop behind text; at = behind }) e
-    ∙ stopping-here c (drop behind text) is begun
-    ∙ behind_skip text behind i s in
-    omega (arith, stops.high, length-drop stop text, length-drop i text, ap length same)
+-- where a byte that can follow an operand stands behind one, the scan stops
+pub stops-behind :
+    (room : ℕ) (formula : Bool) (scope : ℕ) (old : Cursor) (g : Got Tree) (stop : Cursor) →
+    StopsAt old stop →
+    from ((readers room).operand formula scope) old ≡ passed g →
+    (c : ℕ) → (c ≡ 38) ⊎ (c ≡ 124) ⊎ (c ≡ 41) → begins_with c (behind_blanks g.rest) ≡ true →
+    stop.rest.now ≡ behind_blanks g.rest
+stops-behind room formula scope old g stop stops e c is begun =
+    stops.stops ∙ operand-stopping room formula scope old.rest.now old.at g e ∙ stopping-here c g.rest is begun
 
 module _
-    (room : ℕ) (formula : Bool) (scope : ℕ) (text : Text) (at behind stop i : ℕ) (first : Tree)
-    (stops : StopsAt text at stop)
-    (read : from ((readers room).operand formula scope) text at ≡ got text first behind)
-    (s : Skips text behind i)
-    (strays : i ≡ stop → ⊥)
+    (room : ℕ) (formula : Bool) (scope : ℕ) (old behind stop : Cursor) (t : Tree)
+    (read : Reads ((readers room).operand formula scope) old t behind) (stops : StopsAt old stop)
   where
-    no_stop : (c : ℕ) → (c ≡ 38) ⊎ (c ≡ 124) ⊎ (c ≡ 41) → i < length text → get_or text i 0 ≡ c → ⊥
-    no_stop c is h e = strays (sym (stops-there room formula scope text at first behind i stop c read s stops is h e))
+    module _ (mid : Cursor) (s : Skips behind mid) where
+      pub stops-there :
+          (c : ℕ) → (c ≡ 38) ⊎ (c ≡ 124) ⊎ (c ≡ 41) → slice_get mid.rest.now 0 ≡ Some c →
+          (mid.at ≡ stop.at) × (stop.rest.now ≡ mid.rest.now)
+      stops-there c is h =
+          let skipped = behind_skip behind mid s in
+          let begun = ap (begins_with c) skipped ∙ here-begins mid.rest.now c h in
+          let same = stops-behind room formula scope old _ stop stops read.reads c is begun ∙ skipped in
+          let moved = further old behind mid read.moved s.reads.moved in
+          (omega (arith, stops.moved.whole, moved.whole, ap length same), same)
 
-    -- no all-of or any-of goes on there
-    pub joining_strays : (one : Reader Tree) → from (joining R.stop first one) text behind ≡ refused Tptp i
-    unfolding joining R.stop
-    joining_strays one =
-        ⊎_elim
-        (λ k.
-        let h = ltb-true i (length text) k in
-        onward look _ text behind (get_or text i 0) i (look-here text behind i s h)
-        ∙ rw (
-          ne_eqb (get_or text i 0) 38 (no_stop 38 (inl refl) h),
-          ne_eqb (get_or text i 0) 124 (no_stop 124 (inr (inl refl)) h),
-        ))
-        (λ k. halt look _ text behind Tptp i (look-over text behind i s (ltb-false i (length text) k)))
-        (decide (ltb i (length text)))
+      -- it stopped elsewhere: no all-of or any-of goes on, and no excluded tuples begin
+      module _ (strays : mid.at ≡ stop.at → ⊥) where
+        pub joining_strays : (one : Reader Tree) → from (joining R.stop t one) behind ≡ refused Tptp mid.at
+        joining_strays one =
+            joining-none t one behind mid s
+            (λ c is h. strays (stops-there c (⊎_elim (λ (e : c ≡ 38). inl e) (λ (e : c ≡ 124). inr (inl e)) is) h).0)
 
-    -- and no excluded tuples begin there
-    no_connective : begins_with 38 (drop i text) ≡ false
-    unfolding begins_with
-    no_connective =
-        ⊎_elim
-        (λ k.
-        let h = ltb-true i (length text) k in
-        ap (begins_with 38) (here text i h) ∙ ne_eqb (get_or text i 0) 38 (no_stop 38 (inl refl) h))
-        (λ k. ap (begins_with 38) (over text i (ltb-false i (length text) k)))
-        (decide (ltb i (length text)))
-
-    pub excluding_strays : (v : ℕ) → begins_excluding v (drop behind text) ≡ false
-    excluding_strays v = sym (excluding-other text behind i s v (begins_with 38 (drop i text)) refl no_connective) ∙ no_connective
+        pub excluding_strays : (v : ℕ) → begins_excluding v behind.rest.now ≡ false
+        unfolding begins_excluding
+        excluding_strays v =
+            ⊎_elim
+            (λ k.
+            let connective = and_left (begins_with 38 (behind_blanks behind.rest.now)) _ k in
+            let there = sym (ap (begins_with 38) (behind_skip behind mid s)) ∙ connective in
+            absurd (strays (stops-there 38 (inl refl) (begins-byte mid.rest.now 38 there)).0))
+            (λ k. k)
+            (decide (begins_excluding v behind.rest.now))

@@ -1,10 +1,10 @@
 -- What the reading of formulas and restrictions comes to.
-use Rattle.std.specs.Prelude.{ℕ, zero, suc, ◌+◌, ◌*◌, ◌≤◌, min, ◌≡◌, Bool, true, false, cond, ◌&&◌, List, length, eqb, Result, Ok, Err}
+use Rattle.std.specs.Prelude.{ℕ, zero, suc, ◌+◌, ◌*◌, ◌≤◌, min, ◌≡◌, Bool, true, false, cond, ◌&&◌, List, length, eqb, slice_get, Some, Result, Ok, Err}
 use Rattle.std.proofs.lemmas.List.Edits.{sets}
 use Rattle.model.specs.Words.{Words, policy_limit}
 use Rattle.model.specs.Lists.{gather}
 use Rattle.model.specs.Bytes.{Text, bytes, ampersand, bar, exclamation, parenthesis, interrogation}
-use Rattle.model.specs.Answer.{Outcome, ◌>>=◌}
+use Rattle.model.specs.Answer.{Outcome, refused, ◌>>=◌}
 use Rattle.model.specs.Tree.{Tree, Trees, nil, cons, encode_all}
 use Rattle.model.specs.Level.{Role, restriction}
 use Rattle.model.specs.Reading.{is_formula}
@@ -13,35 +13,24 @@ use Rattle.model.specs.TptpReading as R
 use Rattle.model.specs.TptpReading.{Reader, Readers, give, stop, token, more, trees, joining, excluding, no_readers, readers}
 use Rattle.laws.specs.Reading.Trees.{ask_trees}
 use Rattle.tables.specs.Checked.{outcome}
-use Rattle.tptp_tokens.specs.Steps.{Step, Valued}
+use Rattle.text.specs.declared.cursor.Cursor.{Cursor}
+use Rattle.tptp_tokens.specs.Steps.{from, Value, Valued}
 use Rattle.tptp_tokens.specs.Laying.{most_words}
 use Rattle.modes.specs.Mode.{bindings_of}
 use Rattle.modes.specs.declared.marks.Marks.{Marks}
 use Rattle.tptp_state.specs.Told.{Passed, told, Ready, Told}
 use Rattle.tptp_state.specs.declared.state.State.{State}
 use Rattle.model.specs.declared.Refused.{Refused}
-use Rattle.tptp_binders.specs.declared.binder.Counted.{Counted}
 
--- what comes of a node, the index behind it or a refusal, with what is known then; and of several, how many they are, or how many
--- excluded tuples a restriction has
-pub record Came : Type 0 where
-  pub end : Step
-  pub state : State
-
-pub record Many : Type 0 where
-  pub came : Came
-  pub count : ℕ
-
-abbrev pub came : (end : Step) (state : State) → Came
-came end state = record { end = end; state = state }
-
-abbrev pub count_of : (listed : Result Counted Refused) → ℕ
-count_of (Ok c) = c.count
+-- how many were read: none, if they were refused
+abbrev pub count_of : (listed : Result ℕ Refused) → ℕ
+count_of (Ok n) = n
 count_of (Err e) = 0
 
-abbrev pub many : (r : Result Counted Refused) (state : State) → Many
-many (Ok c) state = record { came = came (Ok c.next) state; count = c.count }
-many (Err e) state = record { came = came (Err e) state; count = 0 }
+-- a reader comes to something of which facts hold, together with a number; or to a refusal
+abbrev pub Numbered : {A : Type 0} (reader : Reader A) (facts : ℕ → A → Type 0) (old new : Cursor) (r : Result ℕ Refused) → Type 0
+Numbered reader facts old new (Ok n) = Value reader (facts n) old new
+Numbered reader facts old new (Err e) = from reader old ≡ refused e.0 e.1
 
 -- what can be read behind one parenthesis more
 unfoldable pub beneath : ℕ → Readers
@@ -49,30 +38,30 @@ beneath zero = no_readers
 beneath (suc room) = readers room
 
 -- where a reading may begin: the levels and variables have room in a number, and what is known is ready
-pub record Begins (table : Words) (text : Text) (at room above scope : ℕ) (s : State) : Type 0 where
-  pub high : at ≤ length text
+pub record Begins (table : Words) (room above scope : ℕ) (s : State) : Type 0 where
   pub levels : above + 2 * room ≤ 600
   pub variables : scope + 4 * room ≤ 1024
   pub ready : Ready above scope s
 
 -- a node was read, by a reader
 abbrev pub NodeRead :
-    (reader : Reader Tree) (table : Words) (role : Role) (above scope : ℕ) (s : State) (out out' : Words) (text : Text) (at : ℕ)
-    (r : Came) → Type 0
-NodeRead reader table role above scope s out out' text at r =
-    Valued reader (λ t. Told table t role above scope s r.state out out') text at r.end
+    (reader : Reader Tree) (table : Words) (role : Role) (above scope : ℕ) (s s' : State) (out out' : Words) (old new : Cursor)
+    (r : Result (Unit {0}) Refused) → Type 0
+NodeRead reader table role above scope s s' out out' old new r =
+    Valued reader (λ t. Told table t role above scope s s' out out') old new r
 
 -- an operand, with room for so many parentheses
 abbrev pub OperandRead :
-    (room : ℕ) (table : Words) (role : Role) (above scope : ℕ) (s : State) (out out' : Words) (text : Text) (at : ℕ) (r : Came) → Type 0
-OperandRead room table role above scope s out out' text at r =
-    NodeRead ((readers room).operand (is_formula role) scope) table role above scope s out out' text at r
+    (room : ℕ) (table : Words) (role : Role) (above scope : ℕ) (s s' : State) (out out' : Words) (old new : Cursor)
+    (r : Result (Unit {0}) Refused) → Type 0
+OperandRead room table role above scope s s' out out' old new r =
+    NodeRead ((readers room).operand (is_formula role) scope) table role above scope s s' out out' old new r
 
--- a byte begins no node that has others below it
-pub record LeafByte (formula : Bool) (b : ℕ) : Type 0 where
-  pub join : b ≡ parenthesis → ⊥
-  pub some : b ≡ interrogation → ⊥
-  pub quantifier : (eqb b exclamation && formula) ≡ false
+-- the first byte of a text begins no node that has others below it
+pub record LeafByte (formula : Bool) (text : Text) : Type 0 where
+  pub join : slice_get text 0 ≡ Some parenthesis → ⊥
+  pub some : slice_get text 0 ≡ Some interrogation → ⊥
+  pub quantifier : (b : ℕ) → slice_get text 0 ≡ Some b → (eqb b exclamation && formula) ≡ false
 
 -- question 7 of the operands of an all-of (true) or any-of
 abbrev pub ModesAll : (formula b : Bool) (ts : Trees) (table : Words) (scope : ℕ) (s r : State) → Type 0
@@ -107,13 +96,13 @@ pub record Further (table : Words) (b : Bool) (role : Role) (above scope : ℕ) 
   pub follows : Follows table b role above scope start first last out out' ts
 
 abbrev pub ChildrenRead :
-    (room : ℕ) (b : Bool) (table : Words) (role : Role) (above scope : ℕ) (start : Marks) (first : State) (out out' : Words)
-    (text : Text) (at : ℕ) (r : Many) → Type 0
-ChildrenRead room b table role above scope start first out out' text at r =
-    Valued
+    (room : ℕ) (b : Bool) (table : Words) (role : Role) (above scope : ℕ) (start : Marks) (first last : State) (out out' : Words)
+    (old new : Cursor) (r : Result ℕ Refused) → Type 0
+ChildrenRead room b table role above scope start first last out out' old new r =
+    Numbered
     (more (cond b ampersand bar) ((readers room).operand (is_formula role) scope))
-    (Further table b role above scope start first r.came.state out out' r.count)
-    text at r.came.end
+    (Further table b role above scope start first last out out')
+    old new r
 
 -- an all-of or any-of, and the closing parenthesis behind it; and also one operand that is none
 abbrev pub chained : (one : Reader Tree) → Reader Tree
@@ -123,7 +112,7 @@ abbrev pub closed : (one : Reader Tree) → Reader Tree
 closed one = R.◌>>=◌ (R.whole one) λ t. R.◌>>=◌ (token (bytes ")")) λ _. give t
 
 -- a restriction was read, behind its excluded tuples in the words
-pub record RestrictedTold (table : Words) (level x v : ℕ) (s : State) (out out' : Words) (count : ℕ) (last : State) (c : R.Restricted) : Type 0 where
+pub record RestrictedTold (table : Words) (level x v : ℕ) (s last : State) (out out' : Words) (count : ℕ) (c : R.Restricted) : Type 0 where
   pub number : length c.excluded ≡ count
   pub size : length (gather (λ tuple. tuple) c.excluded) ≡ v * count
   pub handed : State
@@ -136,10 +125,10 @@ pub record RestrictedTold (table : Words) (level x v : ℕ) (s : State) (out out
   pub told : Told table c.restriction restriction level (x + v) handed last between out'
 
 abbrev pub RestrictionRead :
-    (reader : Reader R.Restricted) (table : Words) (level x v : ℕ) (s : State) (out out' : Words) (text : Text) (at : ℕ) (r : Many) →
-    Type 0
-RestrictionRead reader table level x v s out out' text at r =
-    Valued reader (RestrictedTold table level x v s out out' r.count r.came.state) text at r.came.end
+    (reader : Reader R.Restricted) (table : Words) (level x v : ℕ) (s last : State) (out out' : Words) (old new : Cursor)
+    (r : Result ℕ Refused) → Type 0
+RestrictionRead reader table level x v s last out out' old new r =
+    Numbered reader (RestrictedTold table level x v s last out out') old new r
 
 -- behind the parenthesis of a restriction: an all-of or any-of, or a restriction and its excluded tuples
 abbrev pub exclusion : (room v x : ℕ) → Reader R.Restricted

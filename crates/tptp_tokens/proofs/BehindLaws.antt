@@ -1,43 +1,44 @@
 -- Laws for what is read behind something else.
-use Prim.Native.Nat.{ℕ, ◌≤◌}
-use native.Mathlib.Omega.{arith}
 use mathlib.Core.Path.{◌≡◌, ◌∙◌}
-use Rattle.model.specs.Bytes.{Text}
+use Rattle.std.specs.Prelude.{Result, Ok, Err}
+use Rattle.text.specs.declared.cursor.Cursor.{Cursor}
 use Rattle.model.specs.TptpReading.{Reader, give, ◌>>=◌}
-use Rattle.std.specs.Prelude.{Ok, Err}
-use Rattle.tptp_tokens.specs.Steps.{Step, from, Steps, Valued}
+use Rattle.model.specs.declared.Refused.{Refused}
+use Rattle.tptp_tokens.specs.Steps.{from, Moved, Steps, Valued}
+use Rattle.tptp_tokens.proofs.MovedLaws.{further}
 use Rattle.tptp_tokens.proofs.TokenLaws.{onward, halt}
 
--- what is read from a later index on by another reader
-pub valued_from :
-    {A : Type 0} (whole reader : Reader A) (facts : A → Type 0) (text : Text) (at j : ℕ) → from whole text at ≡ from reader text j → at ≤ j →
-    (r : Step) →
-    Valued reader facts text j r →
-    Valued whole facts text at r
-valued_from whole reader facts text at j e l (Ok next) v = record {
-  what = v.what;
-  reads = record { low = omega (arith, v.reads.low); high = v.reads.high; reads = e ∙ v.reads.reads };
-  holds = v.holds;
-}
-valued_from whole reader facts text at j e l (Err r) v = e ∙ v
+module _ (old mid new : Cursor) (m : Moved old mid) where
+  -- what is read from a later place on by another reader
+  pub valued_from :
+      {A : Type 0} (whole reader : Reader A) (facts : A → Type 0) → from whole old ≡ from reader mid →
+      (r : Result (Unit {0}) Refused) →
+      Valued reader facts mid new r →
+      Valued whole facts old new r
+  valued_from whole reader facts e (Ok u) v = record {
+    what = v.what;
+    reads = record { moved = further old mid new m v.reads.moved; reads = e ∙ v.reads.reads };
+    holds = v.holds;
+  }
+  valued_from whole reader facts e (Err r) v = e ∙ v
 
-pub steps_from :
-    (whole reader : Reader (Unit {0})) (text : Text) (at j : ℕ) → from whole text at ≡ from reader text j → at ≤ j → (r : Step) →
-    Steps reader text j r →
-    Steps whole text at r
-steps_from whole reader text at j e l (Ok next) s = record { low = omega (arith, s.low); high = s.high; reads = e ∙ s.reads }
-steps_from whole reader text at j e l (Err r) s = e ∙ s
+  pub steps_from :
+      (whole reader : Reader (Unit {0})) → from whole old ≡ from reader mid → (r : Result (Unit {0}) Refused) →
+      Steps reader mid new r →
+      Steps whole old new r
+  steps_from whole reader e (Ok u) s = record { moved = further old mid new m s.moved; reads = e ∙ s.reads }
+  steps_from whole reader e (Err r) s = e ∙ s
 
--- what was read is given when the last token was
-pub closed_from :
-    {A : Type 0} (whole : Reader A) (last : Reader (Unit {0})) (a : A) (facts : A → Type 0) (text : Text) (at j : ℕ) →
-    from whole text at ≡ from (last >>= λ _. give a) text j → at ≤ j → facts a → (r : Step) →
-    Steps last text j r →
-    Valued whole facts text at r
-unfolding give
-closed_from whole last a facts text at j e l h (Ok next) s = record {
-  what = a;
-  reads = record { low = omega (arith, s.low); high = s.high; reads = e ∙ onward last (λ _. give a) text j tt next s.reads };
-  holds = h;
-}
-closed_from whole last a facts text at j e l h (Err r) s = e ∙ halt last (λ _. give a) text j r.0 r.1 s
+  -- what was read is given when the last token was
+  pub closed_from :
+      {A : Type 0} (whole : Reader A) (last : Reader (Unit {0})) (a : A) (facts : A → Type 0) →
+      from whole old ≡ from (last >>= λ _. give a) mid → facts a → (r : Result (Unit {0}) Refused) →
+      Steps last mid new r →
+      Valued whole facts old new r
+  unfolding give
+  closed_from whole last a facts e h (Ok u) s = record {
+    what = a;
+    reads = record { moved = further old mid new m s.moved; reads = e ∙ onward last (λ _. give a) mid tt new s.reads };
+    holds = h;
+  }
+  closed_from whole last a facts e h (Err r) s = e ∙ halt last (λ _. give a) mid r.0 r.1 s

@@ -1,3 +1,4 @@
+pub mod MovedLaws
 pub mod TokenLaws
 pub mod ScanLaws
 pub mod NumberLaws

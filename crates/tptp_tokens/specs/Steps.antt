@@ -1,45 +1,45 @@
--- What a reading comes to, from one index of a text to another.
-use Rattle.std.specs.Prelude.{ℕ, ◌≤◌, ◌<◌, ◌≡◌, false, length, drop, get_or, Result, Ok, Err}
-use Rattle.model.specs.Bytes.{Text, blank}
+-- What a reading comes to, from one place of a text to another.
+use Rattle.std.specs.Prelude.{ℕ, ◌+◌, ◌-◌, ◌≤◌, ◌≡◌, false, length, drop, slice_get, Result, Ok, Err, Some}
+use Rattle.model.specs.Bytes.{blank}
 use Rattle.model.specs.Answer.{Outcome, passed, refused}
 use Rattle.model.specs.declared.Refused.{Refused}
 use Rattle.model.specs.TptpReading.{Got, Reader, blanks}
+use Rattle.text.specs.declared.cursor.Cursor.{Cursor}
 
--- the index behind what was read, or a refusal with its place
-abbrev pub Step : Type 0
-Step = Result ℕ Refused
+-- a reader, started at a place
+abbrev pub from : {A : Type 0} (reader : Reader A) (here : Cursor) → Outcome (Got A)
+from reader here = reader here.rest.now here.at
 
--- a reader, started at an index of a text
-abbrev pub from : {A : Type 0} (reader : Reader A) (text : Text) (at : ℕ) → Outcome (Got A)
-from reader text at = reader (drop at text) at
+-- something was read up to a place
+abbrev pub got : {A : Type 0} (a : A) (here : Cursor) → Outcome (Got A)
+got a here = passed (record { what = a; rest = here.rest.now; at = here.at })
 
--- something was read up to an index
-abbrev pub got : {A : Type 0} (text : Text) (a : A) (next : ℕ) → Outcome (Got A)
-got text a next = passed (record { what = a; rest = drop next text; at = next })
+-- a place, or one behind it in the same text
+pub record Moved (old new : Cursor) : Type 0 where
+  pub low : old.at ≤ new.at
+  pub whole : new.at + length new.rest.now ≡ old.at + length old.rest.now
+  pub rest : new.rest.now ≡ drop (new.at - old.at) old.rest.now
 
--- r is the first index from one on where no blank stands
-pub record Skips (text : Text) (at r : ℕ) : Type 0 where
-  pub low : at ≤ r
-  pub high : r ≤ length text
-  pub reads : from blanks text at ≡ got text tt r
-  pub stop : r < length text → blank (get_or text r 0) ≡ false
+-- a reader comes to a place
+pub record Reads {A : Type 0} (reader : Reader A) (old : Cursor) (a : A) (new : Cursor) : Type 0 where
+  pub moved : Moved old new
+  pub reads : from reader old ≡ got a new
 
--- a reader comes to an index
-pub record Reads {A : Type 0} (reader : Reader A) (text : Text) (at : ℕ) (a : A) (next : ℕ) : Type 0 where
-  pub low : at ≤ next
-  pub high : next ≤ length text
-  pub reads : from reader text at ≡ got text a next
+-- the first place from one on where no blank stands
+pub record Skips (old new : Cursor) : Type 0 where
+  pub reads : Reads blanks old tt new
+  pub stop : (b : ℕ) → slice_get new.rest.now 0 ≡ Some b → blank b ≡ false
 
-abbrev pub Steps : (reader : Reader (Unit {0})) (text : Text) (at : ℕ) (step : Step) → Type 0
-Steps reader text at (Ok next) = Reads reader text at tt next
-Steps reader text at (Err e) = from reader text at ≡ refused e.0 e.1
+abbrev pub Steps : (reader : Reader (Unit {0})) (old new : Cursor) (step : Result (Unit {0}) Refused) → Type 0
+Steps reader old new (Ok u) = Reads reader old tt new
+Steps reader old new (Err e) = from reader old ≡ refused e.0 e.1
 
 -- a reader comes to something of which facts hold, or to a refusal
-pub record Value {A : Type 0} (reader : Reader A) (facts : A → Type 0) (text : Text) (at next : ℕ) : Type 0 where
+pub record Value {A : Type 0} (reader : Reader A) (facts : A → Type 0) (old new : Cursor) : Type 0 where
   pub what : A
-  pub reads : Reads reader text at what next
+  pub reads : Reads reader old what new
   pub holds : facts what
 
-abbrev pub Valued : {A : Type 0} (reader : Reader A) (facts : A → Type 0) (text : Text) (at : ℕ) (step : Step) → Type 0
-Valued reader facts text at (Ok next) = Value reader facts text at next
-Valued reader facts text at (Err e) = from reader text at ≡ refused e.0 e.1
+abbrev pub Valued : {A : Type 0} (reader : Reader A) (facts : A → Type 0) (old new : Cursor) (step : Result (Unit {0}) Refused) → Type 0
+Valued reader facts old new (Ok u) = Value reader facts old new
+Valued reader facts old new (Err e) = from reader old ≡ refused e.0 e.1

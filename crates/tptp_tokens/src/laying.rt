@@ -1,13 +1,12 @@
 // Words laid to an index of a buffer, as far as it reaches, and the counting of words up to a limit.
 ghost use Rattle.std.specs.Prelude.{◌≡◌, Bool, ◌+◌, ◌*◌, ◌≤◌, ◌<◌, min, length, set, pos};
 ghost use Rattle.model.specs.TptpReading as R;
-ghost use Rattle.text.specs.Reading.{signed, Sized};
 ghost use Rattle.tptp_tokens.specs.Steps.{Valued};
 ghost use Rattle.tptp_tokens.specs.Laying as L;
 
 use crate::numbers::integer;
-use crate::tokens::Step;
-use text::word::put;
+use model::Refused;
+use text::cursor::Cursor;
 
 // Words are counted so far: beyond, a policy has too many.
 pub const MOST: usize = 2097152;
@@ -20,13 +19,12 @@ pub fn more_words(words: usize, n: usize) -> usize
     (words + n).min(MOST)
 }
 
-// A number of 32 bits becomes the word at an index, if the buffer has it.
-fn lay_signed(out: &mut [i32], w: usize, magnitude: usize, negative: bool)
-    requires { Sized negative magnitude }
-    ensures { out.new ≡ set out.old w (signed negative magnitude) }
+// A number becomes the word at an index, if the buffer has it.
+fn lay_word(out: &mut [i32], w: usize, n: i32)
+    ensures { out.new ≡ set out.old w n }
 {
     if w < out.len() {
-        put(out, w, magnitude, negative);
+        out[w] = n;
     }
 }
 
@@ -35,7 +33,7 @@ pub fn lay(out: &mut [i32], w: usize, n: usize)
     ensures { L.Laid w n out.old out.new × (2147483647 < n → out.new ≡ out.old) }
 {
     if n <= 2147483647 {
-        lay_signed(out, w, n, false);
+        lay_word(out, w, n as i32);
     }
 }
 
@@ -58,11 +56,9 @@ pub fn lay_three(out: &mut [i32], w: usize, tag: usize, v: usize, m: usize)
 }
 
 // A number, which becomes the word at an index.
-pub fn lay_integer(text: &[u8], at: usize, out: &mut [i32], w: usize) -> Step
-    requires { at ≤ length text.now }
-    ensures { Valued R.integer (L.Stored w out.old out.new) text.now at result }
+pub fn lay_integer(here: &mut Cursor<'_>, out: &mut [i32], w: usize) -> Result<(), Refused>
+    ensures { Valued R.integer (L.Stored w out.old out.new) here.old here.new result }
 {
-    let found = integer(text, at)?;
-    lay_signed(out, w, found.magnitude, found.negative);
-    Ok(found.next)
+    lay_word(out, w, integer(here)?);
+    Ok(())
 }

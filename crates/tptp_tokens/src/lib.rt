@@ -4,4 +4,5 @@
 pub mod laying;
 pub mod name;
 pub mod numbers;
+pub mod several;
 pub mod tokens;

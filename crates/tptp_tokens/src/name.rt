@@ -1,11 +1,12 @@
 // Names of formulas, as they stand in a text: lower words.
-ghost use Rattle.std.specs.Prelude.{◌≡◌, ◌≤◌, length};
-ghost use Rattle.model.specs.Bytes.{small, word_byte};
+ghost use Rattle.std.specs.Prelude.{◌≡◌};
+ghost use Rattle.model.specs.Bytes.{word_byte};
 ghost use Rattle.model.specs.TptpReading as R;
 ghost use Rattle.tptp_tokens.specs.Steps.{Reads, Steps};
 
-use crate::tokens::{Step, skip};
+use crate::tokens::skip;
 use model::{Refusal, Refused};
+use text::cursor::Cursor;
 
 // The byte is a letter, a digit or an underscore.
 fn is_word(b: u8) -> bool
@@ -14,22 +15,21 @@ fn is_word(b: u8) -> bool
     b.is_ascii_alphanumeric() | (b == b'_')
 }
 
-// The first index from one on where no letter, digit or underscore stands.
-fn word_end(text: &[u8], at: usize) -> usize
-    requires { at ≤ length text.now }
-    ensures { Reads R.word_bytes text.now at tt result }
+// Letters, digits and underscores, as many as there are.
+fn word_bytes(here: &mut Cursor<'_>)
+    ensures { Reads R.word_bytes here.old tt here.new }
 {
-    at + text[at..].iter().take_while(|b| is_word(**b)).count()
+    here.pass(here.rest.iter().take_while(|b| is_word(**b)).count());
 }
 
 // A name.
-pub fn name(text: &[u8], at: usize) -> Step
-    requires { at ≤ length text.now }
-    ensures { Steps R.name text.now at result }
+pub fn name(here: &mut Cursor<'_>) -> Result<(), Refused>
+    ensures { Steps R.name here.old here.new result }
 {
-    let i = skip(text, at);
-    if !text.get(i).is_some_and(u8::is_ascii_lowercase) {
-        return Err(Refused(Refusal::Tptp, i));
+    skip(here);
+    if !here.rest.first().is_some_and(u8::is_ascii_lowercase) {
+        return Err(Refused(Refusal::Tptp, here.at));
     }
-    Ok(word_end(text, i))
+    word_bytes(here);
+    Ok(())
 }

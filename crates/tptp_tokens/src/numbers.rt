@@ -1,101 +1,72 @@
 // Numbers, as they stand in a text.
-ghost use Rattle.std.specs.Prelude.{◌≡◌, ◌≤◌, ◌<◌, ◌^◌, length};
+ghost use Rattle.std.specs.Prelude.{◌≤◌, ◌<◌, ◌^◌};
 ghost use Rattle.tptp_tokens.specs.Numbers as N;
 
 use crate::tokens::skip;
 use model::{Refusal, Refused};
 use text::bytes;
-
-// A number that was read: the index behind its digits, and the number.
-#[derive(Clone, Copy)]
-pub struct Digits {
-    pub next: usize,
-    pub number: usize,
-}
-
-// A number with a sign that was read: the index behind it, whether it has a minus, and its magnitude.
-#[derive(Clone, Copy)]
-pub struct Signed {
-    pub next: usize,
-    pub negative: bool,
-    pub magnitude: usize,
-}
+use text::cursor::Cursor;
+use text::word::signed;
 
 // Further digits of a number, up to the most.
-fn more_digits(text: &[u8], at: usize, most: usize, first: usize) -> Result<Digits, Refused>
-    requires { (at ≤ length text.now) × (first ≤ most) × (most < 2 ^ 32) }
-    ensures { N.More most first text.now at result }
+fn more_digits(here: &mut Cursor<'_>, most: usize, first: usize) -> Result<usize, Refused>
+    requires { (first ≤ most) × (most < 2 ^ 32) }
+    ensures { N.More most first here.old here.new result }
 {
+    let text = here.rest;
     let mut n = first;
-    for i in at..text.len() {
+    for i in 0..text.len() {
         let b = text[i];
         if !bytes::digit(b) {
-            return Ok(Digits { next: i, number: n });
-        }
-        if n == 0 {
-            return Err(Refused(Refusal::Tptp, i));
+            here.pass(i);
+            return Ok(n);
         }
         let raised = 10 * n + (b - bytes::NOUGHT) as usize;
-        if most < raised {
-            return Err(Refused(Refusal::Tptp, i));
+        if (n == 0) | (most < raised) {
+            return Err(Refused(Refusal::Tptp, here.at + i));
         }
         n = raised;
     }
-    Ok(Digits {
-        next: text.len(),
-        number: n,
-    })
+    here.pass(text.len());
+    Ok(n)
 }
 
 // A number up to the most, of whose digits the first is at least this one.
-fn number(text: &[u8], at: usize, least: u8, most: usize) -> Result<Digits, Refused>
-    requires { (at ≤ length text.now) × (48 ≤ least) × (9 ≤ most) × (most < 2 ^ 32) }
-    ensures { N.Numbers least most text.now at result }
+fn number(here: &mut Cursor<'_>, least: u8, most: usize) -> Result<usize, Refused>
+    requires { (48 ≤ least) × (9 ≤ most) × (most < 2 ^ 32) }
+    ensures { N.Numbers least most here.old here.new result }
 {
-    match text.get(at) {
+    match here.rest.first() {
         Some(&b) if (least <= b) & (b <= b'9') => {
-            more_digits(text, at + 1, most, (b - bytes::NOUGHT) as usize)
+            here.pass(1);
+            more_digits(here, most, (b - bytes::NOUGHT) as usize)
         }
-        _ => Err(Refused(Refusal::Tptp, at)),
+        _ => Err(Refused(Refusal::Tptp, here.at)),
     }
 }
 
 // The number of a predicate or a variable.
-pub fn natural(text: &[u8], at: usize) -> Result<Digits, Refused>
-    requires { at ≤ length text.now }
-    ensures { N.Naturals text.now at result }
+pub fn natural(here: &mut Cursor<'_>) -> Result<usize, Refused>
+    ensures { N.Naturals here.old here.new result }
 {
-    number(text, at, b'0', 2147483647)
+    number(here, b'0', 2147483647)
 }
 
 // The digits behind a minus.
-fn magnitude(text: &[u8], at: usize) -> Result<Digits, Refused>
-    requires { at ≤ length text.now }
-    ensures { N.Magnitudes text.now at result }
+fn magnitude(here: &mut Cursor<'_>) -> Result<usize, Refused>
+    ensures { N.Magnitudes here.old here.new result }
 {
-    number(text, at, b'1', 2147483648)
-}
-
-// A number with this sign.
-pub fn with_sign(found: Result<Digits, Refused>, negative: bool) -> Result<Signed, Refused>
-    ensures { result ≡ N.with_sign found negative }
-{
-    let Digits { next, number } = found?;
-    Ok(Signed {
-        next,
-        negative,
-        magnitude: number,
-    })
+    number(here, b'1', 2147483648)
 }
 
 // A number, behind blanks.
-pub fn integer(text: &[u8], at: usize) -> Result<Signed, Refused>
-    requires { at ≤ length text.now }
-    ensures { N.Integers text.now at result }
+pub fn integer(here: &mut Cursor<'_>) -> Result<i32, Refused>
+    ensures { N.Integers here.old here.new result }
 {
-    let i = skip(text, at);
-    if text.get(i) == Some(&bytes::MINUS) {
-        return with_sign(magnitude(text, i + 1), true);
+    skip(here);
+    if here.rest.first() == Some(&bytes::MINUS) {
+        here.pass(1);
+        return Ok(signed(magnitude(here)?, true));
     }
-    with_sign(natural(text, i), false)
+    Ok(signed(natural(here)?, false))
 }

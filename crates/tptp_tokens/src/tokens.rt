@@ -1,14 +1,12 @@
-// Tokens of a text, with blanks before them.
-ghost use Rattle.std.specs.Prelude.{◌≡◌, [], ◌∷◌, ◌≤◌, length};
+// Tokens of a text, with blanks before them. Each reading passes what it reads.
+ghost use Rattle.std.specs.Prelude.{◌≡◌, [], ◌∷◌};
 ghost use Rattle.model.specs.Bytes.{blank};
 ghost use Rattle.model.specs.TptpReading as R;
 ghost use Rattle.tptp_tokens.specs.Steps.{Skips, Steps};
 
 use model::{Refusal, Refused};
 use text::bytes;
-
-// What comes of a token: the index behind it, or a refusal with its place.
-pub type Step = Result<usize, Refused>;
+use text::cursor::Cursor;
 
 // The byte may stand around tokens.
 fn is_blank(b: u8) -> bool
@@ -17,59 +15,57 @@ fn is_blank(b: u8) -> bool
     (b == 32) | (b == bytes::LF) | (b == bytes::CR)
 }
 
-// The first index from one on where no blank stands.
-pub fn skip(text: &[u8], at: usize) -> usize
-    requires { at ≤ length text.now }
-    ensures { Skips text.now at result }
+// Blanks, as many as there are.
+pub fn skip(here: &mut Cursor<'_>)
+    ensures { Skips here.old here.new }
 {
-    at + text[at..].iter().take_while(|b| is_blank(**b)).count()
+    here.pass(here.rest.iter().take_while(|b| is_blank(**b)).count());
 }
 
 // A token of one byte.
-pub fn expect(text: &[u8], at: usize, c: u8) -> Step
-    requires { at ≤ length text.now }
-    ensures { Steps (R.token (c ∷ [])) text.now at result }
+pub fn expect(here: &mut Cursor<'_>, c: u8) -> Result<(), Refused>
+    ensures { Steps (R.token (c ∷ [])) here.old here.new result }
 {
-    let i = skip(text, at);
-    if text.get(i) != Some(&c) {
-        return Err(Refused(Refusal::Tptp, i));
+    skip(here);
+    if here.rest.first() != Some(&c) {
+        return Err(Refused(Refusal::Tptp, here.at));
     }
-    Ok(i + 1)
+    here.pass(1);
+    Ok(())
 }
 
 // These bytes, right here.
-pub fn literal(text: &[u8], at: usize, word: &[u8]) -> Step
-    requires { at ≤ length text.now }
-    ensures { Steps (R.literal word.now) text.now at result }
+pub fn literal(here: &mut Cursor<'_>, word: &[u8]) -> Result<(), Refused>
+    ensures { Steps (R.literal word.now) here.old here.new result }
 {
     for i in 0..word.len() {
-        let next = at + i;
-        if text.get(next) != Some(&word[i]) {
-            return Err(Refused(Refusal::Tptp, next));
+        if here.rest.get(i) != Some(&word[i]) {
+            return Err(Refused(Refusal::Tptp, here.at + i));
         }
     }
-    Ok(at + word.len())
+    here.pass(word.len());
+    Ok(())
 }
 
 // A token of these bytes.
-pub fn token(text: &[u8], at: usize, word: &[u8]) -> Step
-    requires { at ≤ length text.now }
-    ensures { Steps (R.token word.now) text.now at result }
+pub fn token(here: &mut Cursor<'_>, word: &[u8]) -> Result<(), Refused>
+    ensures { Steps (R.token word.now) here.old here.new result }
 {
-    literal(text, skip(text, at), word)
+    skip(here);
+    literal(here, word)
 }
 
 // An opening parenthesis, with room for so many more.
-pub fn opening(text: &[u8], at: usize, room: usize) -> Step
-    requires { at ≤ length text.now }
-    ensures { Steps (R.opening room) text.now at result }
+pub fn opening(here: &mut Cursor<'_>, room: usize) -> Result<(), Refused>
+    ensures { Steps (R.opening room) here.old here.new result }
 {
-    let i = skip(text, at);
-    if text.get(i) != Some(&40) {
-        return Err(Refused(Refusal::Tptp, i));
+    skip(here);
+    if here.rest.first() != Some(&40) {
+        return Err(Refused(Refusal::Tptp, here.at));
     }
     if room == 0 {
-        return Err(Refused(Refusal::Level, i));
+        return Err(Refused(Refusal::Level, here.at));
     }
-    Ok(i + 1)
+    here.pass(1);
+    Ok(())
 }

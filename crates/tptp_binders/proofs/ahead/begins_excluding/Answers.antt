@@ -1,21 +1,19 @@
 -- `tptp_binders::ahead::begins_excluding` meets its contract.
-use native.Mathlib.Omega.{arith}
-use mathlib.Core.Path.{sym, ◌∙◌}
-use Rattle.tptp_binders.proofs.AheadLaws.{stands-within, excluding-other, excluding-here}
+use mathlib.Core.Path.{◌∙◌}
+use Rattle.model.specs.TptpReading.{begins_tuple}
+use Rattle.tptp_binders.proofs.AheadLaws.{ahead_then, ahead_else, excludes_as}
 use Rattle.tptp_binders.proofs.ahead.begins_excluding.Goals as goal
 
-pub begins_tuple-requires : goal.begins_tuple-requires
-begins_tuple-requires c =
-    let within = stands-within c.args.text.now c.skip-i.result 38 (sym c.stands.ensures ∙ c.if-stands.true) in
-    omega (arith, within)
-
-pub returns-then-stands : goal.returns-then-stands
-returns-then-stands c =
-    let a = c.args in
+pub returns-then-is_ok : goal.returns-then-is_ok
+returns-then-is_ok c =
+    let here = c.args.here.now in
     c.begins_tuple.ensures
-    ∙ excluding-here a.text.now a.at _ c.skip-i.ensures a.v _ c.stands.ensures c.if-stands.true
+    ∙ ahead_then 38 here (begins_tuple c.args.v) c.expect.new.here c.expect.result c.expect.ensures c.if-is_ok.ensures.value
+    ∙ excludes_as c.args.v here.rest.now
 
-pub returns-else-stands : goal.returns-else-stands
-returns-else-stands c =
-    let a = c.args in
-    excluding-other a.text.now a.at _ c.skip-i.ensures a.v _ c.stands.ensures c.if-stands.false
+pub returns-else-is_ok : goal.returns-else-is_ok
+returns-else-is_ok c =
+    let here = c.args.here.now in
+    ahead_else 38 here (begins_tuple c.args.v) c.is_ok.result c.expect.new.here c.expect.result c.expect.ensures c.is_ok.ensures.value
+    c.if-is_ok.false
+    ∙ excludes_as c.args.v here.rest.now

@@ -1,27 +1,21 @@
 -- `tptp_binders::ahead::begins_tuple` meets its contract.
-use native.Mathlib.Omega.{arith}
-use mathlib.Core.Path.{sym, ◌∙◌}
-use lib.ListN.{drop}
-use Rattle.tptp_binders.proofs.AheadLaws.{stands-within, tuple-one, tuple-other, tuple-here}
+use mathlib.Core.Path.{◌∙◌}
+use Rattle.tptp_binders.specs.Ahead.{begins}
+use Rattle.tptp_binders.proofs.AheadLaws.{ahead_then, ahead_else, tuple-one, tuple-many}
 use Rattle.tptp_binders.proofs.ahead.begins_tuple.Goals as goal
 
 pub returns-then-v-eq1 : goal.returns-then-v-eq1
-returns-then-v-eq1 c =
-    let a = c.args in
-    c.begins.ensures ∙ tuple-one (drop a.at a.text.now) a.v c.if-v-eq1.true
+returns-then-v-eq1 c = c.begins.ensures ∙ tuple-one c.args.v c.args.here.now.rest.now c.if-v-eq1.true
 
-pub begins-requires-then-stands : goal.begins-requires-then-stands
-begins-requires-then-stands c =
-    let within = stands-within c.args.text.now c.skip-i.result 40 (sym c.stands.ensures ∙ c.if-stands.true) in
-    omega (arith, within)
+pub returns-then-is_ok : goal.returns-then-is_ok
+returns-then-is_ok c =
+    let here = c.args.here.now in
+    c.begins-then-is_ok.ensures
+    ∙ ahead_then 40 here (begins 88) c.expect.new.here c.expect.result c.expect.ensures c.if-is_ok.ensures.value
+    ∙ tuple-many c.args.v here.rest.now c.if-v-eq1.false
 
-pub returns-then-stands : goal.returns-then-stands
-returns-then-stands c =
-    let a = c.args in
-    c.begins-then-stands.ensures
-    ∙ tuple-here a.text.now a.at _ c.skip-i.ensures a.v c.if-v-eq1.false _ c.stands.ensures c.if-stands.true
-
-pub returns-else-stands : goal.returns-else-stands
-returns-else-stands c =
-    let a = c.args in
-    tuple-other a.text.now a.at _ c.skip-i.ensures a.v c.if-v-eq1.false _ c.stands.ensures c.if-stands.false
+pub returns-else-is_ok : goal.returns-else-is_ok
+returns-else-is_ok c =
+    let here = c.args.here.now in
+    ahead_else 40 here (begins 88) c.is_ok.result c.expect.new.here c.expect.result c.expect.ensures c.is_ok.ensures.value c.if-is_ok.false
+    ∙ tuple-many c.args.v here.rest.now c.if-v-eq1.false

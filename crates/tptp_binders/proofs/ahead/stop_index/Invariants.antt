@@ -3,4 +3,4 @@ use Rattle.tptp_binders.proofs.AheadLaws.{Scans}
 use Rattle.tptp_binders.proofs.ahead.stop_index.Given as goal
 
 abbrev pub invariant-loop-i : goal.invariant-loop-i
-invariant-loop-i l = Scans l.text l.at l.i l.depth
+invariant-loop-i l = Scans l.rest l.i l.depth

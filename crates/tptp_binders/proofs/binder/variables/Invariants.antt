@@ -3,4 +3,4 @@ use Rattle.tptp_binders.proofs.BinderLaws.{Counting}
 use Rattle.tptp_binders.proofs.binder.variables.Given as goal
 
 abbrev pub invariant-loop-count : goal.invariant-loop-count
-invariant-loop-count l = Counting l.most l.x l.text l.at l.next l.count
+invariant-loop-count l = Counting l.most l.x l.fn.here l.here l.count

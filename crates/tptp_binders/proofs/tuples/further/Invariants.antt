@@ -3,4 +3,4 @@ use Rattle.tptp_binders.proofs.TupleLaws.{Furthering}
 use Rattle.tptp_binders.proofs.tuples.further.Given as goal
 
 abbrev pub invariant-loop-i : goal.invariant-loop-i
-invariant-loop-i l = Furthering l.n l.x l.w l.text l.at l.initial.out l.out l.next l.i
+invariant-loop-i l = Furthering l.n l.x l.w l.fn.here l.here l.fn.out l.out l.i

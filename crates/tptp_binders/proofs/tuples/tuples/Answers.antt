@@ -1,35 +1,52 @@
 -- `tptp_binders::tuples::tuples` meets its contract. The loop's invariant: so many tuples were read and laid.
 use native.Mathlib.Omega.{arith}
 use Rattle.laws.specs.Answer.{passed_on}
-use Rattle.tptp_binders.proofs.TuplesLaws.{tupling_none, tupling_over, tupling_stop, tupling_refused, tupling_more}
+use Rattle.tptp_binders.proofs.TuplesLaws.{tupling_none, tupling_refused, tupling_stop, tupling_stuck, tupling_more}
 use Rattle.tptp_binders.proofs.tuples.tuples.Goals as goal
 
-pub loop-at-init : goal.loop-at-init
-loop-at-init c =
-    let a = c.args in
-    tupling_none a.room a.v a.x a.w a.text.now a.at a.out.now c.requires.0 c.requires.4
+pub loop-here-init : goal.loop-here-init
+loop-here-init c =
+    let a = c.args in tupling_none a.room a.v a.x a.w a.here.now a.out.now c.requires.0 c.requires.4
 
-pub returns-then-text-i : goal.returns-then-text-i
-returns-then-text-i c =
-    let a = c.args in
-    tupling_over a.room a.v a.x a.w a.text.now a.at a.out.now c.loop-at.invariant _ c.skip-i.ensures c.if-text-i.true
-
-pub returns-then-text-i-ne38 : goal.returns-then-text-i-ne38
-returns-then-text-i-ne38 c =
-    let a = c.args in
-    tupling_stop a.room a.v a.x a.w a.text.now a.at a.out.now c.loop-at.invariant _ c.skip-i.ensures
-    (omega (arith, c.if-text-i.false)) c.if-text-i-ne38.true
-
-pub returns-in_err-next : goal.returns-in_err-next
-returns-in_err-next c =
+pub returns-in_err-another : goal.returns-in_err-another
+returns-in_err-another c =
     let a = c.args in
     rw (passed_on _ c.from_residual.ensures.1)
-    (tupling_refused a.room a.v a.x a.w a.text.now a.at a.out.now c.loop-at.invariant _
-    c.skip-i.ensures (omega (arith, c.if-text-i.false)) c.if-text-i-ne38.false _ _ c.in_err-next.ensures)
+    (tupling_refused a.room a.v a.x a.w a.here.now a.out.now c.loop-here.invariant _ _ c.in_err-another.ensures)
 
-pub loop-at-preserved : goal.loop-at-preserved
-loop-at-preserved c =
+pub tuple-requires : goal.tuple-requires
+tuple-requires c = (c.requires.1, c.requires.3, omega (arith, c.loop-here.invariant.reached, c.requires.2))
+
+pub returns-in_err-tuple : goal.returns-in_err-tuple
+returns-in_err-tuple c =
     let a = c.args in
-    tupling_more a.room a.v a.x a.w a.text.now a.at a.out.now c.loop-at.invariant _ c.skip-i.ensures
-    (omega (arith, c.if-text-i.false)) c.if-text-i-ne38.false c.tuple.new.out _ _ c.requires.1 c.in_ok-next.ensures
-    c.tuple.auto.out c.more_words-to.ensures
+    rw (passed_on _ c.from_residual-in_err-tuple.ensures.1)
+    (tupling_stuck a.room a.v a.x a.w a.here.now a.out.now c.loop-here.invariant _ c.if-branch.true c.another.new.here
+    c.in_ok-another.ensures.0 _ _ c.in_err-tuple.ensures)
+
+pub overflow_add-count : goal.overflow_add-count
+overflow_add-count c =
+    let passed = c.in_ok-another.ensures.1 c.if-branch.true in
+    omega (arith, c.loop-here.invariant.few, c.args.here.now.counted, passed, c.in_ok-another.ensures.0.moved.whole)
+
+pub more_words-to-requires : goal.more_words-to-requires
+more_words-to-requires c = (omega (arith, c.loop-here.invariant.reached), omega (arith, c.requires.2))
+
+pub loop-here-smaller : goal.loop-here-smaller
+loop-here-smaller c =
+    let passed = c.in_ok-another.ensures.1 c.if-branch.true in
+    let m = c.in_ok-tuple.ensures.reads.moved in
+    omega (arith, passed, c.in_ok-another.ensures.0.moved.whole, m.low, m.whole)
+
+pub loop-here-preserved : goal.loop-here-preserved
+loop-here-preserved c =
+    let a = c.args in
+    tupling_more a.room a.v a.x a.w a.here.now a.out.now c.loop-here.invariant _ c.if-branch.true c.another.new.here
+    c.in_ok-another.ensures.0 (c.in_ok-another.ensures.1 c.if-branch.true) c.tuple.new.out c.tuple.new.here _ c.requires.1
+    c.in_ok-tuple.ensures c.tuple.auto.out c.more_words-to.ensures
+
+pub returns : goal.returns
+returns c =
+    let a = c.args in
+    tupling_stop a.room a.v a.x a.w a.here.now a.out.now c.loop-here.invariant _ c.if-branch.false c.another.new.here
+    c.in_ok-another.ensures.0

@@ -1,152 +1,145 @@
 -- `tptp_leaves::leaves::compare` meets its contract.
-use Prim.Native.Nat.{ℕ}
-use native.Mathlib.Omega.{arith}
-use mathlib.Core.Path.{sym, ap, ◌∙◌}
+use mathlib.Core.Path.{◌≡◌, sym}
 use mathlib.Core.List.{[], ◌∷◌}
-use lib.ListN.{set}
-use lib.IntN.{pos}
+use Rattle.std.proofs.Common.{rules, to_z, of_z, w32}
 use Rattle.model.specs.Bytes.{bytes}
 use Rattle.model.specs.Tree.{compare}
 use Rattle.model.specs.TptpReading.{read_compare, token, onwards, ◌>>=◌}
 use Rattle.laws.specs.Answer.{passed_on}
-use Rattle.tptp_leaves.specs.Leaves.{LeafStands}
+use Rattle.tptp_leaves.specs.Leaves.{LeafPut}
+use Rattle.tptp_tokens.proofs.MovedLaws.{further}
 use Rattle.tptp_tokens.proofs.BehindLaws.{closed_from}
 use Rattle.tptp_leaves.proofs.LeafLaws.{compare-stands}
 use Rattle.tptp_leaves.proofs.leaves.compare.Goals as goal
 
-pub returns-in_err-open : goal.returns-in_err-open
+pub returns-in_err-opening : goal.returns-in_err-opening
 unfolding read_compare bytes ◌>>=◌ onwards
-returns-in_err-open c =
+returns-in_err-opening c =
     rw (passed_on _ c.from_residual.ensures.1)
-    (rw c.in_err-open.ensures)
+    (rw c.in_err-opening.ensures)
 
-pub returns-in_err-name : goal.returns-in_err-name
+pub returns-in_err-token : goal.returns-in_err-token
 unfolding read_compare bytes ◌>>=◌ onwards
-returns-in_err-name c =
-    rw (passed_on _ c.from_residual-in_err-name.ensures.1)
-    (rw (c.in_ok-open.ensures.reads, c.in_err-name.ensures))
+returns-in_err-token c =
+    rw (passed_on _ c.from_residual-in_err-token.ensures.1)
+    (rw (c.in_ok-opening.ensures.reads, c.in_err-token.ensures))
 
-pub returns-in_err-inner : goal.returns-in_err-inner
+pub returns-in_err-opening-2 : goal.returns-in_err-opening-2
 unfolding read_compare bytes ◌>>=◌ onwards
-returns-in_err-inner c =
-    rw (passed_on _ c.from_residual-in_err-inner.ensures.1)
-    (rw (sym c.saturating_sub.ensures, c.in_ok-open.ensures.reads, c.in_ok-name.ensures.reads, c.in_err-inner.ensures))
+returns-in_err-opening-2 c =
+    rw (passed_on _ c.from_residual-in_err-opening-2.ensures.1)
+    (rw (sym c.saturating_sub.ensures, c.in_ok-opening.ensures.reads, c.in_ok-token.ensures.reads, c.in_err-opening-2.ensures))
 
-pub returns-in_err-first : goal.returns-in_err-first
+pub returns-in_err-term : goal.returns-in_err-term
 unfolding read_compare bytes ◌>>=◌ onwards
-returns-in_err-first c =
-    rw (passed_on _ c.from_residual-in_err-first.ensures.1)
-    (rw (sym c.saturating_sub.ensures, c.in_ok-open.ensures.reads, c.in_ok-name.ensures.reads, c.in_ok-inner.ensures.reads, c.in_err-first.ensures))
-
-pub returns-in_err-comma : goal.returns-in_err-comma
-unfolding read_compare bytes ◌>>=◌ onwards
-returns-in_err-comma c =
-    rw (passed_on _ c.from_residual-in_err-comma.ensures.1)
+returns-in_err-term c =
+    rw (passed_on _ c.from_residual-in_err-term.ensures.1)
     (rw (
       sym c.saturating_sub.ensures,
-      c.in_ok-open.ensures.reads,
-      c.in_ok-name.ensures.reads,
-      c.in_ok-inner.ensures.reads,
-      c.in_ok-first.ensures.reads.reads,
-      c.in_err-comma.ensures,
+      c.in_ok-opening.ensures.reads,
+      c.in_ok-token.ensures.reads,
+      c.in_ok-opening-2.ensures.reads,
+      c.in_err-term.ensures,
     ))
 
-pub returns-in_err-number : goal.returns-in_err-number
+pub returns-in_err-expect : goal.returns-in_err-expect
 unfolding read_compare bytes ◌>>=◌ onwards
-returns-in_err-number c =
-    rw (passed_on _ c.from_residual-in_err-number.ensures.1)
+returns-in_err-expect c =
+    rw (passed_on _ c.from_residual-in_err-expect.ensures.1)
     (rw (
       sym c.saturating_sub.ensures,
-      c.in_ok-open.ensures.reads,
-      c.in_ok-name.ensures.reads,
-      c.in_ok-inner.ensures.reads,
-      c.in_ok-first.ensures.reads.reads,
-      c.in_ok-comma.ensures.reads,
-      c.in_err-number.ensures,
+      c.in_ok-opening.ensures.reads,
+      c.in_ok-token.ensures.reads,
+      c.in_ok-opening-2.ensures.reads,
+      c.in_ok-term.ensures.reads.reads,
+      c.in_err-expect.ensures,
     ))
 
-pub returns-in_err-close : goal.returns-in_err-close
+pub returns-in_err-integer : goal.returns-in_err-integer
 unfolding read_compare bytes ◌>>=◌ onwards
-returns-in_err-close c =
-    rw (passed_on _ c.from_residual-in_err-close.ensures.1)
+returns-in_err-integer c =
+    rw (passed_on _ c.from_residual-in_err-integer.ensures.1)
     (rw (
       sym c.saturating_sub.ensures,
-      c.in_ok-open.ensures.reads,
-      c.in_ok-name.ensures.reads,
-      c.in_ok-inner.ensures.reads,
-      c.in_ok-first.ensures.reads.reads,
-      c.in_ok-comma.ensures.reads,
-      c.in_ok-number.ensures.reads.reads,
-      c.in_err-close.ensures,
+      c.in_ok-opening.ensures.reads,
+      c.in_ok-token.ensures.reads,
+      c.in_ok-opening-2.ensures.reads,
+      c.in_ok-term.ensures.reads.reads,
+      c.in_ok-expect.ensures.reads,
+      c.in_err-integer.ensures,
     ))
 
-pub returns-in_err-second : goal.returns-in_err-second
+pub returns-in_err-expect-2 : goal.returns-in_err-expect-2
 unfolding read_compare bytes ◌>>=◌ onwards
-returns-in_err-second c =
-    rw (passed_on _ c.from_residual-in_err-second.ensures.1)
+returns-in_err-expect-2 c =
+    rw (passed_on _ c.from_residual-in_err-expect-2.ensures.1)
     (rw (
       sym c.saturating_sub.ensures,
-      c.in_ok-open.ensures.reads,
-      c.in_ok-name.ensures.reads,
-      c.in_ok-inner.ensures.reads,
-      c.in_ok-first.ensures.reads.reads,
-      c.in_ok-comma.ensures.reads,
-      c.in_ok-number.ensures.reads.reads,
-      c.in_ok-close.ensures.reads,
-      c.in_err-second.ensures,
+      c.in_ok-opening.ensures.reads,
+      c.in_ok-token.ensures.reads,
+      c.in_ok-opening-2.ensures.reads,
+      c.in_ok-term.ensures.reads.reads,
+      c.in_ok-expect.ensures.reads,
+      c.in_ok-integer.ensures.0.reads,
+      c.in_err-expect-2.ensures,
     ))
 
-pub returns-in_err-last : goal.returns-in_err-last
+pub returns-in_err-expect-3 : goal.returns-in_err-expect-3
 unfolding read_compare bytes ◌>>=◌ onwards
-returns-in_err-last c =
-    rw (passed_on _ c.from_residual-in_err-last.ensures.1)
+returns-in_err-expect-3 c =
+    rw (passed_on _ c.from_residual-in_err-expect-3.ensures.1)
     (rw (
       sym c.saturating_sub.ensures,
-      c.in_ok-open.ensures.reads,
-      c.in_ok-name.ensures.reads,
-      c.in_ok-inner.ensures.reads,
-      c.in_ok-first.ensures.reads.reads,
-      c.in_ok-comma.ensures.reads,
-      c.in_ok-number.ensures.reads.reads,
-      c.in_ok-close.ensures.reads,
-      c.in_ok-second.ensures.reads,
-      c.in_err-last.ensures,
+      c.in_ok-opening.ensures.reads,
+      c.in_ok-token.ensures.reads,
+      c.in_ok-opening-2.ensures.reads,
+      c.in_ok-term.ensures.reads.reads,
+      c.in_ok-expect.ensures.reads,
+      c.in_ok-integer.ensures.0.reads,
+      c.in_ok-expect-2.ensures.reads,
+      c.in_err-expect-3.ensures,
+    ))
+
+pub returns-in_err-term-2 : goal.returns-in_err-term-2
+unfolding read_compare bytes ◌>>=◌ onwards
+returns-in_err-term-2 c =
+    rw (passed_on _ c.from_residual-in_err-term-2.ensures.1)
+    (rw (
+      sym c.saturating_sub.ensures,
+      c.in_ok-opening.ensures.reads,
+      c.in_ok-token.ensures.reads,
+      c.in_ok-opening-2.ensures.reads,
+      c.in_ok-term.ensures.reads.reads,
+      c.in_ok-expect.ensures.reads,
+      c.in_ok-integer.ensures.0.reads,
+      c.in_ok-expect-2.ensures.reads,
+      c.in_ok-expect-3.ensures.reads,
+      c.in_err-term-2.ensures,
     ))
 
 pub returns : goal.returns
 unfolding read_compare bytes ◌>>=◌ onwards
 returns c =
     let a = c.args in
-    let x = c.in_ok-first.ensures in
-    let d = c.in_ok-number.ensures in
-    let y = c.in_ok-last.ensures in
-    let tag = c.put.ensures ∙ ap (λ (n : ℕ). set a.own.now 0 (pos n)) c.either.ensures in
-    closed_from (read_compare a.room a.holds) (token (41 ∷ [])) (compare a.holds d.what x.what y.what) (LeafStands c.term-2.new.own)
-    a.text.now a.at _
+    let x = c.in_ok-term.ensures in
+    let d = c.in_ok-integer.field-0 in
+    let y = c.in_ok-term-2.ensures in
+    let back : to_z w32 (of_z w32 d) ≡ d = search rules in
+    closed_from a.here.now c.term-2.new.here c.expect-4.new.here
+    (further _ _ _ c.in_ok-opening.ensures.moved (further _ _ _ c.in_ok-token.ensures.moved (further _ _ _ c.in_ok-opening-2.ensures.moved (further _ _ _ x.reads.moved (further _ _ _ c.in_ok-expect.ensures.moved (further _ _ _ c.in_ok-integer.ensures.0.moved (further _ _ _ c.in_ok-expect-2.ensures.moved (further _ _ _ c.in_ok-expect-3.ensures.moved y.reads.moved))))))))
+    (read_compare a.room a.holds) (token (41 ∷ [])) (compare a.holds d x.what y.what) (LeafPut a.own.now c.put_term-2.new.self)
     (rw (
       sym c.saturating_sub.ensures,
-      c.in_ok-open.ensures.reads,
-      c.in_ok-name.ensures.reads,
-      c.in_ok-inner.ensures.reads,
-      x.reads.reads,
-      c.in_ok-comma.ensures.reads,
-      d.reads.reads,
-      c.in_ok-close.ensures.reads,
-      c.in_ok-second.ensures.reads,
-      y.reads.reads,
+      c.in_ok-opening.ensures.reads,
+      c.in_ok-token.ensures.reads,
+      c.in_ok-opening-2.ensures.reads,
+      c.in_ok-term.ensures.reads.reads,
+      c.in_ok-expect.ensures.reads,
+      c.in_ok-integer.ensures.0.reads,
+      c.in_ok-expect-2.ensures.reads,
+      c.in_ok-expect-3.ensures.reads,
+      c.in_ok-term-2.ensures.reads.reads,
     ))
-    (omega (
-      arith,
-      c.in_ok-open.ensures.low,
-      c.in_ok-name.ensures.low,
-      c.in_ok-inner.ensures.low,
-      x.reads.low,
-      c.in_ok-comma.ensures.low,
-      d.reads.low,
-      c.in_ok-close.ensures.low,
-      c.in_ok-second.ensures.low,
-      y.reads.low,
-    ))
-    (compare-stands a.holds a.own.now c.put.new.row c.term.new.own c.lay_integer.new.out c.term-2.new.own c.requires.1 tag
-    d.what x.what y.what x.holds d.holds y.holds)
+    (compare-stands a.holds a.own.now c.put.new.self c.put_term.new.self c.put_number.new.self c.put_term-2.new.self _ c.either.ensures
+    c.put.ensures d _ back x.what y.what _ _ x.holds c.put_term.ensures c.put_number.ensures y.holds c.put_term-2.ensures)
     c.expect-4.result c.expect-4.ensures

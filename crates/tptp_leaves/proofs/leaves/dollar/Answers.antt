@@ -1,40 +1,49 @@
 -- `tptp_leaves::leaves::dollar` meets its contract.
-use mathlib.Core.Path.{◌∙◌}
+use mathlib.Core.Path.{◌≡◌, ◌∙◌}
 use mathlib.Core.Bool.{true}
 use borrow.Author.Rules.{rules}
 use Rattle.model.specs.Bytes.{bytes}
-use Rattle.model.specs.TptpReading.{literal, read_compare}
+use Rattle.model.specs.TptpReading.{literal, read_compare, onwards, ◌>>=◌}
 use Rattle.laws.specs.Answer.{passed_on}
-use Rattle.tptp_leaves.specs.Leaves.{LeafStands, behind_dollar}
-use Rattle.tptp_tokens.proofs.TokenLaws.{onward, halt}
+use Rattle.tptp_tokens.specs.Steps.{from}
+use Rattle.tptp_leaves.specs.Leaves.{LeafPut, behind_dollar}
 use Rattle.tptp_tokens.proofs.BehindLaws.{valued_from}
 use Rattle.tptp_leaves.proofs.LeafLaws.{dollar-true, dollar-false, dollar-compare}
 use Rattle.tptp_leaves.proofs.leaves.dollar.Goals as goal
+use Rattle.tptp_leaves.proofs.leaves.dollar.Goals.{in_default-via-in-Some+in_default, in_default-via-in_default}
 
-pub returns-then-eq : goal.returns-then-eq
-unfolding bytes
-returns-then-eq c =
-    let a = c.args in
-    dollar-true a.text.now a.at a.room (search rules) (search rules) _ c.plain.result c.plain.ensures
+pub returns-in_err-literal-in_default : goal.returns-in_err-literal-in_default
+unfolding bytes ◌>>=◌ onwards
+returns-in_err-literal-in_default c =
+    let here = c.args.here.now in
+    let room = c.args.room in
+    let less : from (behind_dollar room) here ≡ from (literal (bytes "lesseq") >>= λ _. read_compare room true) here =
+    elim c.in_default.branch [
+      | in_default-via-in-Some+in_default w ↦ dollar-compare here room (search rules) (search rules)
+      | in_default-via-in_default w ↦ dollar-compare here room (search rules) (search rules)
+    ] in
+    rw (passed_on _ c.from_residual.ensures.1) (less ∙ rw c.in_err-literal-in_default.ensures)
 
-pub returns-then-eq-2 : goal.returns-then-eq-2
+pub returns-in-Some-eq116 : goal.returns-in-Some-eq116
 unfolding bytes
-returns-then-eq-2 c =
-    let a = c.args in
-    dollar-false a.text.now a.at a.room (search rules) (search rules) _ c.plain-then-eq-2.result c.plain-then-eq-2.ensures
+returns-in-Some-eq116 c = dollar-true c.args.here.now c.args.room _ c.plain.new.here c.plain.result (search rules) c.plain.ensures
 
-pub returns-in_err-name : goal.returns-in_err-name
+pub returns-in-Some-eq102 : goal.returns-in-Some-eq102
 unfolding bytes
-returns-in_err-name c =
-    let a = c.args in
-    let third = dollar-compare a.text.now a.at a.room (search rules) (search rules) in
-    rw (passed_on _ c.from_residual.ensures.1) (third ∙ halt (literal (bytes "lesseq")) _ a.text.now a.at _ _ c.in_err-name.ensures)
+returns-in-Some-eq102 c =
+    dollar-false c.args.here.now c.args.room _ c.plain-in-Some-eq102.new.here c.plain-in-Some-eq102.result (search rules)
+    c.plain-in-Some-eq102.ensures
 
-pub returns : goal.returns
-unfolding bytes
-returns c =
-    let a = c.args in
-    let third = dollar-compare a.text.now a.at a.room (search rules) (search rules) in
-    let name = c.in_ok-name.ensures in
-    valued_from (behind_dollar a.room) (read_compare a.room true) (LeafStands c.compare.new.own) a.text.now a.at _
-    (third ∙ onward (literal (bytes "lesseq")) _ a.text.now a.at tt _ name.reads) name.low c.compare.result c.compare.ensures
+pub returns-in_ok-literal-in_default : goal.returns-in_ok-literal-in_default
+unfolding bytes ◌>>=◌ onwards
+returns-in_ok-literal-in_default c =
+    let here = c.args.here.now in
+    let room = c.args.room in
+    let name = c.in_ok-literal-in_default.ensures in
+    let less : from (behind_dollar room) here ≡ from (literal (bytes "lesseq") >>= λ _. read_compare room true) here =
+    elim c.in_default.branch [
+      | in_default-via-in-Some+in_default w ↦ dollar-compare here room (search rules) (search rules)
+      | in_default-via-in_default w ↦ dollar-compare here room (search rules) (search rules)
+    ] in
+    valued_from here c.literal.new.here c.compare.new.here name.moved (behind_dollar room) (read_compare room true)
+    (LeafPut c.args.own.now c.compare.new.own) (less ∙ rw name.reads) c.compare.result c.compare.ensures

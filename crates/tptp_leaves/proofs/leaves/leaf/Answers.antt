@@ -1,24 +1,29 @@
 -- `tptp_leaves::leaves::leaf` meets its contract.
-use Rattle.tptp_leaves.proofs.LeafLaws.{leaf-dollar, leaf-atom, leaf_negated, leaf-none}
+use borrow.Author.Rules.{rules}
+use Rattle.tptp_leaves.proofs.LeafLaws.{leaf-dollar, leaf-atom, leaf-negated, leaf-none}
 use Rattle.tptp_leaves.proofs.leaves.leaf.Goals as goal
+use Rattle.tptp_leaves.proofs.leaves.leaf.Goals.{in_default-via-in-Some+in_default, in_default-via-in_default}
 
-pub returns-then-b-eq36 : goal.returns-then-b-eq36
-returns-then-b-eq36 c =
-    let a = c.args in
-    leaf-dollar a.text.now a.at a.room c.requires.0 c.requires.1 _ c.dollar.result c.if-b-eq36.true c.dollar.ensures
+pub returns-in-Some-eq36 : goal.returns-in-Some-eq36
+returns-in-Some-eq36 c =
+    leaf-dollar c.args.here.now c.args.room c.requires _ c.dollar.new.here c.dollar.result
+    c.pass.new.self c.pass.ensures.rest c.pass.ensures.at (search rules) c.dollar.ensures
 
-pub returns-then-b-eq112 : goal.returns-then-b-eq112
-returns-then-b-eq112 c =
-    let a = c.args in
-    leaf-atom a.text.now a.at a.room c.requires.0 c.requires.1 _ c.atom.result c.if-b-eq36.false c.if-b-eq112.true c.atom.ensures
+pub returns-in-Some-eq112 : goal.returns-in-Some-eq112
+returns-in-Some-eq112 c =
+    leaf-atom c.args.here.now c.args.room c.requires _ c.atom.new.here c.atom.result (search rules) c.atom.ensures
 
-pub returns-then-b-eq126 : goal.returns-then-b-eq126
-returns-then-b-eq126 c =
-    let a = c.args in
-    leaf_negated a.text.now a.at a.room c.requires.0 c.requires.1 _ c.negated.result c.if-b-eq36.false
-    c.if-b-eq112.false c.if-b-eq126.true c.negated.ensures
+pub returns-in-Some-eq126 : goal.returns-in-Some-eq126
+returns-in-Some-eq126 c =
+    let p = c.pass-in-Some-eq126 in
+    leaf-negated c.args.here.now c.args.room c.requires _ c.negated.new.here c.negated.result
+    p.new.self p.ensures.rest p.ensures.at (search rules) c.negated.ensures
 
-pub returns : goal.returns
-returns c =
-    let a = c.args in
-    leaf-none a.text.now a.at a.room c.requires.0 c.requires.1 c.if-b-eq36.false c.if-b-eq112.false c.if-b-eq126.false
+pub returns-in_default : goal.returns-in_default
+returns-in_default c =
+    elim c.in_default.branch [
+      | in_default-via-in-Some+in_default w ↦
+          leaf-none c.args.here.now c.args.room c.requires (search rules) (search rules) (search rules)
+      | in_default-via-in_default w ↦
+          leaf-none c.args.here.now c.args.room c.requires (search rules) (search rules) (search rules)
+    ]

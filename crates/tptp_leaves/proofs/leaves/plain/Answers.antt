@@ -1,12 +1,9 @@
 -- `tptp_leaves::leaves::plain` meets its contract.
-use Prim.Native.Nat.{ℕ}
-use native.Mathlib.Omega.{arith}
-use mathlib.Core.Path.{refl, ap, ◌∙◌}
-use lib.ListN.{set}
-use lib.IntN.{pos}
+use mathlib.Core.Path.{refl}
 use Rattle.model.specs.Tree.{plain}
 use Rattle.model.specs.TptpReading.{literal}
-use Rattle.tptp_leaves.specs.Leaves.{LeafStands, read_plain}
+use Rattle.tptp_leaves.specs.Leaves.{LeafPut, read_plain}
+use Rattle.tptp_tokens.proofs.MovedLaws.{still}
 use Rattle.tptp_tokens.proofs.BehindLaws.{closed_from}
 use Rattle.tptp_leaves.proofs.LeafLaws.{plain-stands}
 use Rattle.tptp_leaves.proofs.leaves.plain.Goals as goal
@@ -14,6 +11,7 @@ use Rattle.tptp_leaves.proofs.leaves.plain.Goals as goal
 pub returns : goal.returns
 returns c =
     let a = c.args in
-    let tag = c.put.ensures ∙ ap (λ (n : ℕ). set a.own.now 0 (pos n)) c.either.ensures in
-    closed_from (read_plain a.word.now a.value) (literal a.word.now) (plain a.value) (LeafStands c.put.new.row) a.text.now a.at a.at refl
-    (omega arith) (plain-stands a.value a.own.now c.put.new.row c.requires.2 tag) c.literal.result c.literal.ensures
+    let here = a.here.now in
+    closed_from here here c.literal.new.here (still here) (read_plain a.word.now a.value) (literal a.word.now) (plain a.value)
+    (LeafPut a.own.now c.put.new.self) refl (plain-stands a.value a.own.now c.put.new.self c.either.result c.either.ensures c.put.ensures)
+    c.literal.result c.literal.ensures

@@ -5,11 +5,8 @@ use Rattle.tptp_leaves.proofs.terms.term.Goals as goal
 
 pub returns-then-eq : goal.returns-then-eq
 returns-then-eq c =
-    let a = c.args in
-    term-variable a.text.now a.at a.k a.own.now c.skip-i.result c.skip-i.ensures
-    _ (search rules) (search rules) c.variable.result c.variable.ensures
+    term-variable c.args.here.now c.skip.new.here c.skip.ensures c.variable.new.here c.variable.result (search rules)
+    c.pass.new.self c.pass.ensures.rest c.pass.ensures.at c.variable.ensures
 
 pub returns : goal.returns
-returns c =
-    let a = c.args in
-    term-constant a.text.now a.at a.k a.own.now c.skip-i.result c.skip-i.ensures _ (search rules) c.constant.result c.constant.ensures
+returns c = term-constant c.args.here.now c.skip.new.here c.skip.ensures c.constant.new.here c.constant.result (search rules) c.constant.ensures

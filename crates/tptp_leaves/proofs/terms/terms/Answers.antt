@@ -1,59 +1,36 @@
 -- `tptp_leaves::terms::terms` meets its contract. The loop's invariant: so many terms were read and stand with their number.
 use native.Mathlib.Omega.{arith}
-use Prim.Native.Nat.{◌+◌}
-use mathlib.Core.Path.{sym, subst}
-use lib.ListN.{set}
-use lib.IntN.{pos}
-use Rattle.model.specs.Words.{Words}
-use Rattle.model.specs.TptpReading.{term, terms}
+use Rattle.model.specs.TptpReading.{terms, onwards, ◌>>=◌}
 use Rattle.laws.specs.Answer.{passed_on}
-use Rattle.tptp_tokens.proofs.TokenLaws.{halt}
-use Rattle.tptp_leaves.proofs.TermLaws.{Listing, listing_first, terms-front, listing_end, listing_over, listing_stop, listing_refused}
-use Rattle.tptp_leaves.proofs.TermLaws.{listing_more}
+use Rattle.tptp_leaves.proofs.TermLaws.{listing_first, listing_refused, listing_stop, listing_none, listing_more, listing_all}
 use Rattle.tptp_leaves.proofs.terms.terms.Goals as goal
 
-pub returns-in_err-first : goal.returns-in_err-first
-unfolding terms
-returns-in_err-first c =
-    let a = c.args in
-    rw (passed_on _ c.from_residual.ensures.1) (halt term _ a.text.now a.at _ _ c.in_err-first.ensures)
+pub returns-in_err-term : goal.returns-in_err-term
+unfolding terms ◌>>=◌ onwards
+returns-in_err-term c = rw (passed_on _ c.from_residual.ensures.1) (rw c.in_err-term.ensures)
 
 pub loop-n-init : goal.loop-n-init
-loop-n-init c =
-    let a = c.args in
-    listing_first a.text.now a.at a.own.now c.term.new.own _ c.in_ok-first.ensures c.requires.1 c.term.auto.own
+loop-n-init c = listing_first _ _ c.put_term.new.self _ _ _ c.in_ok-term.ensures c.put_term.ensures c.put.ensures
 
-pub returns-then-text-i : goal.returns-then-text-i
-returns-then-text-i c =
-    let a = c.args in
-    listing_over a.text.now a.at _ c.loop-n.invariant c.loop-n-test.true _ c.skip-i.ensures c.if-text-i.true
+pub returns-in_err-another : goal.returns-in_err-another
+returns-in_err-another c =
+    rw (passed_on _ c.from_residual-in_err-another.ensures.1)
+    (listing_refused c.loop-n.invariant c.loop-n-test.true _ _ c.in_err-another.ensures)
 
-pub returns-then-text-i-ne-COMMA : goal.returns-then-text-i-ne-COMMA
-returns-then-text-i-ne-COMMA c =
-    let a = c.args in
-    terms-front a.text.now a.at a.own.now c.term.new.own _ c.in_ok-first.ensures c.requires.1 _ _
-    (listing_stop a.text.now a.at _ c.loop-n.invariant c.loop-n-test.true _
-    c.skip-i.ensures (omega (arith, c.if-text-i.false)) c.if-text-i-ne-COMMA.true)
+pub returns-then-not-branch : goal.returns-then-not-branch
+returns-then-not-branch c =
+    listing_stop c.loop-n.invariant c.loop-n-test.true _ c.if-not-branch.true c.another.new.here c.in_ok-another.ensures.0
 
-pub returns-in_err-next : goal.returns-in_err-next
-returns-in_err-next c =
-    let a = c.args in
-    rw (passed_on _ c.from_residual-in_err-next.ensures.1)
-    (listing_refused a.text.now a.at _ c.loop-n.invariant c.loop-n-test.true _
-    c.skip-i.ensures (omega (arith, c.if-text-i.false)) c.if-text-i-ne-COMMA.false _ _ c.in_err-next.ensures)
+pub returns-in_err-term-2 : goal.returns-in_err-term-2
+returns-in_err-term-2 c =
+    rw (passed_on _ c.from_residual-in_err-term-2.ensures.1)
+    (listing_none c.loop-n.invariant c.loop-n-test.true _ c.if-not-branch.false c.another.new.here c.in_ok-another.ensures.0
+    _ _ c.in_err-term-2.ensures)
 
 pub loop-n-preserved : goal.loop-n-preserved
 loop-n-preserved c =
-    let a = c.args in
-    subst
-    (λ (own : Words). Listing a.text.now a.at (set c.term.new.own 2 (pos 1)) own c.in_ok-next.next
-    (c.loop-n.n + 1)) (sym c.put.ensures)
-    (listing_more a.text.now a.at _ c.loop-n.invariant c.loop-n-test.true _
-    c.skip-i.ensures (omega (arith, c.if-text-i.false)) c.if-text-i-ne-COMMA.false c.term-in-loop-n.new.own _
-    c.in_ok-next.ensures c.term-in-loop-n.auto.own)
+    listing_more c.loop-n.invariant c.loop-n-test.true _ c.if-not-branch.false c.another.new.here c.in_ok-another.ensures.0
+    _ _ _ _ c.in_ok-term-2.ensures c.put_term-in-loop-n.ensures c.put-in-loop-n.ensures
 
 pub returns : goal.returns
-returns c =
-    let a = c.args in
-    terms-front a.text.now a.at a.own.now c.term.new.own _ c.in_ok-first.ensures c.requires.1 _ _
-    (listing_end a.text.now a.at _ c.loop-n.invariant (omega (arith, c.loop-n-test.false)))
+returns c = listing_all c.loop-n.invariant (omega (arith, c.loop-n-test.false))

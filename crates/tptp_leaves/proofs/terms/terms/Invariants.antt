@@ -3,4 +3,4 @@ use Rattle.tptp_leaves.proofs.TermLaws.{Listing}
 use Rattle.tptp_leaves.proofs.terms.terms.Given as goal
 
 abbrev pub invariant-loop-n : goal.invariant-loop-n
-invariant-loop-n l = Listing l.text l.at l.initial.own l.own l.next l.n
+invariant-loop-n l = Listing l.fn.here l.fn.own l.own l.here l.n

@@ -1,21 +1,24 @@
 -- `tptp_leaves::terms::variable` meets its contract.
-use mathlib.Core.Path.{sym, subst}
-use Rattle.model.specs.Words.{Words}
-use Rattle.model.specs.TptpReading.{natural}
-use Rattle.tptp_tokens.specs.Steps.{Value}
-use Rattle.tptp_leaves.specs.Terms.{TermStands, read_variable}
-use Rattle.tptp_tokens.proofs.TokenLaws.{halt}
+use mathlib.Core.Path.{◌≡◌, ap}
+use mathlib.Core.List.{[], ◌∷◌}
+use lib.IntN.{ℤ, pos}
+use Rattle.std.proofs.Common.{rules, to_z, w32}
+use Rattle.model.specs.Tree.{variable, encode_term}
+use Rattle.model.specs.TptpReading.{give, onwards, ◌>>=◌}
 use Rattle.laws.specs.Answer.{passed_on}
-use Rattle.tptp_leaves.proofs.TermLaws.{variable-at}
 use Rattle.tptp_leaves.proofs.terms.variable.Goals as goal
 
-pub returns-in_err-found : goal.returns-in_err-found
-returns-in_err-found c =
-    let a = c.args in
-    rw (passed_on _ c.from_residual.ensures.1) (halt natural _ a.text.now a.at _ _ c.in_err-found.ensures)
+pub returns-in_err-number : goal.returns-in_err-number
+unfolding ◌>>=◌ onwards
+returns-in_err-number c = rw (passed_on _ c.from_residual.ensures.1) (rw c.in_err-number.ensures)
 
 pub returns : goal.returns
+unfolding give encode_term ◌>>=◌ onwards
 returns c =
-    let a = c.args in
-    subst (λ (own : Words). Value read_variable (TermStands a.k a.own.now own) a.text.now a.at c.in_ok-found.found.next) (sym c.put_term.ensures)
-    (variable-at a.text.now a.at a.k a.own.now c.in_ok-found.found c.requires.1 c.in_ok-found.ensures)
+    let x = c.in_ok-number.number in
+    let back : pos x ≡ to_z w32 x = search rules in
+    record {
+      what = variable x;
+      reads = record { moved = c.in_ok-number.ensures.0.moved; reads = rw c.in_ok-number.ensures.0.reads };
+      holds = ap (λ (n : ℤ). pos 1 ∷ n ∷ []) back;
+    }

@@ -3,7 +3,7 @@
 -- there, two for `children`, `excluding` and `restricted`, which call `operand`, three for `chain`, which calls `children`, and four for
 -- `whole`, which calls `chain`. All other calls are behind a parenthesis.
 -- The loop of `children`: the operands passed are read and told behind the first, and there is fuel for those left.
-use Prim.Native.Nat.{◌+◌, ◌*◌, ◌-◌}
+use Prim.Native.Nat.{◌+◌, ◌*◌}
 use lib.ListN.{length}
 use Rattle.policies.specs.Node.{as_role}
 use Rattle.tptp_reading.proofs.ChildrenLaws.{Joining}
@@ -33,9 +33,9 @@ decreases-some l = 5 * l.room
 abbrev pub decreases-whole : goal.decreases-whole
 decreases-whole l = 5 * l.room + 4
 
-abbrev pub invariant-children-loop-role : goal.invariant-children-loop-role
-invariant-children-loop-role l =
-    Joining l.room l.every l.table (as_role l.role) l.above l.scope l.start l.initial.state l.text l.at l.initial.out l.out l.state l.next l.n
+abbrev pub invariant-children-loop-marks : goal.invariant-children-loop-marks
+invariant-children-loop-marks l =
+    Joining l.room l.every l.table (as_role l.role) l.above l.scope l.start l.initial.state l.fn.here l.here l.initial.out l.out l.state l.n
 
-abbrev pub decreases-children-loop-role : goal.decreases-children-loop-role
-decreases-children-loop-role l = length l.text - l.next
+abbrev pub decreases-children-loop-marks : goal.decreases-children-loop-marks
+decreases-children-loop-marks l = length l.here.rest.now

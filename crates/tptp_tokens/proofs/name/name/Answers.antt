@@ -6,12 +6,9 @@ use Rattle.tptp_tokens.proofs.name.name.Goals as goal
 
 pub returns-then-not-is_some_and : goal.returns-then-not-is_some_and
 unfolding small
-returns-then-not-is_some_and c =
-    let a = c.args in
-    name-other a.text.now a.at c.skip-i.result c.skip-i.ensures (λ h. search rules)
+returns-then-not-is_some_and c = name-other c.args.here.now c.skip.new.here c.skip.ensures (λ b h. search rules)
 
 pub returns : goal.returns
 unfolding small
 returns c =
-    let a = c.args in
-    name-here a.text.now a.at c.skip-i.result c.skip-i.ensures _ (search rules) (search rules) c.word_end.ensures
+    name-here c.args.here.now c.skip.new.here c.skip.ensures c.word_bytes.new.here (search rules) (search rules) c.word_bytes.ensures

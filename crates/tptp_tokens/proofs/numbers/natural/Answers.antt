@@ -3,4 +3,4 @@ use Rattle.tptp_tokens.proofs.NumberLaws.{natural-number}
 use Rattle.tptp_tokens.proofs.numbers.natural.Goals as goal
 
 pub returns : goal.returns
-returns c = natural-number c.args.text.now c.args.at c.number.result c.number.ensures
+returns c = natural-number c.args.here.now c.number.new.here c.number.result c.number.ensures

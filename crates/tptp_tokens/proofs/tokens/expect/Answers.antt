@@ -4,11 +4,9 @@ use Rattle.tptp_tokens.proofs.TokenLaws.{token-here, token-other}
 use Rattle.tptp_tokens.proofs.tokens.expect.Goals as goal
 
 pub returns-then-ne : goal.returns-then-ne
-returns-then-ne c =
-    let a = c.args in
-    token-other a.text.now a.at c.skip-i.result c.skip-i.ensures a.c (search rules)
+returns-then-ne c = token-other c.args.here.now c.skip.new.here c.skip.ensures c.args.c (search rules)
 
 pub returns : goal.returns
 returns c =
-    let a = c.args in
-    token-here a.text.now a.at c.skip-i.result c.skip-i.ensures a.c (search rules) (search rules)
+    token-here c.args.here.now c.skip.new.here c.skip.ensures c.pass.new.self c.pass.ensures.rest c.pass.ensures.at c.args.c
+    (search rules)

@@ -1,7 +1,5 @@
 -- `tptp_tokens::tokens::skip` meets its contract: the blanks are counted.
-use Prim.Native.Nat.{◌-◌}
 use mathlib.Core.Path.{refl, ◌∙◌}
-use lib.ListN.{length, take, drop}
 use Rattle.std.proofs.Common.{rules, tests}
 use Rattle.std.proofs.lemmas.Iterator.{YieldsList-from_slice}
 use Rattle.std.proofs.lemmas.Iterator.Consumers.{count_from_yields_List}
@@ -9,19 +7,22 @@ use Rattle.std.proofs.lemmas.Iterator.Search.{YieldsList-from_take_while}
 use Rattle.std.proofs.lemmas.List.Folds.{length-prefix_len}
 use Rattle.model.specs.Bytes.{blank}
 use Rattle.model.specs.TptpReading.{blanks}
-use Rattle.tptp_tokens.proofs.ScanLaws.{first}
+use Rattle.tptp_tokens.proofs.ScanLaws.{scans, scan_stops}
 use Rattle.tptp_tokens.proofs.tokens.skip.Goals as goal
 
 pub returns : goal.returns
 unfolding blanks
 returns c =
-    let a = c.args in
+    let old = c.args.here.now in
+    let new = c.pass.new.self in
     let t = c.take_while in
-    let rest = take (length a.text.now - a.at) (drop a.at a.text.now) in
+    let rest = old.rest.now in
     let counted =
     count_from_yields_List t.result _ c.count.ensures.ran
     (YieldsList-from_take_while _ blank (YieldsList-from_slice rest (search rules)) t.ensures.closure t.ensures.done
     (λ x b q k. search (rules, tests)))
     ∙ length-prefix_len blank rest in
-    let to = first blank blanks (λ p. refl) (λ b t p. refl) a.text.now a.at _ c.requires counted in
-    record { low = to.0.low; high = to.0.high; reads = to.0.reads; stop = to.1 }
+    record {
+      reads = scans blank blanks (λ p. refl) (λ b t p. refl) old new _ counted c.pass.ensures.rest c.pass.ensures.at;
+      stop = scan_stops blank blanks (λ p. refl) (λ b t p. refl) old new _ counted c.pass.ensures.rest;
+    }

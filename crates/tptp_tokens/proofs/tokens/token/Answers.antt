@@ -4,5 +4,4 @@ use Rattle.tptp_tokens.proofs.tokens.token.Goals as goal
 
 pub returns : goal.returns
 returns c =
-    let a = c.args in
-    token_steps a.text.now a.at _ c.skip.ensures a.word.now c.literal.result c.literal.ensures
+    token_steps c.args.here.now c.skip.new.here c.skip.ensures c.args.word.now c.literal.new.here c.literal.result c.literal.ensures

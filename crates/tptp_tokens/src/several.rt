@@ -1,0 +1,21 @@
+// Several things one after another, each behind the same byte.
+ghost use Rattle.tptp_tokens.specs.Several.{AnotherRead};
+
+use crate::tokens::skip;
+use model::{Refusal, Refused};
+use text::cursor::Cursor;
+
+// Whether one more of them follows, behind this byte, which is passed then.
+pub fn another(here: &mut Cursor<'_>, c: u8) -> Result<bool, Refused>
+    ensures { AnotherRead c here.old here.new result }
+{
+    skip(here);
+    match here.rest.first() {
+        None => Err(Refused(Refusal::Tptp, here.at)),
+        Some(&b) if b == c => {
+            here.pass(1);
+            Ok(true)
+        }
+        Some(_) => Ok(false),
+    }
+}
