@@ -1,5 +1,5 @@
 -- Laws for the reading of a whole text: what stands before its formula, and what behind it.
-use Prim.Native.Nat.{ℕ, ◌+◌, ◌≤◌}
+use Prim.Native.Nat.{ℕ}
 use native.Mathlib.Omega.{arith}
 use mathlib.Core.Path.{◌≡◌, refl, sym, ap, ◌∙◌, subst}
 use mathlib.Core.Bool.{true, false}
@@ -129,7 +129,18 @@ module _
             let none = blanks_end dot.rest.now dot.at _ ended.reads in
             let end-at : last.at ≡ length text =
             omega (
-              arith, zero, ap length begin, ap length none, s₁.moved.whole, s₂.moved.whole, s₃.moved.whole, s₄.moved.whole, s₅.moved.whole,
-              s₆.moved.whole, tree.reads.moved.whole, dots.moved.whole, ended.moved.whole,
+              arith,
+              zero,
+              ap length begin,
+              ap length none,
+              s₁.moved.whole,
+              s₂.moved.whole,
+              s₃.moved.whole,
+              s₄.moved.whole,
+              s₅.moved.whole,
+              s₆.moved.whole,
+              tree.reads.moved.whole,
+              dots.moved.whole,
+              ended.moved.whole,
             ) in
             dotted ∙ onward blanks_ending (λ _. give tree.what) dot tt last ended.reads ∙ rw (none, end-at) refl
