@@ -194,8 +194,8 @@ module _ (table : Words) (text : Text) (old after : Words) (e : ask_table table 
       ReadsPolicy table text (length old) after a
   unfolding read_text read_tptp tree_of
   came-read r h {s} f a answered =
-      let (next, v) = subst (PolicyRead table text old after) f h in
-      text-read table text (length old) e old after v.what s (ap tree_of v.reads.reads) v.holds refl a answered
+      let (tree, read, told) = subst (PolicyRead table text old after) f h in
+      text-read table text (length old) e old after tree s (ap tree_of read) told refl a answered
 
 -- what stands behind the words counted becomes zero
 pub policy-cleared :

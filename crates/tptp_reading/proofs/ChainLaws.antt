@@ -31,7 +31,7 @@ use Rattle.laws.specs.Reading.Nodes.{under-kind}
 use Rattle.laws.specs.Words.Tests.{decide, clash, or_left, or_right, or_false_left, or_false_right}
 use Rattle.laws.specs.Tptp.Spelling.TokensAhead.{stand_ahead, ahead_first}
 use Rattle.laws.specs.Tptp.Sound.Policies.{operand_sound}
-use Rattle.tptp_tokens.specs.Steps.{from, got, Moved, Skips, Reads, Steps, Value, Valued}
+use Rattle.tptp_tokens.specs.Steps.{from, Moved, Skips, Reads, Steps, Value, Valued}
 use Rattle.tptp_tokens.specs.Laying.{Laid}
 use Rattle.tptp_state.specs.Told.{Passed, Told, Entered}
 use Rattle.tptp_binders.specs.Ahead.{StopsAt, begins}

@@ -16,7 +16,7 @@ use Rattle.model.specs.TptpReading.{Got, Reader, onwards, ◌>>=◌, blanks, pee
 use Rattle.model.specs.declared.Refusal.{Refusal}
 use Rattle.model.specs.declared.Refusal.TheVariants.{Tptp}
 use Rattle.laws.specs.Answer.{refused-passed}
-use Rattle.tptp_tokens.specs.Steps.{from, got, Moved, Reads, Value}
+use Rattle.tptp_tokens.specs.Steps.{from, Moved, Reads, Value}
 use Rattle.tptp_tokens.specs.Several.{another}
 use Rattle.tptp_state.specs.Told.{Passed, Ready, Told, Handed, Joined}
 use Rattle.tptp_reading.specs.Formula.{Begins, Follows, Further}

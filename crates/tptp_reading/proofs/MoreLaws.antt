@@ -21,7 +21,7 @@ use Rattle.laws.specs.Tptp.Sound.Readers.{comes-passed}
 use Rattle.laws.specs.Tptp.Sound.Tokens.{look-reads, token-reads}
 use Rattle.tptp_tokens.specs.Steps.{from, Skips}
 use Rattle.tptp_tokens.proofs.TokenLaws.{onward, look-here}
-use Rattle.tptp_tokens.proofs.UpTo.{skips_self}
+use Rattle.tptp_tokens.proofs.UpTo.{skips_here}
 use Rattle.tptp_tokens.proofs.Strict.{stand_strict}
 
 -- the next byte is looked at behind blanks; a token takes a byte at least
@@ -106,6 +106,6 @@ module _ {A : Type 0} (c : ℕ) (one : Reader A) where
         same_fuel n (suc n) old.rest.now old.at
         (omega (arith, some, low, whole)) (omega arith) (omega arith) (omega arith)
         ∙ onward look _ old b mid (look-here old mid s b h)
-        ∙ sym (onward look _ mid b mid (look-here mid mid (skips_self old mid s b h) b h))
+        ∙ sym (onward look _ mid b mid (look-here mid mid (skips_here mid s.stop) b h))
         ∙ same_fuel (suc n) (length mid.rest.now) mid.rest.now mid.at
         (omega arith) (omega (arith, low, whole)) (omega (arith, some)) (omega arith)

@@ -29,7 +29,8 @@ use Rattle.tptp_reading.specs.Formula.{beneath, LeafByte, chained}
 use Rattle.tptp_tokens.proofs.MovedLaws.{further}
 use Rattle.tptp_tokens.proofs.TokenLaws.{onward, halt, look-here, look-over}
 use Rattle.tptp_tokens.proofs.BehindLaws.{valued_from}
-use Rattle.tptp_reading.proofs.StopLaws.{first-cases, same_first, skips_here}
+use Rattle.tptp_tokens.proofs.UpTo.{skips_here}
+use Rattle.tptp_reading.proofs.StopLaws.{first-cases, same_first}
 use Rattle.tptp_reading.proofs.RoomLaws.{opening-room, beneath_less}
 
 -- an operand, with what can be read behind one parenthesis more

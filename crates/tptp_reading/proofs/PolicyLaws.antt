@@ -1,30 +1,22 @@
 -- Laws for the reading of a whole text: what stands before its formula, and what behind it.
-use Prim.Native.Nat.{ℕ, ◌+◌, ◌≤◌}
+use Prim.Native.Nat.{ℕ}
 use native.Mathlib.Omega.{arith}
 use mathlib.Core.Path.{◌≡◌, refl, sym, ap, ◌∙◌}
 use mathlib.Core.Bool.{true}
 use mathlib.Core.List.{[], ◌∷◌}
 use lib.ListN.{length}
 use Rattle.text.specs.declared.cursor.Cursor.{Cursor}
-use Rattle.model.specs.Words.{Words}
 use Rattle.model.specs.Bytes.{Text, bytes}
 use Rattle.model.specs.Answer.{Outcome, passed, refused}
-use Rattle.model.specs.Table.{predicates}
 use Rattle.model.specs.Tree.{Tree}
 use Rattle.model.specs.TptpReading.{Got, Reader, give, onwards, blanks, token, name, whole, ending, readers, read_whole, ◌>>=◌}
 use Rattle.model.specs.declared.Refusal.{Refusal}
 use Rattle.model.specs.declared.Refusal.TheVariants.{Tptp}
 use Rattle.laws.specs.Answer.{refused-passed, passed-same}
 use Rattle.tptp_tokens.specs.Steps.{from, got, Skips, Reads, Value}
-use Rattle.tptp_state.specs.Told.{Ready}
 use Rattle.tptp_reading.specs.Formula.{closed}
-use Rattle.tptp_reading.specs.Policy.{blanks_ending, start_state}
+use Rattle.tptp_reading.specs.Policy.{blanks_ending}
 use Rattle.tptp_tokens.proofs.TokenLaws.{onward, halt, grouped, closed_then}
-
--- nothing was read yet
-pub start-ready : (table : Words) → predicates table ≤ 256 → Ready table 0 0 start_state
-start-ready table few =
-    record { few = few; counted = omega arith; marks = refl; level = λ _. omega arith; range = λ _. omega arith }
 
 -- the end of a text behind blanks: there is another byte, or none
 module _ (old mid : Cursor) (s : Skips old mid) where
@@ -121,7 +113,18 @@ module _
             let none = blanks_end dot.rest.now dot.at _ ended.reads in
             let end-at : last.at ≡ length text =
             omega (
-              arith, zero, ap length begin, ap length none, s₁.moved.whole, s₂.moved.whole, s₃.moved.whole, s₄.moved.whole, s₅.moved.whole,
-              s₆.moved.whole, tree.reads.moved.whole, dots.moved.whole, ended.moved.whole,
+              arith,
+              zero,
+              ap length begin,
+              ap length none,
+              s₁.moved.whole,
+              s₂.moved.whole,
+              s₃.moved.whole,
+              s₄.moved.whole,
+              s₅.moved.whole,
+              s₆.moved.whole,
+              tree.reads.moved.whole,
+              dots.moved.whole,
+              ended.moved.whole,
             ) in
             dotted ∙ onward blanks_ending (λ _. give tree.what) dot tt last ended.reads ∙ rw (none, end-at) refl

@@ -43,7 +43,8 @@ use Rattle.tptp_state.proofs.StateLaws.{asked-passed}
 use Rattle.tptp_binders.proofs.TuplesLaws.{sets-append}
 use Rattle.tptp_tokens.proofs.LayingLaws.{laid_three}
 use Rattle.tptp_reading.proofs.SomeLaws.{entered_passed, entered_ready}
-use Rattle.tptp_reading.proofs.StopLaws.{same_first, skips_here}
+use Rattle.tptp_tokens.proofs.UpTo.{skips_here}
+use Rattle.tptp_reading.proofs.StopLaws.{same_first}
 use Rattle.tptp_reading.proofs.RoomLaws.{opening-room, beneath_less}
 
 -- tuples of one number at least are as many numbers at least
@@ -360,7 +361,7 @@ module _
 
                 -- the body, and the closing parenthesis
                 pub quantifier-read :
-                    (role : Role) (above tag second third : ℕ) (s between r : State) (last out₁ out₂ out' : Words) (deep free : Bool)
+                    (role : Role) (above tag w₁ w₂ : ℕ) (s between r : State) (last out₁ out₂ out' : Words) (deep free : Bool)
                     (marks : List Bool) (last-end new : Cursor) (close : Result (Unit {0}) Refused) →
                     is_formula role ≡ true →
                     level ≡ above + cost role (M.Tag.quantifier b) →
@@ -372,15 +373,15 @@ module _
                     Value body (λ f. Told table f formula level (scope + v) between r mid last) start last-end →
                     tag ≡ cond b 8 9 →
                     Laid s.words tag last out₁ →
-                    Laid second v out₁ out₂ →
-                    second ≡ s.words + 1 →
-                    Laid third excluded out₂ out' →
-                    third ≡ s.words + 2 →
+                    Laid w₁ v out₁ out₂ →
+                    w₁ ≡ s.words + 1 →
+                    Laid w₂ excluded out₂ out' →
+                    w₂ ≡ s.words + 2 →
                     Steps (token (41 ∷ [])) last-end new close →
                     Valued reader (λ t. Told table t role above scope s r out out') old new close
                 unfolding is_formula cost bytes
                 quantifier-read
-                    role above tag second third s between r last out₁ out₂ out' deep free marks last-end new close kind costs is-deep is_free
+                    role above tag w₁ w₂ s between r last out₁ out₂ out' deep free marks last-end new close kind costs is-deep is_free
                     entered outer introduced reads tagged laid₁ laid₂ at₂ laid₃ at₃ closes =
                     let c = restricts.what in
                     let Body : Tree → Type 0 = λ f. Told table f formula level (scope + v) between r mid last in

@@ -40,7 +40,6 @@ use Rattle.tptp_tokens.proofs.MovedLaws.{still, further, same_place}
 use Rattle.tptp_tokens.proofs.TokenLaws.{onward, halt, given_then, closed_then}
 use Rattle.tptp_tokens.proofs.Strict.{excludes_strict}
 use Rattle.tptp_binders.proofs.AheadLaws.{blanks-rest}
-use Rattle.tptp_reading.proofs.AheadTrees.{operand-stopping, stopping-here}
 use Rattle.tptp_reading.proofs.MoreLaws.{more-later}
 use Rattle.tptp_reading.proofs.StopLaws.{behind_skip, stops-behind, joining_strays, excluding_strays}
 use Rattle.tptp_reading.proofs.ChainLaws.{behind-blank}
@@ -136,27 +135,24 @@ module _ (here stop : Cursor) (room x v : ℕ) where
   excluding-refused q p e = halt one _ here q p e
 
   module _
-      {Known : Tree → Type 0} (behind mid : Cursor) (value : Value one Known here behind) (skipped : Skips behind mid)
+      (c : Tree) (behind mid : Cursor) (read : Reads one here c behind) (skipped : Skips behind mid)
       (some : 1 ≤ v) (stops : StopsAt here stop) (is : begins_excluding v stop.rest.now ≡ true)
     where
-      abbrev c : Tree
-      c = value.what
-
       -- something else stands behind it
       pub excluding-other : (mid.at ≡ stop.at → ⊥) → from (exclusion room v x) here ≡ refused Tptp mid.at
       unfolding is_formula
       excluding-other n =
-          onward one _ here c behind value.reads.reads
+          onward one _ here c behind read.reads
           ∙ halt (excluding (suc room) (readers room) c one v x) _ behind Tptp mid.at
           (none-behind room v x c one behind.rest.now behind.at
-          (excluding_strays room false (x + v) here behind stop c value.reads stops mid skipped n v)
+          (excluding_strays room false (x + v) here behind stop c read stops mid skipped n v)
           ∙ halt (joining R.stop c one) _ behind Tptp mid.at
-          (joining_strays room false (x + v) here behind stop c value.reads stops mid skipped n one))
+          (joining_strays room false (x + v) here behind stop c read stops mid skipped n one))
 
       -- the tuples stand behind it
       module _ (same : mid.at ≡ stop.at) where
         rests : mid.rest.now ≡ stop.rest.now
-        rests = same_place here mid stop (further here behind mid value.reads.moved skipped.reads.moved) stops.moved same
+        rests = same_place here mid stop (further here behind mid read.moved skipped.reads.moved) stops.moved same
 
         goes : from (exclusion room v x) here ≡ from (more ampersand tuple >>= λ tuples. ends (with_tuples c tuples)) stop
         unfolding is_formula
@@ -164,7 +160,7 @@ module _ (here stop : Cursor) (room x v : ℕ) where
             let begun = sym (excluding-blanks v behind.rest.now) ∙ ap (begins_excluding v) (behind_skip behind mid skipped ∙ rests) ∙ is in
             let some-left = excluding-some v stop.rest.now is in
             let byte = slice_get-get_or mid.rest.now 0 0 (omega (arith, some-left, ap length rests)) in
-            onward one (λ first. excluding (suc room) (readers room) first one v x >>= ends) here c behind value.reads.reads
+            onward one (λ first. excluding (suc room) (readers room) first one v x >>= ends) here c behind read.reads
             ∙ same_then (excluding (suc room) (readers room) c one v x) (more ampersand tuple >>= λ tuples. give (with_tuples c tuples)) ends
             behind.rest.now behind.rest.now behind.at behind.at
             (tuples-behind room v x c one behind.rest.now behind.at begun)
@@ -179,25 +175,25 @@ module _ (here stop : Cursor) (room x v : ℕ) where
         pub excluding_unlisted : (q : Refusal) (p : ℕ) → from (more ampersand tuple) stop ≡ refused q p → from (exclusion room v x) here ≡ refused q p
         excluding_unlisted q p e = goes ∙ halt (more ampersand tuple) _ stop q p e
 
-        module _ {Stored : List (List ℤ) → Type 0} (next : Cursor) (tuples : Value (more ampersand tuple) Stored stop next) where
+        module _ (ts : List (List ℤ)) (next : Cursor) (listed : Reads (more ampersand tuple) stop ts next) where
           -- no closing parenthesis stands behind them
           pub excluding_unclosed : (q : Refusal) (p : ℕ) → from (token (41 ∷ [])) next ≡ refused q p → from (exclusion room v x) here ≡ refused q p
           unfolding bytes
           excluding_unclosed q p e =
-              goes ∙ onward (more ampersand tuple) _ stop tuples.what next tuples.reads.reads ∙ halt (token (41 ∷ [])) _ next q p e
+              goes ∙ onward (more ampersand tuple) _ stop ts next listed.reads ∙ halt (token (41 ∷ [])) _ next q p e
 
           pub excluding-read :
-              {facts : Restricted → Type 0} (close : Cursor) → Reads (token (41 ∷ [])) next tt close → facts (with_tuples c tuples.what) →
+              {facts : Restricted → Type 0} (close : Cursor) → Reads (token (41 ∷ [])) next tt close → facts (with_tuples c ts) →
               Value (exclusion room v x) facts here close
           unfolding bytes give
           excluding-read close closes holds = record {
-            what = with_tuples c tuples.what;
+            what = with_tuples c ts;
             reads = record {
-              moved = further here next close (further here stop next stops.moved tuples.reads.moved) closes.moved;
+              moved = further here next close (further here stop next stops.moved listed.moved) closes.moved;
               reads =
                   goes
-                  ∙ onward (more ampersand tuple) _ stop tuples.what next tuples.reads.reads
-                  ∙ onward (token (41 ∷ [])) (λ _. give (with_tuples c tuples.what)) next tt close closes.reads;
+                  ∙ onward (more ampersand tuple) _ stop ts next listed.reads
+                  ∙ onward (token (41 ∷ [])) (λ _. give (with_tuples c ts)) next tt close closes.reads;
             };
             holds = holds;
           }

@@ -13,7 +13,7 @@ use borrow.Author.Tests.{ltb-true}
 use Rattle.std.specs.Prelude.{slice_get, Some}
 use Rattle.text.specs.declared.cursor.Cursor.{Cursor}
 use Rattle.model.specs.Words.{Words, scope_limit, level_limit}
-use Rattle.model.specs.Bytes.{Text, bytes, blank, interrogation}
+use Rattle.model.specs.Bytes.{bytes, blank, interrogation}
 use Rattle.model.specs.Answer.{Outcome, passed, refused, ask, ◌>>=◌}
 use Rattle.model.specs.Tree.{Tree, some, encode}
 use Rattle.model.specs.Level.{restriction}
@@ -35,7 +35,8 @@ use Rattle.tptp_tokens.proofs.MovedLaws.{further}
 use Rattle.tptp_tokens.proofs.TokenLaws.{onward, halt, closed_then, token-here}
 use Rattle.tptp_state.proofs.StateLaws.{asked-passed}
 use Rattle.tptp_tokens.proofs.LayingLaws.{laid_one}
-use Rattle.tptp_reading.proofs.StopLaws.{same_first, skips_here}
+use Rattle.tptp_tokens.proofs.UpTo.{skips_here}
+use Rattle.tptp_reading.proofs.StopLaws.{same_first}
 use Rattle.tptp_reading.proofs.RoomLaws.{opening-room, beneath_less}
 
 -- behind the first words of a node: both questions at it passed

@@ -1,6 +1,6 @@
 -- Laws for the byte behind an operand, where a scan from the operand's first byte on stopped: if it stopped elsewhere, that byte is no
 -- connective and no closing parenthesis.
-use Prim.Native.Nat.{ℕ, ◌+◌}
+use Prim.Native.Nat.{ℕ}
 use native.Mathlib.Omega.{arith}
 use mathlib.Core.Path.{◌≡◌, refl, sym, ap, ◌∙◌}
 use mathlib.Core.Logic.{◌⊎◌, inl, inr, ⊎_elim}
@@ -12,7 +12,7 @@ use borrow.Author.Tests.{eq-eqb, ne_eqb, eqb-true}
 use Rattle.std.specs.Prelude.{slice_get, Some, None}
 use Rattle.std.proofs.lemmas.Option.{get_or_from_slice_get}
 use Rattle.text.specs.declared.cursor.Cursor.{Cursor}
-use Rattle.model.specs.Bytes.{Text, blank, ampersand, bar}
+use Rattle.model.specs.Bytes.{Text, ampersand, bar}
 use Rattle.model.specs.Answer.{passed, refused}
 use Rattle.model.specs.Tree.{Tree, join, cons}
 use Rattle.model.specs.TptpReading as R
@@ -23,7 +23,7 @@ use Rattle.laws.specs.Answer.{passed-same}
 use Rattle.laws.specs.Words.Tests.{decide, clash, and_left}
 use Rattle.tptp_tokens.specs.Steps.{from, Reads, Skips}
 use Rattle.tptp_binders.specs.Ahead.{StopsAt}
-use Rattle.tptp_tokens.proofs.MovedLaws.{still, further}
+use Rattle.tptp_tokens.proofs.MovedLaws.{further}
 use Rattle.tptp_tokens.proofs.TokenLaws.{begun, onward, halt, look-here, look-over}
 use Rattle.tptp_binders.proofs.AheadLaws.{blanks-rest}
 use Rattle.tptp_reading.proofs.AheadTrees.{operand-stopping, stopping-here}
@@ -47,17 +47,6 @@ byte-begins t b c h = rw (begun t b h) refl
 
 pub here-begins : (t : Text) (c : ℕ) → slice_get t 0 ≡ Some c → begins_with c t ≡ true
 here-begins t c h = byte-begins t c c h ∙ eq-eqb c c refl
-
--- no blank stands where another byte does
-pub skips_here : (here : Cursor) → ((b : ℕ) → slice_get here.rest.now 0 ≡ Some b → blank b ≡ false) → Skips here here
-unfolding blanks
-skips_here here h = record { reads = record { moved = still here; reads = go here.rest.now h }; stop = h }
-  where
-    go :
-        (t : Text) → ((b : ℕ) → slice_get t 0 ≡ Some b → blank b ≡ false) →
-        blanks t here.at ≡ passed (record { what = tt; rest = t; at = here.at })
-    go [] h = refl
-    go (b ∷ t) h = rw (h b refl)
 
 -- blanks leave the text behind them
 pub behind_skip : (old mid : Cursor) → Skips old mid → behind_blanks old.rest.now ≡ mid.rest.now

@@ -19,22 +19,24 @@ use Rattle.model.specs.declared.Refusal.TheVariants.{Tptp}
 use Rattle.tptp_tokens.specs.Steps.{from, got, Skips, Reads}
 use Rattle.tptp_tokens.specs.Several.{another}
 use Rattle.tptp_tokens.proofs.MovedLaws.{still, further}
-use Rattle.tptp_tokens.proofs.TokenLaws.{begun, look-here, look-over, token-here}
+use Rattle.tptp_tokens.proofs.TokenLaws.{look-here, look-over, token-here}
 
--- behind blanks there are none
-pub skips_self : (old mid : Cursor) → Skips old mid → (b : ℕ) → slice_get mid.rest.now 0 ≡ Some b → Skips mid mid
+-- no blank stands where another byte does
+pub skips_here : (here : Cursor) → ((b : ℕ) → slice_get here.rest.now 0 ≡ Some b → blank b ≡ false) → Skips here here
 unfolding blanks
-skips_self old mid s b h =
-    record { reads = record { moved = still mid; reads = go mid.rest.now h (s.stop b h) }; stop = s.stop }
+skips_here here h = record { reads = record { moved = still here; reads = go here.rest.now h }; stop = h }
   where
-    go : (t : Text) → slice_get t 0 ≡ Some b → blank b ≡ false → blanks t mid.at ≡ passed (record { what = tt; rest = t; at = mid.at })
-    go t h e = rw (begun t b h, e)
+    go :
+        (t : Text) → ((b : ℕ) → slice_get t 0 ≡ Some b → blank b ≡ false) →
+        blanks t here.at ≡ passed (record { what = tt; rest = t; at = here.at })
+    go [] h = refl
+    go (b ∷ t) h = rw (h b refl)
 
 -- a byte there as a token
 pub token-self :
     (old mid : Cursor) → Skips old mid → (new : Cursor) → new.rest.now ≡ drop 1 mid.rest.now → new.at ≡ mid.at + 1 →
     (c : ℕ) → slice_get mid.rest.now 0 ≡ Some c → Reads (token (c ∷ [])) mid tt new
-token-self old mid s new r e c h = token-here mid mid (skips_self old mid s c h) new r e c h
+token-self old mid s new r e c h = token-here mid mid (skips_here mid s.stop) new r e c h
 
 -- whether the byte stands behind blanks
 module _ (c : ℕ) (old mid : Cursor) (s : Skips old mid) where

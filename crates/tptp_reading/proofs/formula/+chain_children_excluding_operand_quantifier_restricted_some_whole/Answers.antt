@@ -5,7 +5,7 @@
 -- The loop of `children`: the operands passed are read and told behind the first, and there is fuel for those left.
 use Prim.Native.Nat.{ℕ, ◌+◌, ◌*◌, min}
 use native.Mathlib.Omega.{arith}
-use mathlib.Core.Path.{◌≡◌, sym, refl, ap, ◌∙◌, subst}
+use mathlib.Core.Path.{sym, refl, ap, ◌∙◌, subst}
 use mathlib.Core.Bool.{Bool, true, false, ◌&&◌}
 use lib.Dec.{eqb}
 use borrow.Author.Rules.{rules}
@@ -163,14 +163,16 @@ excluding-returns-in_err-operand t c =
 pub excluding-returns-then-here-stop : goal.excluding-returns-then-here-stop
 excluding-returns-then-here-stop t c =
     let a = c.args in
-    excluding-other a.here.now a.stop.now a.room a.x a.v c.operand.new.here c.skip.new.here c.in_ok-operand.ensures c.skip.ensures
+    excluding-other a.here.now a.stop.now a.room a.x a.v _ c.operand.new.here c.skip.new.here c.in_ok-operand.ensures.reads
+    c.skip.ensures
     c.requires.1 c.requires.3 c.requires.4 (λ q. omega (arith, q, c.if-here-stop.true))
 
 pub excluding-returns-in_err-count : goal.excluding-returns-in_err-count
 excluding-returns-in_err-count t c =
     let a = c.args in
     rw (passed_on _ c.from_residual-in_err-count.ensures.1)
-    (excluding_unlisted a.here.now a.stop.now a.room a.x a.v c.operand.new.here c.skip.new.here c.in_ok-operand.ensures c.skip.ensures
+    (excluding_unlisted a.here.now a.stop.now a.room a.x a.v _ c.operand.new.here c.skip.new.here c.in_ok-operand.ensures.reads
+    c.skip.ensures
     c.requires.1 c.requires.3 c.requires.4 (omega (arith, c.if-here-stop.false)) _ _
     (subst (TuplesRead a.room a.v a.x a.state.now.words a.out.now c.tuples-listed.new.out a.stop.now c.tuples-listed.new.here)
     c.in_err-count.was c.tuples-listed.ensures))
@@ -182,8 +184,9 @@ excluding-returns-in_err-expect t c =
     subst (TuplesRead a.room a.v a.x a.state.now.words a.out.now c.tuples-listed.new.out a.stop.now c.tuples-listed.new.here)
     c.in_ok-count.was c.tuples-listed.ensures in
     rw (passed_on _ c.from_residual-in_err-expect.ensures.1)
-    (excluding_unclosed a.here.now a.stop.now a.room a.x a.v c.operand.new.here c.skip.new.here c.in_ok-operand.ensures c.skip.ensures
-    c.requires.1 c.requires.3 c.requires.4 (omega (arith, c.if-here-stop.false)) c.tuples-listed.new.here found _ _ c.in_err-expect.ensures)
+    (excluding_unclosed a.here.now a.stop.now a.room a.x a.v _ c.operand.new.here c.skip.new.here c.in_ok-operand.ensures.reads
+    c.skip.ensures
+    c.requires.1 c.requires.3 c.requires.4 (omega (arith, c.if-here-stop.false)) _ c.tuples-listed.new.here found.reads _ _ c.in_err-expect.ensures)
 
 pub excluding-returns : goal.excluding-returns
 excluding-returns t c =
@@ -195,8 +198,8 @@ excluding-returns t c =
     c.behind_tuples-state.ensures
     ∙ ap (λ (n : ℕ). min (a.state.now.words + a.v * n) most_words) (c.count_of.ensures ∙ ap count_of c.in_ok-count.was) in
     let first = c.in_ok-operand.ensures in
-    excluding-read a.here.now a.stop.now a.room a.x a.v c.operand.new.here c.skip.new.here first c.skip.ensures
-    c.requires.1 c.requires.3 c.requires.4 (omega (arith, c.if-here-stop.false)) c.tuples-listed.new.here found c.expect.new.here
+    excluding-read a.here.now a.stop.now a.room a.x a.v _ c.operand.new.here c.skip.new.here first.reads c.skip.ensures
+    c.requires.1 c.requires.3 c.requires.4 (omega (arith, c.if-here-stop.false)) _ c.tuples-listed.new.here found.reads c.expect.new.here
     c.in_ok-expect.ensures
     (excluding-told a.table.now a.level a.x a.v a.state.now c.operand.new.state a.out.now c.tuples-listed.new.out c.operand.new.out
     c.in_ok-count.count c.behind_tuples-state.result first.what found.what found.holds counted first.holds)

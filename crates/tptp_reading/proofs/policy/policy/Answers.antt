@@ -70,7 +70,7 @@ unfolding bytes is_formula
 returns c = (
   _,
   policy-read c.args.text.now 255 c.new-here.ensures.rest c.new-here.ensures.at c.in_ok-token.ensures c.in_ok-expect.ensures c.in_ok-name.ensures
-    c.in_ok-expect-2.ensures c.in_ok-token-2.ensures c.in_ok-expect-3.ensures c.whole.new.here c.in_ok-whole.ensures
+      c.in_ok-expect-2.ensures c.in_ok-token-2.ensures c.in_ok-expect-3.ensures c.whole.new.here c.in_ok-whole.ensures
       c.expect-4.new.here c.in_ok-expect-4.ensures c.ended.new.here c.in_ok-ended.ensures,
   c.in_ok-whole.ensures.holds,
 )
