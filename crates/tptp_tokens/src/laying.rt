@@ -11,7 +11,7 @@ use text::cursor::Cursor;
 // Words are counted so far: beyond, a policy has too many.
 pub const MOST: usize = 2097152;
 
-// So many words more.
+// So many words more. A function of its own, since the callers' proofs cite its contract.
 pub fn more_words(words: usize, n: usize) -> usize
     requires { (words ≤ L.most_words) × (n ≤ 4 * L.most_words) }
     ensures { result ≡ min (words + n) L.most_words }

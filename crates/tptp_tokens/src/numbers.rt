@@ -31,7 +31,8 @@ fn more_digits(here: &mut Cursor<'_>, most: usize, first: usize) -> Result<usize
     Ok(n)
 }
 
-// A number up to the most, of whose digits the first is at least this one.
+// A number up to the most, of whose digits the first is at least this one. By hand, since the library's `parse` takes a 0 in front and does
+// not tell where it refuses.
 fn number(here: &mut Cursor<'_>, least: u8, most: usize) -> Result<usize, Refused>
     requires { (48 ≤ least) × (9 ≤ most) × (most < 2 ^ 32) }
     ensures { N.Numbers least most here.old here.new result }
@@ -52,7 +53,7 @@ pub fn natural(here: &mut Cursor<'_>) -> Result<usize, Refused>
     number(here, b'0', 2147483647)
 }
 
-// The digits behind a minus.
+// The digits behind a minus. A function of its own, since the proof of `integer` cites its contract.
 fn magnitude(here: &mut Cursor<'_>) -> Result<usize, Refused>
     ensures { N.Magnitudes here.old here.new result }
 {

@@ -1,8 +1,5 @@
 -- `tptp_leaves::terms::constant` meets its contract.
-use mathlib.Core.Path.{◌≡◌, ap}
-use mathlib.Core.List.{[], ◌∷◌}
-use lib.IntN.{ℤ, pos}
-use Rattle.std.proofs.Common.{rules, to_z, of_z, w32}
+use Rattle.std.proofs.Common.{rules}
 use Rattle.model.specs.Tree.{constant, encode_term}
 use Rattle.model.specs.TptpReading.{give, onwards, ◌>>=◌}
 use Rattle.laws.specs.Answer.{passed_on}
@@ -16,9 +13,8 @@ pub returns : goal.returns
 unfolding give encode_term ◌>>=◌ onwards
 returns c =
     let k = c.in_ok-number.number in
-    let back : k ≡ to_z w32 (of_z w32 k) = search rules in
     record {
       what = constant k;
       reads = record { moved = c.in_ok-number.ensures.0.moved; reads = rw c.in_ok-number.ensures.0.reads };
-      holds = ap (λ (n : ℤ). pos 0 ∷ n ∷ []) back;
+      holds = search rules;
     }

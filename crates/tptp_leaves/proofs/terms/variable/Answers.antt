@@ -1,8 +1,5 @@
 -- `tptp_leaves::terms::variable` meets its contract.
-use mathlib.Core.Path.{◌≡◌, ap}
-use mathlib.Core.List.{[], ◌∷◌}
-use lib.IntN.{ℤ, pos}
-use Rattle.std.proofs.Common.{rules, to_z, w32}
+use Rattle.std.proofs.Common.{rules}
 use Rattle.model.specs.Tree.{variable, encode_term}
 use Rattle.model.specs.TptpReading.{give, onwards, ◌>>=◌}
 use Rattle.laws.specs.Answer.{passed_on}
@@ -16,9 +13,8 @@ pub returns : goal.returns
 unfolding give encode_term ◌>>=◌ onwards
 returns c =
     let x = c.in_ok-number.number in
-    let back : pos x ≡ to_z w32 x = search rules in
     record {
       what = variable x;
       reads = record { moved = c.in_ok-number.ensures.0.moved; reads = rw c.in_ok-number.ensures.0.reads };
-      holds = ap (λ (n : ℤ). pos 1 ∷ n ∷ []) back;
+      holds = search rules;
     }
