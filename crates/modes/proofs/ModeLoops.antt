@@ -4,7 +4,7 @@ use Prim.Native.Nat.{ℕ, ◌+◌, ◌≤◌, ◌<◌}
 use native.Mathlib.Omega.{arith}
 use mathlib.Core.Path.{◌≡◌, refl, sym, ap, ◌∙◌, subst, fun_ext}
 use mathlib.Core.Bool.{Bool, true, false, ◌&&◌}
-use Rattle.std.specs.Prelude.{Result, Ok, Err, cond}
+use Rattle.std.specs.Prelude.{Result, Ok, Err}
 use Rattle.std.proofs.lemmas.Result.{IfOk-at_ok}
 use Rattle.model.specs.declared.Refusal.{Refusal}
 use Rattle.model.specs.declared.Refused.{Refused}
@@ -19,7 +19,7 @@ use Rattle.policies.specs.Standing.{Here, HereAll}
 use Rattle.policies.proofs.Standing.{first-left, none_left}
 use Rattle.modes.specs.declared.marks.Marks.{Marks}
 use Rattle.modes.specs.declared.mode.Bound.{Bound}
-use Rattle.modes.specs.Mode.{set_of, Joint, told, Came, Binds, bindings_of}
+use Rattle.modes.specs.Mode.{set_of, told, Came, Binds}
 use Rattle.modes.proofs.ModeTerms.{and-true}
 
 -- what stands where a walk passed
@@ -44,57 +44,54 @@ meets_one b f g (refused q p) e = refl
 meets_one b f g (passed rest) e =
     ap passed (fun_ext (λ x. and_assoc (b x) (f x) (rest x) ∙ ap (λ (c : Bool). c && rest x) (sym (e x))))
 
--- what comes of the operands left: of those of an all-of from the set so far; of those of an any-of from the set of the start, and
--- then the variables that they and the set so far have
-unfoldable pub Left : (every : Bool) (table : Words) (scope : ℕ) (bound set : Variables) (ts : Trees) (at : ℕ) → Outcome Variables
-Left true table scope bound set ts at = bindings_all ts table set scope at
-Left false table scope bound set ts at = meets set (bindings_any ts table bound scope at)
+-- the operands of an all-of, one at a time: each hands its set to the next
+module _ (table : Words) (scope : ℕ) (b : Variables) where
+  abbrev pub All : Trees → ℕ → Outcome Variables
+  All ts at = bindings_all ts table b scope at
 
-module _ (table : Words) (scope : ℕ) where
-  pub left_none : (every : Bool) (bound set : Variables) (at : ℕ) → Left every table scope bound set nil at ≡ passed set
-  unfolding Left meets bindings_all bindings_any ◌>>=◌
-  left_none true bound set at = refl
-  left_none false bound set at = ap passed (fun_ext (λ x. sym (and-true (set x))))
+  pub all_none : (at : ℕ) → All nil at ≡ passed b
+  unfolding bindings_all
+  all_none at = refl
 
-  -- the first of all operands
-  pub first-passed :
-      (every : Bool) (bound : Variables) (set : Variables) (t : Tree) (us : Trees) (at : ℕ) →
-      bindings t table bound scope at ≡ passed set →
-      bindings_of every (cons t us) table bound scope at ≡ Left every table scope bound set us (at + size t)
-  unfolding Left meets bindings_of bindings_all bindings_any ◌>>=◌
-  first-passed true bound set t us at e = rw e
-  first-passed false bound set t us at e = rw e
+  module _ (t : Tree) (us : Trees) (at : ℕ) where
+    pub all_one : {c : Variables} → bindings t table b scope at ≡ passed c → All (cons t us) at ≡ bindings_all us table c scope (at + size t)
+    unfolding bindings_all ◌>>=◌
+    all_one e = rw e
 
-  pub first-refused :
-      (every : Bool) (bound : Variables) (t : Tree) (us : Trees) (at : ℕ) {q : Refusal} {p : ℕ} →
-      bindings t table bound scope at ≡ refused q p →
-      bindings_of every (cons t us) table bound scope at ≡ refused q p
-  unfolding bindings_of bindings_all bindings_any ◌>>=◌
-  first-refused true bound t us at e = rw e
-  first-refused false bound t us at e = rw e
+    pub all-no : {q : Refusal} {p : ℕ} → bindings t table b scope at ≡ refused q p → All (cons t us) at ≡ refused q p
+    unfolding bindings_all ◌>>=◌
+    all-no e = rw e
 
-  -- one operand more, handed a start
-  pub next-passed :
-      (every : Bool) (bound set start child joint : Marks) →
-      start ≡ cond every set bound →
-      Joint every set child joint →
-      (t : Tree) (us : Trees) (at : ℕ) →
-      bindings t table (set_of start) scope at ≡ passed (set_of child) →
-      Left every table scope (set_of bound) (set_of set) (cons t us) at ≡ Left every table scope (set_of bound) (set_of joint) us (at + size t)
-  unfolding Left meets bindings_all bindings_any ◌>>=◌
-  next-passed true bound set start child joint from is t us at e = rw (← from, e, is.kept refl)
-  next-passed false bound set start child joint from is t us at e =
-      rw (← from, e) (meets_one (set_of set) (set_of child) (set_of joint) (bindings_any us table (set_of start) scope (at + size t)) (is.common refl))
+-- those of an any-of: behind the first, a set meets what the others bind
+module _ (table : Words) (scope : ℕ) (b : Variables) where
+  abbrev pub Any : Trees → ℕ → Outcome Variables
+  Any ts at = bindings_any ts table b scope at
 
-  pub next-refused :
-      (every : Bool) (bound set start : Marks) →
-      start ≡ cond every set bound →
-      (t : Tree) (us : Trees) (at : ℕ) {q : Refusal} {p : ℕ} →
-      bindings t table (set_of start) scope at ≡ refused q p →
-      Left every table scope (set_of bound) (set_of set) (cons t us) at ≡ refused q p
-  unfolding Left meets bindings_all bindings_any ◌>>=◌
-  next-refused true bound set start from t us at e = rw (← from, e)
-  next-refused false bound set start from t us at e = rw (← from, e)
+  abbrev pub Met : Variables → Trees → ℕ → Outcome Variables
+  Met set ts at = meets set (bindings_any ts table b scope at)
+
+  pub any_none : (set : Variables) (at : ℕ) → Met set nil at ≡ passed set
+  unfolding meets bindings_any ◌>>=◌
+  any_none set at = ap passed (fun_ext (λ x. sym (and-true (set x))))
+
+  module _ (t : Tree) (us : Trees) (at : ℕ) where
+    pub any-first : {c : Variables} → bindings t table b scope at ≡ passed c → Any (cons t us) at ≡ Met c us (at + size t)
+    unfolding meets bindings_any ◌>>=◌
+    any-first e = rw e
+
+    pub any-first-no : {q : Refusal} {p : ℕ} → bindings t table b scope at ≡ refused q p → Any (cons t us) at ≡ refused q p
+    unfolding bindings_any ◌>>=◌
+    any-first-no e = rw e
+
+    pub any_one :
+        (set c joint : Variables) → ((x : ℕ) → joint x ≡ (set x && c x)) →
+        bindings t table b scope at ≡ passed c → Met set (cons t us) at ≡ Met joint us (at + size t)
+    unfolding bindings_any ◌>>=◌
+    any_one set c joint both e = rw e (meets_one set c joint (bindings_any us table b scope (at + size t)) both)
+
+    pub any-no : (set : Variables) {q : Refusal} {p : ℕ} → bindings t table b scope at ≡ refused q p → Met set (cons t us) at ≡ refused q p
+    unfolding meets bindings_any ◌>>=◌
+    any-no set e = rw e
 
 module _ (table words : Words) (above scope : ℕ) where
   abbrev Stand : ℕ → Trees → ℕ → Type 0
@@ -110,8 +107,8 @@ module _ (table words : Words) (above scope : ℕ) where
         (ts : Trees) (end : ℕ) → Stand at ts end → count ts ≡ n →
         (rest : Trees) × Stand next rest end × (count rest + i ≡ n) × (o ts ≡ left rest next)
 
-  pub none-yet : (n at : ℕ) (o : Trees → Outcome Variables) → Come n at o 0 at (λ ts next. o ts)
-  none-yet n at o = record { comes = λ ts end s e. (ts, s, omega arith, refl) }
+  pub none-yet : {n at : ℕ} (left : Trees → ℕ → Outcome Variables) → Come n at (λ ts. left ts at) 0 at left
+  none-yet left = record { comes = λ ts end s e. (ts, s, omega arith, refl) }
 
 module _ {table words : Words} {above scope n at : ℕ} {o : Trees → Outcome Variables} {i next : ℕ} {left : Trees → ℕ → Outcome Variables}
     (come : Come table words above scope n at o i next left) where

@@ -20,7 +20,7 @@ use Rattle.model.specs.declared.Refused.{Refused}
 use Rattle.modes.specs.declared.marks.Marks.{Marks}
 use Rattle.modes.specs.declared.mode.Bound.{Bound}
 use Rattle.policies.proofs.Standing.{has}
-use Rattle.modes.specs.Mode.{set_of, Binds, BindsJoin, bindings_of}
+use Rattle.modes.specs.Mode.{set_of, Binds}
 
 -- the tags that the walk of a restriction has no case for
 abbrev pub Other : (tag : Tag) → Type 0
@@ -61,17 +61,13 @@ module _ (table words : Words) (above scope at : ℕ) where
 
     pub from-join :
         (b : Bool) → Tag.join b ≡ tag_of (word words at) →
-        ((ts : Trees) (next : ℕ) → Nodes table words restriction (above + 1) scope (at + 2) ts next → count ts ≡ value words (at + 1) → BindsJoin b ts table v scope (at + 2) next r) →
+        ((ts : Trees) (next : ℕ) → Nodes table words restriction (above + 1) scope (at + 2) ts next → count ts ≡ value words (at + 1) → Binds (join b ts) table v scope at next r) →
         Comes
-    unfolding value under bindings bindings_of
+    unfolding value under
     from-join b e h c next node =
         let (ts, is) = has table words restriction above scope at (Tag.join b) e c next node in
         let a = join-parts table words restriction above scope at next b ts (subst (λ (t : Tree). Restricts t next) is node) in
-        subst (λ (t : Tree). Binds t table v scope at next r) (sym is) (go b ts next (h ts next a.children (sym (ap nat_abs a.number))))
-      where
-        go : (b : Bool) (ts : Trees) (next : ℕ) → BindsJoin b ts table v scope (at + 2) next r → Binds (join b ts) table v scope at next r
-        go true ts next came = came
-        go false ts next came = came
+        subst (λ (t : Tree). Binds t table v scope at next r) (sym is) (h ts next a.children (sym (ap nat_abs a.number)))
 
     pub from_some :
         Tag.some ≡ tag_of (word words at) →

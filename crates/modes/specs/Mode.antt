@@ -1,5 +1,5 @@
 -- What the code's sets of variables and its walks say, as those of model.
-use Rattle.std.specs.Prelude.{ℕ, ◌+◌, ◌≡◌, Bool, true, false, ◌||◌, ◌&&◌, List, replicate, refl, get_or, ltb, Result, Ok, Err}
+use Rattle.std.specs.Prelude.{ℕ, ◌+◌, ◌≡◌, Bool, false, ◌||◌, List, replicate, refl, get_or, ltb, Result, Ok, Err}
 use Rattle.std.specs.Result.{IfOk}
 use Rattle.model.specs.Words.{Words}
 use Rattle.model.specs.declared.Refusal.TheVariants.{Mode}
@@ -24,11 +24,6 @@ set_of set = marked set.marks
 abbrev pub none : Marks
 none = record { marks = replicate 16 false; sixteen = refl }
 
--- the set behind an operand of an all-of (true) or any-of: its own, or the variables bound by all so far
-pub record Joint (every : Bool) (before own joint : Marks) : Type 0 where
-  pub kept : every ≡ true → joint ≡ own
-  pub common : every ≡ false → (x : ℕ) → set_of joint x ≡ (set_of before x && set_of own x)
-
 -- a set with the variables among terms
 unfoldable pub with_terms : Variables → List Term → Variables
 with_terms bound ts = λ x. bound x || any (is_variable x) ts
@@ -46,13 +41,11 @@ pub record Came (o : Outcome Variables) (next : ℕ) (r : Result Bound Refused) 
 abbrev pub Binds : (c : Tree) (table : Words) (b : Variables) (scope at next : ℕ) (r : Result Bound Refused) → Type 0
 Binds c table b scope at next r = Came (bindings c table b scope at) next r
 
--- question 7 of the operands of an all-of (true) or any-of
-unfoldable pub bindings_of : Bool → Trees → Words → Variables → ℕ → ℕ → Outcome Variables
-bindings_of true ts table bound next at = bindings_all ts table bound next at
-bindings_of false ts table bound next at = bindings_any ts table bound next at
+abbrev pub BindsAll : (ts : Trees) (table : Words) (b : Variables) (scope at next : ℕ) (r : Result Bound Refused) → Type 0
+BindsAll ts table b scope at next r = Came (bindings_all ts table b scope at) next r
 
-abbrev pub BindsJoin : (every : Bool) (ts : Trees) (table : Words) (b : Variables) (scope at next : ℕ) (r : Result Bound Refused) → Type 0
-BindsJoin every ts table b scope at next r = Came (bindings_of every ts table b scope at) next r
+abbrev pub BindsAny : (ts : Trees) (table : Words) (b : Variables) (scope at next : ℕ) (r : Result Bound Refused) → Type 0
+BindsAny ts table b scope at next r = Came (bindings_any ts table b scope at) next r
 
 -- what a walk of formulas says: that the mode rule passed, and the index behind them; or where it was refused
 unfoldable pub told_modes : Outcome (Unit {0}) → ℕ → Result ℕ Refused

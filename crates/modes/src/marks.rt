@@ -12,12 +12,12 @@ pub struct Marks {
 }
 
 impl Marks {
-    ghost use Rattle.std.specs.Prelude.{true, ◌&&◌, not, cond, eqb, ltb, ℕ, ◌+◌, ◌^◌, ◌≤◌, ◌<◌};
+    ghost use Rattle.std.specs.Prelude.{true, ◌&&◌, not, eqb, ltb, ℕ, ◌+◌, ◌^◌, ◌≤◌, ◌<◌};
     ghost use Rattle.model.specs.Lists.{all, span};
     ghost use Rattle.model.specs.Mode.{is_bound, inputs_bound};
     ghost use Rattle.model.specs.Reading.{term_at, in_scope};
     ghost use Rattle.policies.specs.Standing.{terms_at};
-    ghost use Rattle.modes.specs.Mode.{set_of, Joint, with_terms};
+    ghost use Rattle.modes.specs.Mode.{set_of, with_terms};
 
     // No variable.
     pub const NONE: Marks = Marks { marks: [false; 16] };
@@ -60,7 +60,7 @@ impl Marks {
     }
 
     // The variables of two sets.
-    fn both(self, other: Marks) -> Marks
+    pub fn both(self, other: Marks) -> Marks
         ensures { (x : ℕ) → set_of result x ≡ (set_of self x && set_of other x) }
     {
         let mut marks = self.marks;
@@ -70,21 +70,6 @@ impl Marks {
             }
         }
         Marks { marks }
-    }
-
-    // What an operand of an all-of (true) or any-of is handed: the set behind the one before, or that of the start.
-    // By an if, here and in `joined`, since the policy says which: closures would be chosen by an if too.
-    pub fn handed(self, every: bool, start: Marks) -> Marks
-        ensures { result ≡ cond every self start }
-    {
-        if every { self } else { start }
-    }
-
-    // The set behind an operand: its own, or the variables bound by all so far.
-    pub fn joined(self, every: bool, before: Marks) -> Marks
-        ensures { Joint every before self result }
-    {
-        if every { self } else { before.both(self) }
     }
 
     // The term at an index is a constant, or a variable of the set.

@@ -9,7 +9,7 @@ ghost use Rattle.model.specs.Level as L;
 ghost use Rattle.tables.specs.Checked.{outcome};
 ghost use Rattle.policies.specs.Node.{as_role};
 ghost use Rattle.policies.specs.Standing.{HereTerms, Here, HereAll};
-ghost use Rattle.modes.specs.Mode.{set_of, Binds, BindsJoin};
+ghost use Rattle.modes.specs.Mode.{set_of, Binds, BindsAll, BindsAny};
 ghost use Rattle.modes.specs.Mode.{HereBoth, Asks, AsksAll, AsksBoth};
 ghost use Rattle.model.specs.Tree.{Term, Tree, Trees, atom, compare, some, count};
 ghost use Rattle.laws.specs.Reading.Parts.{AtomParts, CompareParts};
@@ -80,34 +80,56 @@ fn bind_compare(words: &[i32], bound: Marks, at: usize) -> Result<Bound, Refused
     })
 }
 
-// The operands of a join, from left to right: an all-of (true) hands each what the one before binds, an any-of the set of the start.
-#[cycle(bind_bind_join_bind_some)]
-fn bind_join(
+// The operands of an all-of, from left to right.
+// Two functions, here and for an any-of: in one loop by the kind, the sets are taken apart mark by mark at each turn.
+#[cycle(bind_bind_all_bind_any_bind_some)]
+fn bind_all(
     table: &[i32],
     words: &[i32],
     bound: Marks,
-    every: bool,
+    depth: Depth,
+    n: usize,
+    at: usize,
+) -> Result<Bound, Refused>
+    requires { HereAll table.now words.now L.Role.restriction depth.level depth.scope n at }
+    ensures { (ts : Trees) (next : ℕ) → Nodes table.now words.now L.Role.restriction depth.level depth.scope at ts next → count ts ≡ n → BindsAll ts table.now (set_of bound) depth.scope at next result }
+{
+    let mut set = bound;
+    let mut next = at;
+    for _ in 0..n {
+        let child = bind(table, words, set, depth, next)?;
+        set = child.set;
+        next = child.next;
+    }
+    Ok(Bound { set, next })
+}
+
+// The operands of an any-of, each from the same set: the variables bound by all of them.
+#[cycle(bind_bind_all_bind_any_bind_some)]
+fn bind_any(
+    table: &[i32],
+    words: &[i32],
+    bound: Marks,
     depth: Depth,
     n: usize,
     at: usize,
 ) -> Result<Bound, Refused>
     requires { (1 ≤ n) × HereAll table.now words.now L.Role.restriction depth.level depth.scope n at }
-    ensures { (ts : Trees) (next : ℕ) → Nodes table.now words.now L.Role.restriction depth.level depth.scope at ts next → count ts ≡ n → BindsJoin every ts table.now (set_of bound) depth.scope at next result }
+    ensures { (ts : Trees) (next : ℕ) → Nodes table.now words.now L.Role.restriction depth.level depth.scope at ts next → count ts ≡ n → BindsAny ts table.now (set_of bound) depth.scope at next result }
 {
     let first = bind(table, words, bound, depth, at)?;
     let mut set = first.set;
     let mut next = first.next;
     for _ in 1..n {
-        let start = set.handed(every, bound);
-        let child = bind(table, words, start, depth, next)?;
-        set = child.set.joined(every, set);
+        let child = bind(table, words, bound, depth, next)?;
+        set = set.both(child.set);
         next = child.next;
     }
     Ok(Bound { set, next })
 }
 
 // "Some": its variable is bound by its child, and then dropped.
-#[cycle(bind_bind_join_bind_some)]
+#[cycle(bind_bind_all_bind_any_bind_some)]
 fn bind_some(
     table: &[i32],
     words: &[i32],
@@ -133,7 +155,7 @@ fn bind_some(
 }
 
 // The variables bound after a restriction, from those bound before it.
-#[cycle(bind_bind_join_bind_some)]
+#[cycle(bind_bind_all_bind_any_bind_some)]
 pub fn bind(
     table: &[i32],
     words: &[i32],
@@ -154,7 +176,11 @@ pub fn bind(
                 level: depth.level + 1,
                 scope: depth.scope,
             };
-            bind_join(table, words, bound, every, below, n, at + 2)
+            if every {
+                bind_all(table, words, bound, below, n, at + 2)
+            } else {
+                bind_any(table, words, bound, below, n, at + 2)
+            }
         }
         Tag::Some => bind_some(table, words, bound, depth, at),
         _ => Ok(Bound {

@@ -25,11 +25,11 @@ use Rattle.laws.specs.Reading.Trees.{ask_tree, ask_trees}
 use Rattle.tables.specs.Checked.{outcome}
 use Rattle.std.specs.Prelude.{Result, Ok, Err}
 use Rattle.model.specs.declared.Refused.{Refused}
-use Rattle.modes.specs.Mode.{set_of, bindings_of}
+use Rattle.modes.specs.Mode.{set_of}
 use Rattle.tptp_tokens.specs.Laying.{most_words, Laid}
 use Rattle.modes.specs.declared.marks.Marks.{Marks}
 use Rattle.tptp_state.specs.Told.{told, Modes, Told, Entered, Handed, Joined}
-use Rattle.tptp_reading.specs.Formula.{ModesAll, ToldAll}
+use Rattle.tptp_reading.specs.Formula.{bindings_of, ModesAll, ToldAll}
 use Rattle.tptp_state.specs.declared.state.State.{State}
 use Rattle.tptp_binders.proofs.TuplesLaws.{sets-append}
 use Rattle.tptp_state.proofs.StateLaws.{asked-passed}

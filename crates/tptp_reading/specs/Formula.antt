@@ -8,7 +8,7 @@ use Rattle.model.specs.Answer.{Outcome, refused, ◌>>=◌}
 use Rattle.model.specs.Tree.{Tree, Trees, nil, cons, encode_all}
 use Rattle.model.specs.Level.{Role, restriction}
 use Rattle.model.specs.Reading.{is_formula}
-use Rattle.model.specs.Mode.{ask_modes_all}
+use Rattle.model.specs.Mode.{Variables, bindings_all, bindings_any, ask_modes_all}
 use Rattle.model.specs.TptpReading as R
 use Rattle.model.specs.TptpReading.{Reader, Readers, give, stop, token, more, trees, joining, excluding, no_readers, readers}
 use Rattle.laws.specs.Reading.Trees.{ask_trees}
@@ -16,7 +16,6 @@ use Rattle.tables.specs.Checked.{outcome}
 use Rattle.text.specs.declared.cursor.Cursor.{Cursor}
 use Rattle.tptp_tokens.specs.Steps.{from, Value, Valued}
 use Rattle.tptp_tokens.specs.Laying.{most_words}
-use Rattle.modes.specs.Mode.{bindings_of}
 use Rattle.modes.specs.declared.marks.Marks.{Marks}
 use Rattle.tptp_state.specs.Told.{Passed, told, Ready, Told}
 use Rattle.tptp_state.specs.declared.state.State.{State}
@@ -64,6 +63,10 @@ pub record LeafByte (formula : Bool) (text : Text) : Type 0 where
   pub quantifier : (b : ℕ) → slice_get text 0 ≡ Some b → (eqb b exclamation && formula) ≡ false
 
 -- question 7 of the operands of an all-of (true) or any-of
+unfoldable pub bindings_of : Bool → Trees → Words → Variables → ℕ → ℕ → Outcome Variables
+bindings_of true ts table bound next at = bindings_all ts table bound next at
+bindings_of false ts table bound next at = bindings_any ts table bound next at
+
 abbrev pub ModesAll : (formula b : Bool) (ts : Trees) (table : Words) (scope : ℕ) (s r : State) → Type 0
 ModesAll true b ts table scope s r = outcome r.moded ≡ (outcome s.moded >>= λ _. ask_modes_all ts table scope s.words)
 ModesAll false b ts table scope s r =

@@ -203,16 +203,21 @@ impl State {
     }
 
     // What an operand is handed: the marks behind the one before, or those of the start.
+    // By an if, here and in `join`, since the text says which: closures would be chosen by an if too.
     pub fn hand(&mut self, every: bool, start: Marks)
         ensures { T.Handed every start self.old self.new }
     {
-        self.set = self.set.handed(every, start);
+        if !every {
+            self.set = start;
+        }
     }
 
     // The marks behind an operand: its own, or those of the variables bound by all so far.
     pub fn join(&mut self, every: bool, before: Marks)
         ensures { T.Joined every before self.old self.new }
     {
-        self.set = self.set.joined(every, before);
+        if !every {
+            self.set = before.both(self.set);
+        }
     }
 }
