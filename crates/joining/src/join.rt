@@ -115,7 +115,8 @@ impl Join {
         }
     }
 
-    // The answer of the join.
+    // The answer of the join. The length of the buffer stays a clause, here and in the walks that come to it: in a loop of calls that call one
+    // another each child is lent the rest of the buffer, and a struct with the bound can't be lent so.
     pub fn finish(self, out: &mut [i32]) -> Reduced
         requires { (length out.old ≤ 1048576)
             × ((b : Bool) × (ts : Trees) × (need : ℕ) × (places : ℕ) × Joining b ts need places out.old self) }

@@ -24,8 +24,7 @@ use Rattle.laws.specs.Words.Standing.{stands-left, stands_taken, three_stand}
 use Rattle.trees.specs.Grown.{Grown}
 use Rattle.trees.proofs.Forming.{node_grown}
 use Rattle.words.specs.Laying.{laid}
-use Rattle.words.proofs.LayingLaws.{laid-long, laid-laid, laid_word, laid-front, Filled, fill_start, fill_more, fill_end, fill-room}
-use Rattle.words.proofs.LayingLaws.{fill-long}
+use Rattle.words.proofs.LayingLaws.{laid-long, laid-laid, laid_word, laid-front, Filled, fill_start, fill_more, fill_end}
 use Rattle.instances.specs.Instances.{Instanced}
 use Rattle.instances.proofs.ChosenTuples.{instance_count, instance_tuple}
 use Rattle.environments.proofs.ListsLaws.{gather_append}
@@ -81,9 +80,6 @@ module _
       (subst (λ (rest : Words). Filled old to whole rest 0 old) (sym (ap₂ (tuple_words scratch v) here count)) start)
 
   module _ (i : ℕ) (buffer : Words) (c : Copied scratch v from k old to i buffer) where
-    pub copied_long : length buffer ≡ length old
-    copied_long = fill-long old to _ _ (v * i) buffer c
-
     module _ (more : i < k) where
       -- the next tuple
       next-tuple : tuple_words scratch v (from + 17 * i) (k - i) ≡ take v (drop (from + 17 * i) scratch) ++ tuple_words scratch v (from + 17 * (i + 1)) (k - (i + 1))
@@ -96,12 +92,6 @@ module _
 
       tuple-long : length (take v (drop (from + 17 * i) scratch)) ≡ v
       tuple-long = length-take-le v (drop (from + 17 * i) scratch) (rw length-drop (omega arith))
-
-      -- has room
-      pub copied_room : to + v * i + v ≤ length old
-      copied_room =
-          let tail = tuple_words scratch v (from + 17 * (i + 1)) (k - (i + 1)) in
-          omega (arith, fill-room old to _ _ (v * i) buffer c, ap length next-tuple, length-append (take v (drop (from + 17 * i) scratch)) tail, tuple-long)
 
       pub copied_more :
           (at : ℕ) (after : Words) →

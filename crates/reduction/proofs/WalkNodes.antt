@@ -5,9 +5,9 @@ use mathlib.Core.Path.{◌≡◌, refl, sym, ap, ◌∙◌, subst}
 use mathlib.Core.Bool.{Bool, true, true≢false}
 use lib.ListN.{length}
 use lib.IntN.{nat_abs}
-use Rattle.model.specs.Words.{Words, word, value, scope_limit}
+use Rattle.model.specs.Words.{Words, value, scope_limit}
 use Rattle.model.specs.Log.{rows}
-use Rattle.model.specs.Tag.{Tag, tag_of}
+use Rattle.model.specs.Tag.{Tag}
 use Rattle.model.specs.Tree.{Tree, Trees, join, count}
 use Rattle.model.specs.Level.{Role, restriction, formula, operand, under, quantifier_cost, cost}
 use Rattle.model.specs.Reading.{is_formula, own}
@@ -15,8 +15,7 @@ use Rattle.model.specs.Reduction.{reduce, need}
 use Rattle.laws.specs.Reading.Formed.{Formed}
 use Rattle.laws.specs.Reading.Nodes.{Node, Nodes}
 use Rattle.laws.specs.Reading.Parts.{plain-parts, atom-parts, compare-parts, join-parts}
-use Rattle.policies.specs.Node.{Sized}
-use Rattle.policies.specs.Standing.{Here, HereAll}
+use Rattle.policies.specs.Standing.{HereAll}
 use Rattle.policies.proofs.Standing.{has}
 use Rattle.policies.proofs.Stood.{Stood}
 use Rattle.environments.specs.declared.environment.Environment.{Environment}

@@ -163,17 +163,7 @@ fn quantifier(
             next: at,
         };
     };
-    let worked = instances(
-        log,
-        words,
-        scratch,
-        out,
-        outer,
-        kind,
-        level,
-        v,
-        placed,
-    );
+    let worked = instances(log, words, scratch, out, outer, kind, level, v, placed);
     let join = worked.join;
     if join.state == State::Short {
         return Walked {
@@ -183,15 +173,7 @@ fn quantifier(
     }
     let next = worked.next;
     let answer = conclude::conclude(
-        log.table,
-        words,
-        scratch,
-        out,
-        outer,
-        join,
-        at,
-        next,
-        placed,
+        log.table, words, scratch, out, outer, join, at, next, placed,
     );
     Walked { answer, next }
 }
@@ -233,9 +215,7 @@ pub fn formula(
             let n = words::value(words, at + 1);
             children(log, words, scratch, out, outer, b, level, n, next)
         }
-        Tag::Quantifier(b) => {
-            quantifier(log, words, scratch, out, outer, b, level, at)
-        }
+        Tag::Quantifier(b) => { quantifier(log, words, scratch, out, outer, b, level, at) }
         _ => Walked {
             answer: Reduced::Plain(false),
             next,

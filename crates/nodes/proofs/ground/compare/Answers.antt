@@ -4,7 +4,7 @@ use Rattle.nodes.proofs.GroundLaws.{compare_asks, reduces_compare}
 use Rattle.nodes.proofs.ground.compare.Goals as goal
 
 pub compare-requires : goal.compare-requires
-compare-requires c = let a = c.args in compare_asks a.words.now a.holds a.at (omega arith) c.requires
+compare-requires c = compare_asks _ _ _ (omega arith) c.requires
 
 pub returns : goal.returns
-returns c = let a = c.args in reduces_compare a.words.now a.environment a.holds a.at c.compare.result c.compare.ensures
+returns c = reduces_compare _ _ _ _ _ c.compare.ensures

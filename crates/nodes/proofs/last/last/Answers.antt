@@ -1,7 +1,6 @@
 -- `nodes::last::last` meets its contract: the front words and the two copies are laid one behind another, and are the words of
 -- the quantifier with the tuples found.
 use native.Mathlib.Omega.{arith}
-use lib.ListN.{length}
 use Rattle.nodes.proofs.LastLaws.{here_sizes, here_fronts, here-restriction, here-body, remains_long, remains_part}
 use Rattle.nodes.proofs.last.last.Goals as goal
 

@@ -10,9 +10,7 @@ use Rattle.nodes.proofs.Preparing.{prepare_short, prepare_inside, prepare_stood}
 use Rattle.nodes.proofs.prepare.prepare.Goals as goal
 
 pub invariant_of-depth-clause-levels : goal.invariant_of-depth-clause-levels
-invariant_of-depth-clause-levels c =
-    let a = c.args in
-    omega (arith, low a.log.now.table.now a.words.now restriction a.level (a.outer.now.scope + a.v) _ c.requires.2)
+invariant_of-depth-clause-levels c = omega (arith, low _ _ _ _ _ _ c.requires.2)
 
 pub list-requires : goal.list-requires
 list-requires c =
@@ -29,16 +27,16 @@ returns-in_err-to c =
     let places = length a.scratch.now / 17 in
     λ ρ d body o node.
     rw c.from_residual.ensures
-    (prepare_short a.outer.now.environment a.outer.now.scope places a.scratch.now _ _ c.if-places-lt1.false (omega arith) c.room.ensures c.store.ensures
-    a.log.now.table.now a.words.now a.log.now.rows.now a.level a.v a.at _ c.value-m.ensures _ _ c.list.ensures c.in_err-to.was ρ d body o node)
+    (prepare_short _ _ places a.scratch.now _ _ c.if-places-lt1.false (omega arith) c.room.ensures c.store.ensures
+    _ _ a.log.now.rows.now _ _ _ _ c.value-m.ensures _ _ c.list.ensures c.in_err-to.was ρ d body o node)
 
 pub instances-count-requires : goal.instances-count-requires
 instances-count-requires c =
     let a = c.args in
     let places = length a.scratch.now / 17 in
     let within =
-    prepare_inside a.outer.now.environment a.outer.now.scope places a.scratch.now _ _ c.if-places-lt1.false (omega arith) c.room.ensures c.store.ensures
-    a.log.now.table.now a.words.now a.log.now.rows.now a.level a.v a.at _ c.value-m.ensures _ _ c.list.ensures _ c.in_ok-to.was c.requires.2 in
+    prepare_inside _ _ places a.scratch.now _ _ c.if-places-lt1.false (omega arith) c.room.ensures c.store.ensures
+    _ _ a.log.now.rows.now _ _ _ _ c.value-m.ensures _ _ c.list.ensures _ c.in_ok-to.was c.requires.2 in
     let made = c.in_ok-to.to in
     let long = c.list.auto.scratch in
     let longer = c.store.auto.scratch in
@@ -48,6 +46,5 @@ pub returns : goal.returns
 returns c =
     let a = c.args in
     let places = length a.scratch.now / 17 in
-    prepare_stood a.outer.now.environment a.outer.now.scope places a.scratch.now _ _ c.if-places-lt1.false (omega arith) c.room.ensures c.store.ensures
-    a.log.now.table.now a.words.now a.log.now.rows.now a.level a.v a.at _ c.value-m.ensures _ _ c.list.ensures _ c.in_ok-to.was c.requires.0 _ _
-    c.instances-count.ensures
+    prepare_stood _ _ places a.scratch.now _ _ c.if-places-lt1.false (omega arith) c.room.ensures c.store.ensures
+    _ _ a.log.now.rows.now _ _ _ _ c.value-m.ensures _ _ c.list.ensures _ c.in_ok-to.was c.requires.0 _ _ c.instances-count.ensures

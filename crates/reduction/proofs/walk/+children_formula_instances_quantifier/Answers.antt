@@ -2,14 +2,13 @@
 -- one more for `children` and `instances`, which call `formula` at their own level, and two for `quantifier`, which calls
 -- `instances` there; `formula` calls each of them a level down.
 -- The loops: the children or instances passed are in the state of the join.
-use Prim.Native.Nat.{ℕ, ◌+◌, ◌*◌, ◌-◌, ◌/◌}
+use Prim.Native.Nat.{ℕ, ◌+◌, ◌-◌, ◌/◌}
 use native.Mathlib.Omega.{arith}
 use mathlib.Core.Path.{◌≡◌, refl, sym, ap, ◌∙◌, subst}
 use mathlib.Core.Bool.{Bool, true}
-use lib.ListN.{length}
 use Rattle.model.specs.Level as L
 use Rattle.model.specs.Reading.{is_formula}
-use Rattle.policies.specs.Node.{as_tag, as_role}
+use Rattle.policies.specs.Node.{as_tag}
 use Rattle.policies.specs.declared.node.Tag.{Tag}
 use Rattle.policies.specs.declared.node.Tag.TheVariants.{Plain, Atom, Compare, Join, Quantifier, Some, Unused}
 use Rattle.model.specs.Tag as T
@@ -17,8 +16,7 @@ use mathlib.Core.Logic.{◌⊎◌, inl, inr, ⊎_elim}
 use Rattle.policies.specs.Standing.{Here}
 use Rattle.policies.proofs.Standing.{low}
 use Rattle.policies.proofs.Stood.{stood, formula-kind, level-fits, own-fits, next_in, level_in, level_down}
-use Rattle.reduction.specs.Walk.{ReducesNode}
-use Rattle.joining.proofs.Lending.{rest, rest-long, lent_long}
+use Rattle.joining.proofs.Lending.{rest-long, lent_long}
 use Rattle.reduction.proofs.WalkChildren.{children-start, children-within, children-here, children-short}
 use Rattle.reduction.proofs.WalkChildren.{children_adding, children-next, children_end}
 use denote.Enum.Bare.{same_true, same_false}
@@ -31,7 +29,6 @@ use Rattle.reduction.proofs.WalkInstances.{kept_lent, instances_adding, instance
 use Rattle.reduction.proofs.WalkInstances.{instances-short, instances-within, instances_end, instances-none, instances-tree}
 use Rattle.reduction.proofs.WalkQuantifier.{quantifier-short, quantifier-whole, concluding, body-here, restriction-here}
 use Rattle.reduction.proofs.WalkQuantifier.{variables-few, first-within}
-use Rattle.laws.specs.Reading.Nodes.{Node}
 use Rattle.reduction.proofs.WalkQuantifier.{prepared_short, prepared_stood, worked_out}
 use Rattle.reduction.proofs.walk.+children_formula_instances_quantifier.Goals as goal
 

@@ -1,5 +1,4 @@
 -- `residuals::residual::walk_policy` meets its contract, from what the walk of the root ensures.
-use native.Mathlib.Omega.{arith}
 use mathlib.Core.Path.{refl}
 use mathlib.Core.List.{[]}
 use Rattle.model.specs.Reading.{is_formula}
