@@ -1,14 +1,14 @@
 -- `listing::restriction::list_atom` meets its contract. The invariant: what the environments before the i-th gave stands from the
 -- first free place on.
-use Prim.Native.Nat.{ℕ, ◌+◌, ◌*◌}
+use Prim.Native.Nat.{ℕ, ◌+◌}
 use native.Mathlib.Omega.{arith}
-use mathlib.Core.Path.{ap, ap₂, ◌∙◌}
+use mathlib.Core.Path.{ap₂, ◌∙◌}
 use Rattle.model.specs.Lists.{gather}
 use Rattle.model.specs.Log.{rows}
 use Rattle.model.specs.Listing.{matches}
 use Rattle.policies.specs.Standing.{terms_at}
 use Rattle.listing.proofs.MapLaws.{map-start, map_read, map-step}
-use Rattle.listing.proofs.MapRoom.{map_placed, map_ran_out, map_stood, at-list}
+use Rattle.listing.proofs.MapRoom.{map_ran_out, at-list}
 use Rattle.listing.proofs.restriction.list_atom.Goals as goal
 
 pub loop-i-init : goal.loop-i-init
@@ -18,17 +18,6 @@ loop-i-init c =
       λ es h. map-start
           (λ e. matches (rows a.log.now.rows.now) c.value-predicate.result
           (terms_at a.words.now (a.at + 3) c.value-n.result) e) es a.room.base a.scratch.now,
-    )
-
-pub match_rows-requires : goal.match_rows-requires
-match_rows-requires c =
-    let (made, far) = c.loop-i.invariant in
-    let a = c.args.room in (
-      c.args.log.now.linked,
-      omega (arith, c.requires.0.0),
-      omega (arith, a.counted, a.within),
-      omega (arith, c.requires.1.0),
-      omega (arith, c.requires.1.1),
     )
 
 pub returns-in_err-made : goal.returns-in_err-made
@@ -56,14 +45,4 @@ loop-i-preserved c =
           let n = h.long in
           let adds = c.in_ok-made.ensures.adds _ (c.read-environment.ensures _ (map_read (far es h) a.room.from (omega arith) h.listed (omega arith))) in
           map-step (far es h) _ _ (omega arith) adds.came.count adds.came.listed adds.front,
-    )
-
-pub returns : goal.returns
-returns c =
-    let a = c.args in
-    let (made, far) = c.loop-i.invariant in (
-      map_placed c.filled.ensures (ap (λ (n : ℕ). a.at + 3 + 2 * n) c.value-n.ensures),
-      λ es h. at-list
-          (ap₂ (λ (p n : ℕ). gather (matches (rows a.log.now.rows.now) p (terms_at a.words.now (a.at + 3) n)) es) c.value-predicate.ensures c.value-n.ensures)
-          (map_stood (far es h) made h (omega arith) c.loop-i.auto.scratch c.filled.ensures),
     )
