@@ -3,27 +3,24 @@ use Prim.Native.Nat.{ℕ, suc, ◌+◌, ◌*◌, ◌≤◌, ◌<◌}
 use native.Mathlib.Numerals.{add-one}
 use native.Mathlib.Omega.{arith}
 use mathlib.Core.Path.{◌≡◌, refl, sym, ap, ap₂, ◌∙◌, subst}
-use mathlib.Core.Logic.{⊎_elim}
-use mathlib.Core.Bool.{Bool, true, false}
+use mathlib.Core.Bool.{true, false}
 use mathlib.Core.List.{List, [], ◌∷◌, ◌++◌, append_assoc, append-nil}
 use lib.ListN.{length, take, length-append}
-use lib.Dec.{leb}
-use borrow.Author.Tests.{leb-true, leb-false}
 use Rattle.model.specs.declared.Refusal.TheVariants.{Csv, Record}
 use Rattle.model.specs.Answer.{Outcome, passed, refused, ask, ◌>>=◌}
 use Rattle.model.specs.Words.{Words}
 use Rattle.model.specs.Bytes.{Text}
 use Rattle.model.specs.Lists.{gather}
-use Rattle.model.specs.CsvReading.{Records, start, at_end, read_csv}
+use Rattle.model.specs.CsvReading.{Records, start, at_end, read_from, read_csv}
 use Rattle.model.specs.LogText.{row_of, spells_row, ask_records}
-use Rattle.laws.specs.Words.Tests.{decide}
 use Rattle.laws.specs.Answer.{then_same}
-use Rattle.csv_reading.specs.declared.record.Line.{Line}
-use Rattle.csv_reading.specs.declared.field.BadByte.{BadByte}
-use Rattle.std.specs.Prelude.{Ok, Err}
+use Rattle.std.specs.Prelude.{Option, Some, None}
+use Rattle.std.specs.Option.{option_or}
+use Rattle.text.specs.declared.cursor.Cursor.{Cursor}
 use Rattle.csv_reading.specs.Field.{reading}
-use Rattle.csv_reading.specs.Rows.{Placed, good_before, ask_text, Stand}
-use Rattle.csv_reading.proofs.FieldLaws.{read_end}
+use Rattle.csv_reading.specs.Record.{Reads}
+use Rattle.csv_reading.specs.Rows.{Placed, ask_text, Stand}
+use Rattle.csv_reading.proofs.FieldLaws.{empty}
 
 gather-more : (f : List Text → Words) (xs : Records) (x : List Text) → gather f (xs ++ x ∷ []) ≡ gather f xs ++ f x
 unfolding gather
@@ -36,39 +33,26 @@ pub record Good (table : Words) (records : Records) (count : ℕ) (rows : Words)
   pub long : length (gather row_of records) ≡ 8 * count
   pub stands : 8 * count ≤ length rows → take (8 * count) rows ≡ gather row_of records
 
--- the records before an index, so many, and how many of them spell rows before the first that does not
-pub record Gone (table : Words) (text : Text) (at count good : ℕ) (rows : Words) : Type 0 where
-  pub records : Records
-  pub from : count ≤ at
-  pub to : at ≤ length text
-  pub reads : read_csv text ≡ (reading text start at >>= λ rs. passed (records ++ rs))
-  pub few : good ≤ count
-  pub bad : good < count → (rs : Records) → ask_records table 0 (records ++ rs) ≡ refused Record good
-  pub all : count ≤ good → Good table records count rows
+-- records that all spell rows, or the first that does not
+abbrev pub Judged : (table : Words) (records : Records) (count : ℕ) (rows : Words) (bad : Option ℕ) → Type 0
+Judged table records count rows None = Good table records count rows
+Judged table records count rows (Some n) = (rs : Records) → ask_records table 0 (records ++ rs) ≡ refused Record n
 
-pub gone_none : (table : Words) (text : Text) (rows : Words) → Gone table text 0 0 0 rows
+-- the records before a place, so many
+pub record Gone (table : Words) (text : Text) (here : Cursor) (count : ℕ) (bad : Option ℕ) (rows : Words) : Type 0 where
+  pub records : Records
+  pub from : count ≤ here.at
+  pub reads : read_csv text ≡ (reading start here >>= λ rs. passed (records ++ rs))
+  pub judged : Judged table records count rows bad
+
+pub gone_none : (table : Words) (text : Text) (rows : Words) (here : Cursor) → here.rest.now ≡ text → here.at ≡ 0 → Gone table text here 0 None rows
 unfolding read_csv gather
-gone_none table text rows = record {
+gone_none table text rows here e f = record {
   records = [];
   from = omega arith;
-  to = omega arith;
-  reads = then_same _;
-  few = omega arith;
-  bad = λ h. absurd (omega (arith, h));
-  all = λ h. record { asked = λ rs. then_same _; long = refl; stands = λ k. refl };
+  reads = ap₂ (λ (p : ℕ) (t : Text). read_from start p t) (sym f) (sym e) ∙ then_same _;
+  judged = record { asked = λ rs. then_same _; long = refl; stands = λ k. refl };
 }
-
--- how many records are good before the first that is not
-module _ (good count : ℕ) where
-  pub before-no : (spelled : Bool) → spelled ≡ false → good ≡ good_before good count spelled
-  before-no spelled e = rw e
-
-  pub before_less : (spelled : Bool) → leb count good ≡ false → good ≡ good_before good count spelled
-  before_less true e = rw e
-  before_less false e = refl
-
-  pub before-yes : (spelled : Bool) → spelled ≡ true → leb count good ≡ true → count + 1 ≡ good_before good count spelled
-  before-yes spelled e f = rw (e, f) (add-one count)
 
 module _ (table : Words) (records : Records) (count : ℕ) (rows : Words) (g : Good table records count rows) (x : List Text) where
   -- a record more that spells a row
@@ -109,100 +93,78 @@ module _ (table : Words) (records : Records) (count : ℕ) (rows : Words) (g : G
   unfolding ask_records ask ◌>>=◌
   good-no-more e rs = ap (ask_records table 0) (append_assoc records (x ∷ []) rs) ∙ g.asked (x ∷ rs) ∙ rw e
 
-module _ (table : Words) (text : Text) (at count good : ℕ) (rows rows' : Words) (g : Gone table text at count good rows) where
+module _ (table : Words) (text : Text) (here : Cursor) (count : ℕ) (bad : Option ℕ) (rows : Words) (g : Gone table text here count bad rows) where
   -- a place where no allowed text goes on so
-  pub gone_bad : (bad : BadByte) → Placed table text at count rows rows' (Err bad) → ask_text table text ≡ refused Csv bad.0
+  pub gone_bad : (p : ℕ) → reading start here ≡ refused Csv p → ask_text table text ≡ refused Csv p
   unfolding ask_text ◌>>=◌
-  gone_bad bad l = rw (g.reads, l.reads)
+  gone_bad p e = rw (g.reads, e)
 
-  module _ (line : Line) (l : Placed table text at count rows rows' (Ok line)) (same : length rows' ≡ length rows) where
-    x : List Text
-    x = l.reads.fields
+  module _ (new : Cursor) (row : Option Words) (r : Reads table here row new) where
+    more : Records
+    more = g.records ++ r.fields ∷ []
 
-    reads_more : read_csv text ≡ (reading text start line.next >>= λ rs. passed ((g.records ++ x ∷ []) ++ rs))
-    unfolding x ◌>>=◌
+    reads_more : read_csv text ≡ (reading start new >>= λ rs. passed (more ++ rs))
+    unfolding more ◌>>=◌
     reads_more =
-        g.reads ∙ ap (λ (o : Outcome Records). o >>= λ rs. passed (g.records ++ rs)) l.reads.reads ∙ go (reading text start line.next)
+        g.reads ∙ ap (λ (o : Outcome Records). o >>= λ rs. passed (g.records ++ rs)) r.reads ∙ go (reading start new)
       where
         go :
             (o : Outcome Records) →
-            ((o >>= λ rs. passed (x ∷ rs)) >>= λ rs. passed (g.records ++ rs)) ≡ (o >>= λ rs. passed ((g.records ++ x ∷ []) ++ rs))
+            ((o >>= λ rs. passed (r.fields ∷ rs)) >>= λ rs. passed (g.records ++ rs)) ≡ (o >>= λ rs. passed ((g.records ++ r.fields ∷ []) ++ rs))
         go (refused r p) = refl
-        go (passed rs) = ap passed (sym (append_assoc g.records (x ∷ []) rs))
+        go (passed rs) = ap passed (sym (append_assoc g.records (r.fields ∷ []) rs))
 
-    -- all records line.spelled rows, and so does this one
-    gone_yes : line.spelled ≡ true → count ≤ good → Gone table text line.next (count + 1) (count + 1) rows'
-    unfolding x
-    gone_yes e h = record {
-      records = g.records ++ x ∷ [];
-      from = omega (arith, g.from, l.reads.from);
-      to = l.reads.to;
-      reads = reads_more;
-      few = omega arith;
-      bad = λ k. absurd (omega (arith, k));
-      all = λ k. good_more table g.records count rows (g.all h) x rows' l.row (sym l.reads.asked ∙ e) (l.reads.spelt e) l.long same l.stands;
-    }
+    gone_to : (rows' : Words) (bad' : Option ℕ) → Judged table more (count + 1) rows' bad' → Gone table text new (count + 1) bad' rows'
+    gone_to rows' bad' j = record { records = more; from = omega (arith, g.from, r.behind); reads = reads_more; judged = j }
 
-    -- all records line.spelled rows, and this one does not
-    gone_no : line.spelled ≡ false → count ≤ good → Gone table text line.next (count + 1) good rows'
-    unfolding x
-    gone_no e h = record {
-      records = g.records ++ x ∷ [];
-      from = omega (arith, g.from, l.reads.from);
-      to = l.reads.to;
-      reads = reads_more;
-      few = omega (arith, g.few);
-      bad = λ k rs.
-          good-no-more table g.records count rows (g.all h) x (sym l.reads.asked ∙ e) rs
-          ∙ ap (refused Record) (let z : count ≡ good = omega (arith, g.few, h) in z);
-      all = λ k. absurd (omega (arith, k, g.few));
-    }
+-- once a record spelled no row, the others make no difference
+behind_bad :
+    (table : Words) (records : Records) (count : ℕ) (rows rows' : Words) (n : ℕ) (x : List Text) →
+    Judged table records count rows (Some n) → Judged table (records ++ x ∷ []) (count + 1) rows' (Some n)
+behind_bad table records count rows rows' n x j rs = ap (ask_records table 0) (append_assoc records (x ∷ []) rs) ∙ j (x ∷ rs)
 
-    -- one of them did not
-    gone_behind : good < count → Gone table text line.next (count + 1) good rows'
-    unfolding x
-    gone_behind h = record {
-      records = g.records ++ x ∷ [];
-      from = omega (arith, g.from, l.reads.from);
-      to = l.reads.to;
-      reads = reads_more;
-      few = omega arith;
-      bad = λ k rs. ap (ask_records table 0) (append_assoc g.records (x ∷ []) rs) ∙ g.bad h (x ∷ rs);
-      all = λ k. absurd (omega (arith, k, h));
-    }
+-- a record more that spells a row, and one that spells none
+pub gone_row :
+    (table : Words) (text : Text) (here : Cursor) (count : ℕ) (bad : Option ℕ) (rows : Words) (new : Cursor) (row rows' : Words) →
+    Gone table text here count bad rows →
+    Reads table here (Some row) new →
+    length row ≡ 8 →
+    length rows' ≡ length rows →
+    Placed count row rows rows' →
+    Gone table text new (count + 1) bad rows'
+unfolding more
+gone_row table text here count None rows new row rows' g r long same placed =
+    gone_to table text here count None rows g new (Some row) r rows' None
+    (good_more table g.records count rows g.judged r.fields rows' row r.spelled.0 r.spelled.1 long same placed)
+gone_row table text here count (Some n) rows new row rows' g r long same placed =
+    gone_to table text here count (Some n) rows g new (Some row) r rows' (Some n) (behind_bad table g.records count rows rows' n r.fields g.judged)
 
-    -- a record more
-    pub gone_more : Gone table text line.next (count + 1) (good_before good count line.spelled) rows'
-    gone_more =
-        ⊎_elim
-        (λ (e : leb count good ≡ true).
-        ⊎_elim
-        (λ (h : line.spelled ≡ true).
-        subst (λ (n : ℕ). Gone table text line.next (count + 1) n rows') (before-yes good count line.spelled h e) (gone_yes h (leb-true count good e)))
-        (λ (h : line.spelled ≡ false).
-        subst (λ (n : ℕ). Gone table text line.next (count + 1) n rows') (before-no good count line.spelled h) (gone_no h (leb-true count good e)))
-        (decide line.spelled))
-        (λ (e : leb count good ≡ false).
-        subst (λ (n : ℕ). Gone table text line.next (count + 1) n rows') (before_less good count line.spelled e) (gone_behind (leb-false count good e)))
-        (decide (leb count good))
+pub gone_none_more :
+    (table : Words) (text : Text) (here : Cursor) (count : ℕ) (bad : Option ℕ) (rows : Words) (new : Cursor) →
+    Gone table text here count bad rows →
+    Reads table here None new →
+    Gone table text new (count + 1) (option_or bad (Some count)) rows
+unfolding more
+gone_none_more table text here count None rows new g r =
+    gone_to table text here count None rows g new None r rows (Some count) (good-no-more table g.records count rows g.judged r.fields r.spelled)
+gone_none_more table text here count (Some n) rows new g r =
+    gone_to table text here count (Some n) rows g new None r rows (Some n) (behind_bad table g.records count rows rows n r.fields g.judged)
 
-module _ (table : Words) (text : Text) (at count good : ℕ) (rows : Words) (g : Gone table text at count good rows) (h : length text ≤ at) where
-  -- the whole text was read
-  all_read : read_csv text ≡ passed (g.records ++ [])
-  unfolding at_end ◌>>=◌
-  all_read = g.reads ∙ ap (λ (o : Outcome Records). o >>= λ rs. passed (g.records ++ rs)) (read_end text start at h)
+-- the whole text was read
+module _ (table : Words) (text : Text) (here : Cursor) (count : ℕ) (rows : Words) (h : length here.rest.now ≡ 0) where
+  all_read : {bad : Option ℕ} (g : Gone table text here count bad rows) → read_csv text ≡ passed (g.records ++ [])
+  unfolding read_from at_end ◌>>=◌
+  all_read g = g.reads ∙ ap (λ (t : Text). read_from start here.at t >>= λ rs. passed (g.records ++ rs)) (empty here.rest.now h)
 
-  pub read_bad : good < count → ask_text table text ≡ refused Record good
+  pub read_bad : (n : ℕ) → Gone table text here count (Some n) rows → ask_text table text ≡ refused Record n
   unfolding ask_text ◌>>=◌
-  read_bad k = rw all_read (g.bad k [])
+  read_bad n g = rw (all_read g) (g.judged [])
 
-  pub read-good : count ≤ good → Stand table text rows count
+  pub read-good : Gone table text here count None rows → Stand table text rows count
   unfolding ask_text ◌>>=◌ ask_records
-  read-good k =
-      let all = g.all k in
-      record {
-        log = gather row_of g.records;
-        asked = rw all_read (all.asked [] ∙ ap passed (append-nil (gather row_of g.records)));
-        long = all.long;
-        stands = all.stands;
-      }
+  read-good g = record {
+    log = gather row_of g.records;
+    asked = rw (all_read g) (g.judged.asked [] ∙ ap passed (append-nil (gather row_of g.records)));
+    long = g.judged.long;
+    stands = g.judged.stands;
+  }

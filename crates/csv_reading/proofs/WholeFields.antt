@@ -1,151 +1,133 @@
 -- Whole fields: a number's bytes and what follows them in the field, bare or in quotes, and what stands behind the field.
-use Prim.Native.Nat.{ℕ, suc, ◌+◌, ◌-◌, ◌≤◌, ◌<◌}
+use Prim.Native.Nat.{ℕ, ◌+◌, ◌≤◌, ◌<◌}
 use native.Mathlib.Nat.{eq-or-lt_of_le}
 use native.Mathlib.Omega.{arith}
-use mathlib.Core.Path.{◌≡◌, refl, sym, ap, ◌∙◌}
-use mathlib.Core.Logic.{◌⊎◌, inl, inr, ⊎_elim}
+use mathlib.Core.Path.{◌≡◌, refl, sym, ap, ◌∙◌, subst}
+use mathlib.Core.Logic.{⊎_elim}
 use mathlib.Core.Bool.{Bool, true, false, cond}
 use mathlib.Core.List.{[], ◌∷◌, ◌++◌, append_assoc, append-nil}
-use native.Mathlib.Nat.{add-zero}
 use lib.ListN.{length, get_or, drop, length-append}
-use lib.Seq.{slice, slice_empty, slice-cons, length-slice, get_or-drop}
+use lib.Seq.{drop-cons}
 use lib.Dec.{eqb}
 use lib.IntN.{ℤ}
 use borrow.Author.Tests.{eq-eqb, ne_eqb}
+use Rattle.std.specs.Prelude.{Option, None, Result, Ok, Err}
 use Rattle.model.specs.declared.Refusal.TheVariants.{Csv}
 use Rattle.model.specs.Answer.{refused}
 use Rattle.model.specs.Bytes.{Text, quote}
 use Rattle.model.specs.Csv.{text_data}
-use Rattle.model.specs.CsvReading.{field, quoting, move_first, move, follow, read_from}
+use Rattle.model.specs.CsvReading.{field, quoting, closing, move_first, move, follow, read_from}
+use Rattle.model.specs.Decimal.{good_number}
 use Rattle.laws.specs.Lists.Membership.{all_append}
-use Rattle.std.specs.Prelude.{Option, None, Result, Ok, Err}
-use Rattle.text.specs.declared.reading.Number.{Number}
-use Rattle.csv_reading.specs.declared.field.Field.{Field}
+use Rattle.text.specs.declared.cursor.Cursor.{Cursor}
+use Rattle.text.specs.Passing.{Passed, Passes, Stops}
+use Rattle.text.specs.Reading.{NumberAt, spelt}
 use Rattle.csv_reading.specs.declared.field.End.{End}
 use Rattle.csv_reading.specs.declared.field.End.TheVariants.{Comma, Line}
 use Rattle.csv_reading.specs.declared.field.BadByte.{BadByte}
-use Rattle.text.specs.Reading.{NumberAt, spelt}
-use Rattle.csv_reading.specs.Field.{is_quote, attach, behind, reading, goes_on, Onward, BareTo, Rest, EndOf, FieldOf, FieldFrom}
-use Rattle.text.proofs.Slices.{slice-drop}
-use Rattle.csv_reading.proofs.FieldLaws.{attach-append, attach-refused, quoting-text, field-text, stop-at, closing-rest, read_at}
-use Rattle.csv_reading.proofs.FieldLaws.{quote-there}
+use Rattle.csv_reading.specs.Field.{attach, behind, reading, goes_on, Same, Onward, Bare, Quoted, Content, EndOf, FieldOf}
+use Rattle.csv_reading.proofs.FieldLaws.{attach-append, attach-refused, quoting-text, field-text, closing-rest, read_past, empty}
 
--- what lies behind an index lies behind one before it
-onward-from : (text : Text) (i j : ℕ) (e : End) → i ≤ j → Onward text j e → Onward text i e
-onward-from text i j (Comma n) h o = omega (arith, o)
-onward-from text i j (Line n) h o = omega (arith, o)
+-- what lies behind a place lies behind one before it
+onward-from : (a b c : Cursor) (e : End) → a.at ≤ b.at → Same a b → Onward b e c → Onward a e c
+onward-from a b c Comma h s o = (omega (arith, h, o.0), omega (arith, s, o.1))
+onward-from a b c Line h s o = (omega (arith, h, s, o.0), omega (arith, s, o.1))
 
-module _ (text : Text) (i : ℕ) (n : Number) (number : NumberAt text i n) where
-  -- the bytes behind a number's in its field: none, or those from the next one on
-  Behind : Bool → Text → Type 0
-  Behind none bytes =
-      ((none ≡ true) × (bytes ≡ []))
-      ⊎ ((none ≡ false) × (n.next < length text) × ((t : Text) × (bytes ≡ get_or text n.next 0 ∷ t)))
+-- bytes that were passed lie in the text
+passed_same : (t : Text) (a b : Cursor) → Passed t a b → (a.at ≤ b.at) × Same a b
+passed_same t a b p = (omega (arith, p.at), omega (arith, p.at, ap length p.rest, length-append t b.rest.now))
 
-  module _ (none : Bool) (bytes : Text) (b : Behind none bytes) where
-    whole_value : cond none n.value None ≡ spelt (slice i n.next text ++ bytes)
-    unfolding Behind spelt
-    whole_value =
-        ⊎_elim
-        (λ (k : (none ≡ true) × (bytes ≡ [])). rw (k.0, k.1, append-nil) number.spells.is)
-        (λ (k : (none ≡ false) × (n.next < length text) × ((t : Text) × (bytes ≡ get_or text n.next 0 ∷ t))).
-        rw (k.0, k.2.1, number.longer k.1 k.2.0) refl)
-        b
+first_of : (t : Text) → 1 ≤ length t → t ≡ get_or t 0 0 ∷ drop 1 t
+first_of t h = drop-cons t 0 0 h
 
-    -- the whole field from a state on
-    whole :
-        (end : End) (v : Option ℤ) {s : _} →
-        v ≡ cond none n.value None →
-        reading text s i ≡ attach (slice i n.next text ++ bytes) (goes_on text end) →
-        Onward text i end →
-        FieldOf text s i (record { value = v; end = end })
-    whole end v f e o = record { content = slice i n.next text ++ bytes; reads = e; is = f ∙ whole_value; onward = o }
+-- the content of a field, whose first bytes may be a number, up to what stands behind the field
+pub record Contents (old : Cursor) (v : Option ℤ) (more : ℕ) (new : Cursor) : Type 0 where
+  pub content : Text
+  pub from : old.at ≤ new.at
+  pub same : Same old new
+  pub reads : reading field old ≡ attach content (behind new.at new.rest.now)
+  pub is : cond (eqb more 0) v None ≡ spelt content
 
-  -- a bare field, up to what stands behind it
-  module _ (e : ℕ) (b : BareTo text n.next e) (q : is_quote text i ≡ false) where
-    bare_reads : reading text field i ≡ attach (slice i n.next text ++ slice n.next e text) (behind e (drop e text))
-    bare_reads =
-        let next = n.next in
-        let split : drop i text ≡ (slice i next text ++ slice next e text) ++ drop e text =
-        slice-drop i next text number.from number.to
-        ∙ ap (λ (t : Text). slice i next text ++ t) (slice-drop next e text b.from b.to)
-        ∙ sym (append_assoc (slice i next text) (slice next e text) (drop e text))
-        in let size : e ≡ i + length (slice i next text ++ slice next e text) =
-        omega (arith, length-append (slice i next text) (slice next e text), length-slice i next text number.to, length-slice next e text b.to, number.from, b.from)
-        in let first : eqb (get_or ((slice i next text ++ slice next e text) ++ drop e text) 0 0) quote ≡ false =
-        rw (← split, get_or-drop i text 0 0) (rw (add-zero i) q)
-        in ap (read_from field i) split
-        ∙ field-text (slice i next text ++ slice next e text) i e (drop e text)
-        (all_append text_data _ _ number.spells.text b.bare) size (stop-at text e b.stop) first
+module _ (n m : Cursor) (bytes rest : Text) (v : Option ℤ) (more : ℕ) where
+  -- the bytes behind a number's in its field: none, or some, so that the field is none
+  value :
+      v ≡ spelt bytes →
+      ((b : ℕ) (t : Text) → n.rest.now ≡ b ∷ t → (x : Text) → good_number (bytes ++ b ∷ x) ≡ false) →
+      (more ≡ 0 → rest ≡ []) →
+      (1 ≤ more → (b : ℕ) × (t : Text) × (x : Text) × (n.rest.now ≡ b ∷ t) × (rest ≡ b ∷ x)) →
+      cond (eqb more 0) v None ≡ spelt (bytes ++ rest)
+  unfolding spelt
+  value is longer none some =
+      ⊎_elim
+      (λ (k : 0 ≡ more). rw (eq-eqb more 0 (sym k), none (sym k), append-nil) is)
+      (λ (k : 0 < more).
+      let s = some k in
+      rw (ne_eqb more 0 (λ z. absurd (omega (arith, z, k))), s.4, longer s.0 s.1 s.3 s.2) refl)
+      (eq-or-lt_of_le (let o : 0 ≤ more = omega arith in o))
 
-    pub bare-field :
-        (end : End) (v : Option ℤ) →
-        EndOf text e end →
-        v ≡ cond (eqb e n.next) n.value None →
-        FieldOf text field i (record { value = v; end = end })
-    unfolding Behind
-    bare-field end v r f =
-        let next = n.next in
-        whole (eqb e next) (slice next e text)
-        (⊎_elim
-        (λ (s : next ≡ e). inl (eq-eqb e next (sym s), rw (← s) (slice_empty next text)))
-        (λ (s : next < e). inr (ne_eqb e next (λ z. absurd (omega (arith, s, z))), omega (arith, s, b.to), (slice (suc next) e text, slice-cons next e text 0 s b.to)))
-        (eq-or-lt_of_le b.from))
-        end v f
-        (bare_reads ∙ ap (attach _) r.reads)
-        (onward-from text i e end (omega (arith, number.from, b.from)) r.onward)
-
-    pub bare_bad : (p : ℕ) → behind e (drop e text) ≡ refused Csv p → reading text field i ≡ refused Csv p
-    bare_bad p r = bare_reads ∙ ap (attach _) r ∙ attach-refused _ p
-
+module _ (old q n m : Cursor) (v : Option ℤ) (more : ℕ) (number : NumberAt q n v) where
   -- the number's bytes in quotes
-  quoted-number : reading text quoting i ≡ attach (slice i n.next text) (reading text quoting n.next)
+  quoted-number : reading quoting q ≡ attach number.bytes (reading quoting n)
   quoted-number =
-      ap (read_from quoting i) (slice-drop i n.next text number.from number.to)
-      ∙ quoting-text (slice i n.next text) i n.next (drop n.next text) number.spells.text
-      (omega (arith, length-slice i n.next text number.to, number.from))
+      ap (read_from quoting q.at) number.passed.rest
+      ∙ quoting-text number.bytes q.at n.at n.rest.now number.text number.passed.at
 
-  -- a field in quotes that goes wrong at a place
-  pub quoted_bad : (p : ℕ) → reading text quoting n.next ≡ refused Csv p → reading text quoting i ≡ refused Csv p
-  quoted_bad p e = quoted-number ∙ ap (attach _) e ∙ attach-refused _ p
+  -- in quotes
+  quoted-contents : Passed (quote ∷ []) old q → Quoted n m more → Contents old v more m
+  unfolding move move_first follow
+  quoted-contents p c = record {
+    content = number.bytes ++ c.bytes;
+    from = omega (arith, p.at, number.passed.at, c.behind);
+    same = c.same ∙ (passed_same _ q n number.passed).1 ∙ (passed_same _ old q p).1;
+    reads =
+        read_past field quote old q p
+        ∙ quoted-number
+        ∙ ap (attach number.bytes) c.reads
+        ∙ attach-append number.bytes c.bytes _
+        ∙ ap (attach _) (closing-rest m.at m.rest.now c.stop);
+    is = value n m number.bytes c.bytes v more number.is number.longer c.none
+        (λ k. let s = c.some k in (get_or n.rest.now 0 0, drop 1 n.rest.now, s.0, first_of n.rest.now (omega (arith, c.behind, c.same)), s.1));
+  }
 
-  -- a field in quotes, up to what stands behind it
-  module _ (close : ℕ) (c : Rest text n.next close) where
-    quoted_reads : reading text quoting i ≡ attach (slice i n.next text ++ c.bytes) (behind close (drop close text))
-    quoted_reads =
-        quoted-number
-        ∙ ap (attach (slice i n.next text)) c.reads
-        ∙ attach-append (slice i n.next text) c.bytes _
-        ∙ ap (attach _) (closing-rest text close close c.stop)
+  -- bare
+  bare-contents : (q ≡ old) × Stops (λ c. eqb c quote) old.rest.now → Bare n m more → Contents old v more m
+  bare-contents p b = subst (λ (c : Cursor). Contents c v more m) p.0 (record {
+    content = number.bytes ++ b.bytes;
+    from = omega (arith, number.passed.at, b.passed.at);
+    same = (passed_same _ n m b.passed).1 ∙ (passed_same _ q n number.passed).1;
+    reads =
+        ap (read_from field q.at) split
+        ∙ field-text (number.bytes ++ b.bytes) q.at m.at m.rest.now (all_append text_data _ _ number.text b.bare)
+        (omega (arith, length-append number.bytes b.bytes, number.passed.at, b.passed.at)) b.stop
+        (subst (Stops (λ c. eqb c quote)) (ap (λ (c : Cursor). c.rest.now) (sym p.0) ∙ split) p.1);
+    is = value n m number.bytes b.bytes v more number.is number.longer (λ k. empty b.bytes (b.size ∙ k))
+        (λ k.
+        let first = first_of b.bytes (omega (arith, b.size, k)) in
+        (get_or b.bytes 0 0, drop 1 b.bytes ++ m.rest.now, drop 1 b.bytes, b.passed.rest ∙ ap (λ (t : Text). t ++ m.rest.now) first, first));
+  })
+    where
+      split : q.rest.now ≡ (number.bytes ++ b.bytes) ++ m.rest.now
+      split = number.passed.rest ∙ ap (λ (t : Text). number.bytes ++ t) b.passed.rest ∙ sym (append_assoc number.bytes b.bytes m.rest.now)
 
-    pub quoted-field :
-        (end : End) (v : Option ℤ) →
-        EndOf text close end →
-        v ≡ cond (eqb (close - n.next) 1) n.value None →
-        FieldOf text quoting i (record { value = v; end = end })
-    unfolding Behind
-    quoted-field end v r f =
-        let next = n.next in
-        whole (eqb (close - next) 1) c.bytes
-        (⊎_elim
-        (λ (s : next + 1 ≡ close). inl (eq-eqb (close - next) 1 (omega (arith, s)), c.none (sym s)))
-        (λ (s : next + 1 < close). inr (ne_eqb (close - next) 1 (λ z. absurd (omega (arith, s, z))), omega (arith, s, c.to), c.some (λ z. absurd (omega (arith, s, z)))))
-        (eq-or-lt_of_le (let h : next + 1 ≤ close = omega (arith, c.from) in h)))
-        end v f
-        (quoted_reads ∙ ap (attach _) r.reads)
-        (onward-from text i close end (omega (arith, number.from, c.from)) r.onward)
+  pub contents : (quotes : Bool) → Passes quote old q quotes → Content quotes n m (Ok more) → Contents old v more m
+  contents true p c = quoted-contents p c
+  contents false p c = bare-contents p c
 
-    pub closed_bad : (p : ℕ) → behind close (drop close text) ≡ refused Csv p → reading text quoting i ≡ refused Csv p
-    closed_bad p r = quoted_reads ∙ ap (attach _) r ∙ attach-refused _ p
+  -- a place where no allowed text goes on so
+  pub content_bad : (quotes : Bool) (bad : BadByte) → Passes quote old q quotes → Content quotes n m (Err bad) → reading field old ≡ refused Csv bad.0
+  unfolding move move_first follow
+  content_bad true bad p e = read_past field quote old q p ∙ quoted-number ∙ ap (attach number.bytes) e ∙ attach-refused number.bytes _
+  content_bad false bad p e = absurd e
 
--- a quote at the index, and a field in quotes behind it
-pub quote-field :
-    (text : Text) (i : ℕ) (r : Result Field BadByte) → is_quote text i ≡ true → FieldFrom text quoting (i + 1) r → FieldFrom text field i r
-unfolding move move_first follow
-quote-field text i (Err bad) q f = read_at text field i (quote-there text i q) ∙ rw q f
-quote-field text i (Ok found) q f = record {
-  content = f.content;
-  reads = read_at text field i (quote-there text i q) ∙ rw q f.reads;
-  is = f.is;
-  onward = onward-from text i (i + 1) found.end (omega arith) f.onward;
-}
+-- what stands behind the field
+module _ (old m new : Cursor) (v : Option ℤ) (more : ℕ) (c : Contents old v more m) where
+  pub whole : (end : End) (w : Option ℤ) → EndOf m end new → w ≡ cond (eqb more 0) v None → FieldOf old w end new
+  whole end w e f = record {
+    content = c.content;
+    reads = c.reads ∙ ap (attach c.content) e.reads;
+    is = f ∙ c.is;
+    onward = onward-from old m new end c.from c.same e.onward;
+  }
+
+  pub ending_bad : (bad : BadByte) → behind m.at m.rest.now ≡ refused Csv bad.0 → reading field old ≡ refused Csv bad.0
+  ending_bad bad e = c.reads ∙ ap (attach c.content) e ∙ attach-refused c.content _

@@ -1,6 +1,5 @@
 -- What the reading of a field finds, as a part of the reading of the whole text.
-use Rattle.std.specs.Prelude.{ℕ, suc, ◌+◌, ◌≤◌, ◌<◌, min, ◌≡◌, Bool, true, false, [], ◌∷◌, length, get_or, drop, eqb, Result, Ok, Err}
-use Rattle.std.proofs.Math.Seq.{slice}
+use Rattle.std.specs.Prelude.{ℕ, ℤ, suc, ◌+◌, ◌≤◌, ◌<◌, min, ◌≡◌, Bool, true, false, [], ◌∷◌, length, get_or, eqb, Option, Result, Ok, Err}
 use Rattle.model.specs.declared.Refusal.TheVariants.{Csv}
 use Rattle.model.specs.declared.Refused.{Refused}
 use Rattle.model.specs.Answer.{Outcome, passed, refused, refused_at, ◌>>=◌}
@@ -13,18 +12,12 @@ use Rattle.csv_reading.specs.declared.field.End.{End}
 use Rattle.csv_reading.specs.declared.field.End.TheVariants.{Comma, Line}
 use Rattle.csv_reading.specs.declared.field.BadByte.{BadByte}
 use Rattle.csv_reading.specs.declared.field.Field.{Field}
+use Rattle.text.specs.declared.cursor.Cursor.{Cursor}
+use Rattle.text.specs.Passing.{Passed, Stops}
 use Rattle.text.specs.Reading.{spelt}
-
--- a bad byte at a place; it is refused by question 13, at that place
-abbrev pub bad_at : ℕ → BadByte
-bad_at p = record { 0 = p }
 
 abbrev pub csv_refused : BadByte → Refused
 csv_refused bad = refused_at Csv bad.0
-
--- a quote stands at an index; past the end of a text stands none
-abbrev pub is_quote : (text : Text) (i : ℕ) → Bool
-is_quote text i = eqb (get_or text i 0) quote
 
 -- bytes in front of the first field of the records that come of a rest
 unfoldable pub add_all : Text → Records → Records
@@ -36,69 +29,74 @@ attach t o = do
   rs ← o
   passed (add_all t rs)
 
--- the reading behind a whole field, at a place
+-- the reading from a state and a place on
+abbrev pub reading : (s : State) (here : Cursor) → Outcome Records
+reading s here = read_from s here.at here.rest.now
+
+-- the reading behind a whole field, at an index
 unfoldable pub behind : ℕ → Text → Outcome Records
 behind p [] = passed (add_record [])
 behind p (b ∷ t) = follow (move_behind b) b p (λ next. read_from next (suc p) t)
 
-module _ (text : Text) where
-  -- the reading from a state and an index on
-  abbrev pub reading : (s : State) (i : ℕ) → Outcome Records
-  reading s i = read_from s i (drop i text)
+-- what comes of what was found behind a field
+unfoldable pub goes_on : End → Cursor → Outcome Records
+goes_on Comma here = do
+  rs ← reading field here
+  passed (add_field rs)
+goes_on Line here = do
+  rs ← reading start here
+  passed (add_record rs)
 
-  -- what comes of what was found behind a field
-  unfoldable pub goes_on : End → Outcome Records
-  goes_on (Comma next) = do
-    rs ← reading field next
-    passed (add_field rs)
-  goes_on (Line next) = do
-    rs ← reading start next
-    passed (add_record rs)
+-- two places of one text
+abbrev pub Same : (old new : Cursor) → Type 0
+Same old new = new.at + length new.rest.now ≡ old.at + length old.rest.now
 
-  -- where the reading goes on lies behind an index, unless that is the text's end, and in the text
-  abbrev pub Onward : (i : ℕ) (end : End) → Type 0
-  Onward i (Comma next) = (i < next) × (next ≤ length text)
-  Onward i (Line next) = (min (i + 1) (length text) ≤ next) × (next ≤ length text)
+-- a place behind another one; behind a line that may be the same, at the end of the text
+abbrev pub Onward : (old : Cursor) (end : End) (new : Cursor) → Type 0
+Onward old Comma new = (old.at < new.at) × Same old new
+Onward old Line new = (old.at + min 1 (length old.rest.now) ≤ new.at) × Same old new
 
-  -- bytes of a bare field, up to the first that can't be one
-  pub record BareTo (i next : ℕ) : Type 0 where
-    pub from : i ≤ next
-    pub to : next ≤ length text
-    pub bare : all text_data (slice i next text) ≡ true
-    pub stop : next < length text → text_data (get_or text next 0) ≡ false
+-- bytes of a bare field were passed, so many, up to the first that can't be one
+pub record Bare (old new : Cursor) (more : ℕ) : Type 0 where
+  pub bytes : Text
+  pub passed : Passed bytes old new
+  pub size : length bytes ≡ more
+  pub bare : all text_data bytes ≡ true
+  pub stop : Stops text_data new.rest.now
 
-  -- the rest of a field in quotes, up to the index behind the closing quote: it has no bytes exactly if that quote stands at once
-  pub record Rest (i next : ℕ) : Type 0 where
-    pub bytes : Text
-    pub from : i < next
-    pub to : next ≤ length text
-    pub reads : reading quoting i ≡ attach bytes (reading closing next)
-    pub stop : is_quote text next ≡ false
-    pub none : next ≡ i + 1 → bytes ≡ []
-    pub some : (next ≡ i + 1 → ⊥) → (t : Text) × (bytes ≡ get_or text i 0 ∷ t)
+-- the rest of a field in quotes was passed, up to the closing quote and with it: it has no bytes exactly if that quote stands at once
+pub record Quoted (old new : Cursor) (more : ℕ) : Type 0 where
+  pub bytes : Text
+  pub behind : old.at < new.at
+  pub same : Same old new
+  pub reads : reading quoting old ≡ attach bytes (reading closing new)
+  pub stop : Stops (λ c. eqb c quote) new.rest.now
+  pub none : more ≡ 0 → bytes ≡ []
+  pub some : 1 ≤ more → (t : Text) × (bytes ≡ get_or old.rest.now 0 0 ∷ t)
 
-  -- such a rest, or a place where no allowed text goes on so
-  abbrev pub QuotedTo : (i : ℕ) (closed : Result ℕ BadByte) → Type 0
-  QuotedTo i (Err bad) = reading quoting i ≡ refused Csv bad.0
-  QuotedTo i (Ok next) = Rest i next
+-- the rest of a field that is bare or in quotes; or a place where no allowed text goes on so
+abbrev pub Content : (quotes : Bool) (old new : Cursor) (more : Result ℕ BadByte) → Type 0
+Content true old new (Ok more) = Quoted old new more
+Content true old new (Err bad) = reading quoting old ≡ refused Csv bad.0
+Content false old new (Ok more) = Bare old new more
+Content false old new (Err bad) = ⊥
 
-  -- what stands behind a field at an index
-  pub record EndOf (i : ℕ) (end : End) : Type 0 where
-    pub reads : behind i (drop i text) ≡ goes_on end
-    pub onward : Onward i end
+-- what stands behind a field
+pub record EndOf (old : Cursor) (end : End) (new : Cursor) : Type 0 where
+  pub reads : behind old.at old.rest.now ≡ goes_on end new
+  pub onward : Onward old end new
 
-  abbrev pub EndsAt : (i : ℕ) (r : Result End BadByte) → Type 0
-  EndsAt i (Err bad) = behind i (drop i text) ≡ refused Csv bad.0
-  EndsAt i (Ok end) = EndOf i end
+abbrev pub Ends : (old new : Cursor) (r : Result End BadByte) → Type 0
+Ends old new (Err bad) = behind old.at old.rest.now ≡ refused Csv bad.0
+Ends old new (Ok end) = EndOf old end new
 
-  -- the rest of a field, read from a state and an index on: its content, the number that this is, if it is one, and what comes of
-  -- the text behind it
-  pub record FieldOf (s : State) (i : ℕ) (found : Field) : Type 0 where
-    pub content : Text
-    pub reads : reading s i ≡ attach content (goes_on found.end)
-    pub is : found.value ≡ spelt content
-    pub onward : Onward i found.end
+-- a field: its content, the number that this is, if it is one, and what comes of the text behind it
+pub record FieldOf (old : Cursor) (value : Option ℤ) (end : End) (new : Cursor) : Type 0 where
+  pub content : Text
+  pub reads : reading field old ≡ attach content (goes_on end new)
+  pub is : value ≡ spelt content
+  pub onward : Onward old end new
 
-  abbrev pub FieldFrom : (s : State) (i : ℕ) (r : Result Field BadByte) → Type 0
-  FieldFrom s i (Err bad) = reading s i ≡ refused Csv bad.0
-  FieldFrom s i (Ok found) = FieldOf s i found
+abbrev pub FieldAt : (old new : Cursor) (r : Result Field BadByte) → Type 0
+FieldAt old new (Err bad) = reading field old ≡ refused Csv bad.0
+FieldAt old new (Ok found) = FieldOf old found.value found.end new

@@ -1,11 +1,12 @@
 // Fields, as they stand in a text, and what stands behind them.
-ghost use Rattle.std.specs.Prelude.{◌≡◌, false, ◌≤◌, length};
-ghost use Rattle.model.specs.CsvReading.{field, quoting};
+ghost use Rattle.std.specs.Prelude.{◌≡◌, true};
 ghost use Rattle.csv_reading.specs.Field as F;
 
 use model::{Refusal, Refused};
 use text::bytes;
-use text::reading::{Number, number_at};
+use text::cursor::Cursor;
+use text::passing::passes;
+use text::reading::number_at;
 
 // The place of a byte that no allowed text has there, or of the text's end too early.
 #[derive(Clone, Copy, PartialEq, Eq, Debug)]
@@ -20,11 +21,11 @@ impl From<BadByte> for Refused {
     }
 }
 
-// What stands behind a field: a comma, or the end of the record, which is CRLF or that of the text; with the index behind it.
+// What stands behind a field: a comma, or the end of the record, which is CRLF or that of the text.
 #[derive(Clone, Copy)]
 pub enum End {
-    Comma(usize),
-    Line(usize),
+    Comma,
+    Line,
 }
 
 // What is read where a field stands: the number that it is, if it is one; and what stands behind it.
@@ -34,100 +35,84 @@ pub struct Field {
     pub end: End,
 }
 
-// The first index from one on whose byte can't stand in a bare field.
-fn bare(text: &[u8], from: usize) -> usize
-    requires { from ≤ length text.now }
-    ensures { F.BareTo text.now from result }
+// The bytes that can stand in a bare field are passed: how many.
+fn bare(here: &mut Cursor<'_>) -> usize
+    ensures { F.Bare here.old here.new result }
 {
-    for i in from..text.len() {
-        if !bytes::text_data(text[i]) {
-            return i;
-        }
+    // Most numbers fill their field, so that a comma comes first.
+    if here.rest.first() == Some(&bytes::COMMA) {
+        return 0;
     }
-    text.len()
+    let more = here
+        .rest
+        .iter()
+        .take_while(|b| bytes::text_data(**b))
+        .count();
+    here.pass(more);
+    more
 }
 
-// The rest of a field in quotes, up to the index behind the closing quote.
-fn quoted(text: &[u8], from: usize) -> Result<usize, BadByte>
-    requires { from ≤ length text.now }
-    ensures { F.QuotedTo text.now from result }
+// The rest of a field in quotes is passed, with the closing quote: how many bytes stand before that.
+fn quoted(here: &mut Cursor<'_>) -> Result<usize, BadByte>
+    ensures { F.Content true here.old here.new result }
 {
-    let mut i = from;
+    let mut i = 0;
     // By hand: a doubled quote is passed in one step.
-    while i < text.len() {
-        let b = text[i];
+    while i < here.rest.len() {
+        let b = here.rest[i];
         if b == bytes::QUOTE {
-            let next = i + 1;
-            if !is_quote(text, next) {
-                return Ok(next);
+            if here.rest.get(i + 1) != Some(&bytes::QUOTE) {
+                here.pass(i + 1);
+                return Ok(i);
             }
             i += 2;
         } else {
             if !bytes::quotable(b) {
-                return Err(BadByte(i));
+                return Err(BadByte(here.at + i));
             }
             i += 1;
         }
     }
-    Err(BadByte(i))
+    Err(BadByte(here.at + i))
 }
 
-// A quote stands at an index.
-fn is_quote(text: &[u8], i: usize) -> bool
-    ensures { result ≡ F.is_quote text.now i }
+// The rest of a field that is bare or in quotes.
+fn content(here: &mut Cursor<'_>, quotes: bool) -> Result<usize, BadByte>
+    ensures { F.Content quotes here.old here.new result }
 {
-    text.get(i) == Some(&bytes::QUOTE)
+    if quotes {
+        return quoted(here);
+    }
+    Ok(bare(here))
 }
 
-// What stands behind a field.
-fn ending(text: &[u8], at: usize) -> Result<End, BadByte>
-    requires { at ≤ length text.now }
-    ensures { F.EndsAt text.now at result }
+// What stands behind a field is passed.
+fn ending(here: &mut Cursor<'_>) -> Result<End, BadByte>
+    ensures { F.Ends here.old here.new result }
 {
-    match text.get(at) {
-        None => Ok(End::Line(at)),
-        Some(&bytes::COMMA) => Ok(End::Comma(at + 1)),
-        Some(&bytes::CR) => {
-            if text.get(at + 1) != Some(&bytes::LF) {
-                return Err(BadByte(at + 1));
-            }
-            Ok(End::Line(at + 2))
+    if passes(here, bytes::COMMA) {
+        return Ok(End::Comma);
+    }
+    if passes(here, bytes::CR) {
+        if passes(here, bytes::LF) {
+            return Ok(End::Line);
         }
-        Some(_) => Err(BadByte(at)),
+        return Err(BadByte(here.at));
     }
-}
-
-// A field in quotes, the first of which stands before the index.
-fn in_quotes(text: &[u8], at: usize) -> Result<Field, BadByte>
-    requires { at ≤ length text.now }
-    ensures { F.FieldFrom text.now quoting at result }
-{
-    let Number { next, value } = number_at(text, at);
-    let close = quoted(text, next)?;
-    let end = ending(text, close)?;
-    let value = if close - next == 1 { value } else { None };
-    Ok(Field { value, end })
-}
-
-// A bare field.
-fn in_text(text: &[u8], at: usize) -> Result<Field, BadByte>
-    requires { (at ≤ length text.now) × (F.is_quote text.now at ≡ false) }
-    ensures { F.FieldFrom text.now field at result }
-{
-    let Number { next, value } = number_at(text, at);
-    let stop = bare(text, next);
-    let end = ending(text, stop)?;
-    let value = if stop == next { value } else { None };
-    Ok(Field { value, end })
-}
-
-// The field at an index.
-pub fn field_at(text: &[u8], at: usize) -> Result<Field, BadByte>
-    requires { at ≤ length text.now }
-    ensures { F.FieldFrom text.now field at result }
-{
-    if is_quote(text, at) {
-        return in_quotes(text, at + 1);
+    if here.rest.is_empty() {
+        return Ok(End::Line);
     }
-    in_text(text, at)
+    Err(BadByte(here.at))
+}
+
+// The field that stands here is passed, with what stands behind it.
+pub fn field_at(here: &mut Cursor<'_>) -> Result<Field, BadByte>
+    ensures { F.FieldAt here.old here.new result }
+{
+    let quotes = passes(here, bytes::QUOTE);
+    let number = number_at(here);
+    let more = content(here, quotes)?;
+    let end = ending(here)?;
+    let value = if more == 0 { number } else { None };
+    Ok(Field { value, end })
 }

@@ -1,46 +1,21 @@
 // The rows that the records of a text spell: questions 13 and 14.
-ghost use Rattle.std.specs.Prelude.{◌≡◌, ◌<◌, ◌^◌, length};
+ghost use Rattle.std.specs.Prelude.{◌≡◌};
 ghost use Rattle.model.specs.Answer.{passed};
 ghost use Rattle.model.specs.Table.{ask_table};
 ghost use Rattle.csv_reading.specs.Rows as R;
 
-use crate::field::BadByte;
-use crate::record::{Line, record};
+use crate::record::record;
 use model::{ROW_WORDS, Refusal, Refused};
+use text::cursor::Cursor;
 
-// The record at an index, the next behind so many. Its row goes behind the rows, if these have room for it.
-fn place_record(
-    table: &[i32],
-    text: &[u8],
-    at: usize,
-    rows: &mut [i32],
-    count: usize,
-) -> Result<Line, BadByte>
-    requires { (ask_table table.now ≡ passed tt) × (at < length text.now) }
-    ensures { R.Placed table.now text.now at count rows.old rows.new result }
+// A row goes behind so many rows, if these have room for it.
+fn place(rows: &mut [i32], count: usize, row: [i32; ROW_WORDS])
+    ensures { R.Placed count row rows.old rows.new }
 {
     if count < rows.len() / ROW_WORDS {
         let from = ROW_WORDS * count;
-        let to = from + ROW_WORDS;
-        return record(table, text, at, &mut rows[from..to]);
+        rows[from..from + ROW_WORDS].copy_from_slice(&row);
     }
-    // An array, since no call takes memory.
-    let mut spare = [0; ROW_WORDS];
-    record(table, text, at, &mut spare)
-}
-
-// How many records spell rows before the first that does not, with one record more.
-fn good_before(good: usize, count: usize, spelled: bool) -> usize
-    requires { count < 2 ^ 63 }
-    ensures { result ≡ R.good_before good count spelled }
-{
-    if !spelled {
-        return good;
-    }
-    if good < count {
-        return good;
-    }
-    count + 1
 }
 
 // Questions 13 and 14, and the number of rows. These stand in the slice, if they fit it.
@@ -48,18 +23,19 @@ pub fn read_rows(table: &[i32], text: &[u8], rows: &mut [i32]) -> Result<usize, 
     requires { ask_table table.now ≡ passed tt }
     ensures { R.RowsRead table.now text.now rows.new result }
 {
-    let mut at = 0;
+    let mut here = Cursor::new(text);
     let mut count = 0;
-    let mut good = 0;
-    // By hand: the step is the length of the record that stands there.
-    while at < text.len() {
-        let Line { next, spelled } = place_record(table, text, at, rows, count)?;
-        good = good_before(good, count, spelled);
+    let mut bad = None;
+    // By hand: the step is the record that stands there.
+    while !here.rest.is_empty() {
+        match record(table, &mut here)? {
+            Some(row) => place(rows, count, row),
+            None => bad = bad.or(Some(count)),
+        }
         count += 1;
-        at = next;
     }
-    if good < count {
-        return Err(Refused(Refusal::Record, good));
+    match bad {
+        Some(place) => Err(Refused(Refusal::Record, place)),
+        None => Ok(count),
     }
-    Ok(count)
 }

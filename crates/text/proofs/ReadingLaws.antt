@@ -1,16 +1,16 @@
 -- Laws for the reading of numbers: digits one after another, and what the bytes passed spell.
-use Prim.Native.Nat.{ℕ, ◌+◌, ◌*◌, ◌-◌, ◌≤◌, ◌<◌}
+use Prim.Native.Nat.{ℕ, zero, suc, ◌+◌, ◌*◌, ◌-◌, ◌≤◌, ◌<◌}
 use native.Mathlib.Omega.{arith}
-use mathlib.Core.Path.{◌≡◌, refl, sym, ap, ap₂, ◌∙◌}
+use mathlib.Core.Path.{◌≡◌, refl, sym, ap, ◌∙◌, subst}
 use mathlib.Core.Logic.{⊎_elim}
 use mathlib.Core.Bool.{Bool, true, false, cond, not, ◌&&◌, ◌||◌}
 use mathlib.Core.List.{[], ◌∷◌, ◌++◌}
-use lib.ListN.{length, get_or}
+use lib.ListN.{length, get_or, take, drop, take-append-drop, drop_of_length-le}
 use native.Mathlib.Numerals.{add-one}
-use lib.Seq.{slice, slice_empty, slice-cons, length-slice}
+use lib.Seq.{take-suc, length-take-le}
 use lib.Dec.{leb, ltb, eqb}
 use lib.IntN.{ℤ, pos, neg_ℤ}
-use borrow.Author.Tests.{leb-true, leb-false, le-leb, lt-leb, ne_eqb, ltb-true, ltb-false}
+use borrow.Author.Tests.{leb-true, leb-false, le-leb, lt-leb, eq-eqb, ne_eqb, ltb-true, ltb-false, le-ltb}
 use Rattle.model.specs.Bytes.{Text, minus, digit}
 use Rattle.model.specs.Lists.{all}
 use Rattle.model.specs.Csv.{text_data}
@@ -19,47 +19,54 @@ use Rattle.laws.specs.Words.Tests.{decide, clash, and_left, and_right, and-true,
 use Rattle.laws.specs.Lists.Membership.{all_intro, all_mem}
 use Rattle.laws.specs.Decimal.{digit-range, digit-text, numeral-append}
 use Rattle.std.specs.Prelude.{Option, Some, None}
-use Rattle.text.specs.Reading.{Follows, raised, DigitsAt, signed, spelt, NumberAt, NegativeAt}
+use Rattle.text.specs.Reading.{Follows, raised, Leading, signed, spelt, Means, Natural, NumberAt, NegativeAt}
+use Rattle.text.specs.Passing.{Stops}
 use Rattle.text.specs.declared.reading.Digits.{Digits}
-use Rattle.text.specs.declared.reading.Number.{Number}
-use Rattle.text.proofs.Slices.{slice-more, all_more}
+use Rattle.text.specs.declared.cursor.Cursor.{Cursor}
+use Rattle.laws.specs.Lists.Span.{side}
+use Rattle.text.proofs.Slices.{all_more}
+use Rattle.text.proofs.PassingLaws.{stops_first}
 
--- the part of a text that has been passed, digit by digit
-pub record Passed (text : Text) (at next m : ℕ) : Type 0 where
-  pub from : at ≤ next
-  pub to : next ≤ length text
-  pub digits : all digit (slice at next text) ≡ true
-  pub follows : Follows m (numeral 0 (slice at next text))
+-- the digits at the front of a text, so many so far
+pub record Counted (text : Text) (count m : ℕ) : Type 0 where
+  pub to : count ≤ length text
+  pub digits : all digit (take count text) ≡ true
+  pub follows : Follows m (numeral 0 (take count text))
 
-pub passed_none : (text : Text) (at : ℕ) → at ≤ length text → Passed text at at 0
+pub counted_none : (text : Text) → Counted text 0 0
 unfolding all numeral
-passed_none text at h = record {
-  from = omega arith;
-  to = h;
-  digits = rw (slice_empty at text);
-  follows = rw (slice_empty at text);
-}
+counted_none text = record { to = omega arith; digits = refl; follows = refl }
 
 -- one digit more of a number that is followed
 raised-follows : (m n b : ℕ) → Follows m n → Follows (raised m b) (10 * n + (b - 48))
 raised-follows m n b f =
     ⊎_elim
-    (λ (e : ltb m 2147483649 ≡ true). rw e (let h = ltb-true m 2147483649 e in omega arith))
-    (λ (e : ltb m 2147483649 ≡ false). rw e (let h = ltb-false m 2147483649 e in omega arith))
-    (decide (ltb m 2147483649))
+    (λ (e : ltb m 2147483648 ≡ true). rw e (let h = ltb-true m 2147483648 e in omega arith))
+    (λ (e : ltb m 2147483648 ≡ false). rw e (let h = ltb-false m 2147483648 e in omega arith))
+    (decide (ltb m 2147483648))
 
-pub passed-more :
-    (text : Text) (at next m r : ℕ) →
-    Passed text at next m →
-    next < length text →
-    digit (get_or text next 0) ≡ true →
-    r ≡ raised m (get_or text next 0) →
-    Passed text at (next + 1) r
-passed-more text at next m r p h e f = record {
-  from = omega arith;
+pub counted-more :
+    (text : Text) (count m r : ℕ) →
+    Counted text count m →
+    count < length text →
+    digit (get_or text count 0) ≡ true →
+    r ≡ raised m (get_or text count 0) →
+    Counted text (count + 1) r
+counted-more text count m r p h e f =
+    let more = ap (λ (n : ℕ). take n text) (add-one count) ∙ take-suc text count 0 h in
+    record {
+      to = omega arith;
+      digits = rw more (all_more digit _ _ p.digits e);
+      follows = rw (more, numeral-append) (rw f (raised-follows m _ (get_or text count 0) p.follows));
+    }
+
+pub counted_all : (text : Text) (count m : ℕ) → Counted text count m → count ≡ length text → Leading text (record { count = length text; magnitude = m })
+unfolding Stops
+counted_all text count m p e = record {
   to = omega arith;
-  digits = rw (slice-more at next text 0 p.from h) (all_more digit _ _ p.digits e);
-  follows = rw (slice-more at next text 0 p.from h, numeral-append) (rw f (raised-follows m _ (get_or text next 0) p.follows));
+  digits = rw (← e) p.digits;
+  stop = rw (drop_of_length-le text (let h : length text ≤ length text = omega arith in h)) tt;
+  follows = rw (← e) p.follows;
 }
 
 -- digits with no 0 in front
@@ -104,54 +111,60 @@ unfolding plain_digits
 not_plain [] b more e = rw (not-digits [] b more e)
 not_plain (d ∷ t) b more e = rw (not-digits (d ∷ t) b more e)
 
--- a number that is followed has the same limits
-module _ (m n : ℕ) (f : Follows m n) where
-  same_low : leb 1 m ≡ leb 1 n
-  same_low = ⊎_elim (λ e. e ∙ sym (le-leb 1 n (let h = leb-true 1 m e in omega arith))) (λ e. e ∙ sym (lt-leb 1 n (let h = leb-false 1 m e in omega arith))) (decide (leb 1 m))
+-- digits are no minus
+module _ where
+  first : (b : ℕ) (t : Text) → all digit (b ∷ t) ≡ true → eqb b 45 ≡ false
+  unfolding all
+  first b t d = let l = digit-range b (and_left _ _ d) in ne_eqb b 45 (omega arith)
 
-  same-high : (k : ℕ) → k ≤ 2147483648 → leb m k ≡ leb n k
-  same-high k h =
+  good-digits : (t : Text) → all digit t ≡ true → good_number t ≡ plain_digits t && leb (numeral 0 t) 2147483647
+  unfolding good_number plain_digits
+  good-digits [] d = refl
+  good-digits (b ∷ t) d = rw (first b t d) refl
+
+  number-digits : (t : Text) → all digit t ≡ true → number_of t ≡ pos (numeral 0 t)
+  unfolding number_of numeral
+  number-digits [] d = refl
+  number-digits (b ∷ t) d = rw (first b t d) refl
+
+-- digits that are not plain, or stand for a number with more than 32 bits, spell none, with a minus and without; others spell their number
+module _ (t : Text) where
+  pub negative-none : plain_digits t ≡ false → spelt (minus ∷ t) ≡ None
+  unfolding spelt good_number
+  negative-none e = rw e refl
+
+  pub negative-wide : (m : ℕ) → Follows m (numeral 0 t) → (ltb m 1 || ltb 2147483648 m) ≡ true → spelt (minus ∷ t) ≡ None
+  unfolding spelt good_number
+  negative-wide m f e =
       ⊎_elim
-      (λ e. e ∙ sym (le-leb n k (let l = leb-true m k e in omega arith)))
-      (λ e. e ∙ sym (lt-leb n k (let l = leb-false m k e in omega arith)))
-      (decide (leb m k))
+      (λ (k : m < 1). rw (lt-leb 1 (numeral 0 t) (omega (arith, k, f)), and-false (plain_digits t) refl) refl)
+      (λ (k : 1 ≤ m). rw (lt-leb (numeral 0 t) 2147483648 (omega (arith, f, ltb-true 2147483648 m (rest k))), and-false (plain_digits t && leb 1 (numeral 0 t)) refl) refl)
+      (side 1 m)
+    where
+      rest : 1 ≤ m → ltb 2147483648 m ≡ true
+      rest k = ap (λ (b : Bool). b || ltb 2147483648 m) (sym (le-ltb m 1 k)) ∙ e
 
-  same_number : m ≤ 2147483648 → n ≡ m
-  same_number h = omega arith
+  pub negative-spelt : (m : ℕ) → Follows m (numeral 0 t) → plain_digits t ≡ true → 1 ≤ m → m ≤ 2147483648 → Some (signed true m) ≡ spelt (minus ∷ t)
+  unfolding spelt good_number number_of
+  negative-spelt m f p l h =
+      let same : numeral 0 t ≡ m = omega arith in
+      rw (same, p, le-leb 1 m l, le-leb m 2147483648 h) refl
 
--- what a minus and digits spell
-negative-spelt :
-    (t : Text) (m : ℕ) (good : Bool) →
-    Follows m (numeral 0 t) →
-    plain_digits t && leb 1 m && leb m 2147483648 ≡ good →
-    cond good (Some (signed true m)) None ≡ spelt (minus ∷ t)
-unfolding spelt good_number number_of
-negative-spelt t m good f g =
-    rw (← same_low m (numeral 0 t) f, ← same-high m (numeral 0 t) f 2147483648 (omega arith), g) (go good g)
-  where
-    go : (b : Bool) → plain_digits t && leb 1 m && leb m 2147483648 ≡ b → cond b (Some (signed true m)) None ≡ cond b (Some (neg_ℤ (pos (numeral 0 t)))) None
-    go true g = ap (λ (n : ℕ). Some (neg_ℤ (pos n))) (sym (same_number m (numeral 0 t) f (leb-true m 2147483648 (and_right (plain_digits t && leb 1 m) _ g))))
-    go false g = refl
+  module _ (d : all digit t ≡ true) where
+    pub positive-none : plain_digits t ≡ false → spelt t ≡ None
+    unfolding spelt
+    positive-none e = rw (good-digits t d, e) refl
 
--- what digits alone spell
-positive-spelt :
-    (t : Text) (m : ℕ) (good : Bool) →
-    all digit t ≡ true →
-    Follows m (numeral 0 t) →
-    plain_digits t && leb m 2147483647 ≡ good →
-    cond good (Some (signed false m)) None ≡ spelt t
-unfolding spelt good_number number_of plain_digits all digit
-positive-spelt [] m good d f g = rw (← g) refl
-positive-spelt (b ∷ t) m good d f g =
-    let l = digit-range b (and_left _ _ d) in
-    let plus : eqb b 45 ≡ false = ne_eqb b 45 (omega arith) in
-    rw (plus, ← same-high m (numeral 0 (b ∷ t)) f 2147483647 (omega arith), g) (go good g)
-  where
-    go : (c : Bool) → plain_digits (b ∷ t) && leb m 2147483647 ≡ c → cond c (Some (pos m)) None ≡ cond c (Some (pos (numeral 0 (b ∷ t)))) None
-    go true g =
-        let few = leb-true m 2147483647 (and_right (plain_digits (b ∷ t)) _ g) in
-        ap (λ (n : ℕ). Some (pos n)) (sym (same_number m (numeral 0 (b ∷ t)) f (omega arith)))
-    go false g = refl
+    pub positive-wide : (m : ℕ) → Follows m (numeral 0 t) → 2147483647 < m → spelt t ≡ None
+    unfolding spelt
+    positive-wide m f h =
+        rw (good-digits t d, lt-leb (numeral 0 t) 2147483647 (omega (arith, f, h)), and-false (plain_digits t) refl) refl
+
+    pub positive-spelt : (m : ℕ) → Follows m (numeral 0 t) → plain_digits t ≡ true → m ≤ 2147483647 → Some (signed false m) ≡ spelt t
+    unfolding spelt
+    positive-spelt m f p h =
+        let same : numeral 0 t ≡ m = omega arith in
+        rw (good-digits t d, p, number-digits t d, same, le-leb m 2147483647 h) refl
 
 -- with a byte that is no digit behind them they spell none
 pub negative-longer : (t : Text) (b : ℕ) (more : Text) → digit b ≡ false → good_number (minus ∷ t ++ b ∷ more) ≡ false
@@ -166,45 +179,52 @@ positive-longer (c ∷ t) b more d k e =
     let l = digit-range c (and_left _ _ d) in
     rw (ne_eqb c 45 (omega arith), not_plain (c ∷ t) b more e)
 
-module _ (text : Text) (at : ℕ) (d : Digits) (p : Bool) (found : DigitsAt text at d) (plain : p ≡ plain_digits (slice at d.next text)) where
-  module _ (good : Bool) (v : Option ℤ) where
-    -- digits behind a minus, and the number that is made of them if they are plain and have 32 bits
-    pub negative-at :
-        p && leb 1 d.magnitude && leb d.magnitude 2147483648 ≡ good →
-        v ≡ cond good (Some (signed true d.magnitude)) None →
-        NegativeAt text at (record { next = d.next; value = v })
-    unfolding all text_data
-    negative-at g e = record {
-      from = found.from;
-      to = found.to;
-      spells = record { text = digits-text _ found.digits; is = e ∙ negative-spelt _ d.magnitude good found.follows (rw (← plain) g) };
-      longer = λ h more. negative-longer (slice at d.next text) _ more (found.stop h);
-    }
+-- digits were passed, so many
+pub natural-at :
+    (old new : Cursor) (d : Digits) (r : Option ℕ) →
+    Leading old.rest.now d →
+    new.rest.now ≡ drop d.count old.rest.now →
+    new.at ≡ old.at + d.count →
+    (Follows d.magnitude (numeral 0 (take d.count old.rest.now)) → Means (take d.count old.rest.now) r) →
+    Natural old new r
+natural-at old new d r found e a means = record {
+  bytes = take d.count old.rest.now;
+  passed = record {
+    rest = sym (take-append-drop d.count old.rest.now) ∙ ap (λ (t : Text). take d.count old.rest.now ++ t) (sym e);
+    at = a ∙ ap (λ (n : ℕ). old.at + n) (sym (length-take-le d.count old.rest.now found.to));
+  };
+  digits = found.digits;
+  stop = subst (Stops digit) (sym e) found.stop;
+  means = means found.follows;
+}
 
-    -- digits with no minus before them
-    pub positive-at :
-        (at < length text → get_or text at 0 ≡ 45 → ⊥) →
-        p && leb d.magnitude 2147483647 ≡ good →
-        v ≡ cond good (Some (signed false d.magnitude)) None →
-        NumberAt text at (record { next = d.next; value = v })
-    positive-at k g e = record {
-      from = found.from;
-      to = found.to;
-      spells = record { text = digits-text _ found.digits; is = e ∙ positive-spelt _ d.magnitude good found.digits found.follows (rw (← plain) g) };
-      longer = λ h more.
-          positive-longer _ _ more found.digits
-          (λ e. let same : d.next ≡ at = omega (arith, length-slice at d.next text found.to, found.from) in rw same (k (omega (arith, h, found.from))))
-          (found.stop h);
-    }
+module _ (old new : Cursor) (n : Option ℕ) (k : Natural old new n) (v : Option ℤ) where
+  stop : (b : ℕ) (t : Text) → new.rest.now ≡ b ∷ t → digit b ≡ false
+  stop b t e = stops_first digit _ b t k.stop e
 
--- a minus at the index, and digits behind it
-pub minus-at : (text : Text) (at : ℕ) (r : Number) → at < length text → get_or text at 0 ≡ 45 → NegativeAt text (at + 1) r → NumberAt text at r
-minus-at text at r h e n =
-    let first : slice at r.next text ≡ 45 ∷ slice (at + 1) r.next text =
-    slice-cons at r.next text 0 (omega (arith, n.from)) n.to ∙ ap₂ (λ (b i : ℕ). b ∷ slice i r.next text) e (sym (add-one at))
-    in record {
-      from = omega (arith, n.from);
-      to = n.to;
-      spells = rw first n.spells;
-      longer = rw first n.longer;
-    }
+  -- behind a minus
+  pub negative-at : v ≡ spelt (minus ∷ k.bytes) → NegativeAt old new v
+  unfolding all text_data
+  negative-at e start m = record {
+    bytes = minus ∷ k.bytes;
+    passed = record { rest = m.rest ∙ ap (λ (t : Text). minus ∷ t) k.passed.rest; at = omega (arith, m.at, k.passed.at) };
+    text = digits-text _ k.digits;
+    is = e;
+    longer = λ b t f more. negative-longer k.bytes b more (stop b t f);
+  }
+
+  -- with no minus before them
+  pub positive-at : Stops (λ c. eqb c minus) old.rest.now → v ≡ spelt k.bytes → NumberAt old new v
+  positive-at s e = record {
+    bytes = k.bytes;
+    passed = k.passed;
+    text = digits-text _ k.digits;
+    is = e;
+    longer = λ b t f more. positive-longer k.bytes b more k.digits
+        (λ z i. clash (eq-eqb b minus i) (stops_first (λ c. eqb c minus) old.rest.now b t s (k.passed.rest ∙ ap (λ (x : Text). x ++ new.rest.now) (none k.bytes z) ∙ f)))
+        (stop b t f);
+  }
+    where
+      none : (t : Text) → length t ≡ 0 → t ≡ []
+      none [] e = refl
+      none (b ∷ t) e = absurd (omega (arith, e))

@@ -1,3 +1,4 @@
+pub mod Passing
 pub mod Reading
 pub mod Writing
 pub mod Put

@@ -3,6 +3,7 @@
 
 pub mod bytes;
 pub mod cursor;
+pub mod passing;
 pub mod reading;
 pub mod word;
 pub mod writer;

@@ -1,25 +1,20 @@
 // Numbers in decimal, as they stand in a text.
-ghost use Rattle.std.specs.Prelude.{◌≡◌, true, ◌≤◌, ◌<◌, length, get_or};
-ghost use Rattle.std.proofs.Math.Seq.{slice};
+ghost use Rattle.std.specs.Prelude.{◌≡◌, true, eqb};
 ghost use Rattle.model.specs.Lists.{all};
 ghost use Rattle.model.specs.Bytes as B;
 ghost use Rattle.model.specs.Decimal.{plain_digits};
+ghost use Rattle.text.specs.Passing.{Stops};
 ghost use Rattle.text.specs.Reading as N;
 
+use crate::cursor::Cursor;
+use crate::passing::passes;
 use crate::{bytes, word};
 
-// What is read where digits may stand: the index behind them, and the number that they stand for, as far as it is followed.
+// Digits at the front of a text: how many, and the number that they stand for, as far as it is followed.
 #[derive(Clone, Copy)]
-pub struct Digits {
-    pub next: usize,
-    pub magnitude: usize,
-}
-
-// What is read where a number may stand: the index behind its minus and digits, and the number if they spell one.
-#[derive(Clone, Copy)]
-pub struct Number {
-    pub next: usize,
-    pub value: Option<i32>,
+struct Digits {
+    count: usize,
+    magnitude: usize,
 }
 
 // One digit more. A number that has no 32 bits any more is not followed further.
@@ -27,83 +22,87 @@ fn raised(n: usize, b: u8) -> usize
     requires { B.digit b ≡ true }
     ensures { result ≡ N.raised n b }
 {
-    if n < 2147483649 {
+    if n < 2147483648 {
         10 * n + (b - 48) as usize
     } else {
-        n
+        2147483649
     }
 }
 
-// The digits from an index on.
-fn digits_at(text: &[u8], at: usize) -> Digits
-    requires { at ≤ length text.now }
-    ensures { N.DigitsAt text.now at result }
+// The digits at the front of a text.
+fn leading(text: &[u8]) -> Digits
+    ensures { N.Leading text.now result }
 {
     let mut magnitude = 0;
-    for next in at..text.len() {
-        let b = text[next];
+    for count in 0..text.len() {
+        let b = text[count];
         if !bytes::digit(b) {
-            return Digits { next, magnitude };
+            return Digits { count, magnitude };
         }
         magnitude = raised(magnitude, b);
     }
     Digits {
-        next: text.len(),
+        count: text.len(),
         magnitude,
     }
 }
 
 // Digits are at least one, with no 0 in front of others.
-fn plain(text: &[u8], from: usize, next: usize) -> bool
-    requires { (from ≤ next) × (next ≤ length text.now) × (all B.digit (slice from next text.now) ≡ true) }
-    ensures { result ≡ plain_digits (slice from next text.now) }
+fn plain(digits: &[u8]) -> bool
+    requires { all B.digit digits.now ≡ true }
+    ensures { result ≡ plain_digits digits.now }
 {
-    if next == from {
+    if digits.len() == 0 {
         return false;
     }
-    if next - from == 1 {
+    if digits.len() == 1 {
         return true;
     }
-    text[from] != bytes::NOUGHT
+    digits[0] != bytes::NOUGHT
 }
 
-// A number with a minus before the index.
-fn negative(text: &[u8], at: usize) -> Number
-    requires { at ≤ length text.now }
-    ensures { N.NegativeAt text.now at result }
+// The digits that stand here are passed: the number that they stand for, as far as it is followed, if they are plain.
+fn natural(here: &mut Cursor<'_>) -> Option<usize>
+    ensures { N.Natural here.old here.new result }
 {
-    let Digits { next, magnitude } = digits_at(text, at);
-    let good = plain(text, at, next) & (1 <= magnitude) & (magnitude <= 2147483648);
-    let value = if good {
-        Some(word::signed(magnitude, true))
-    } else {
-        None
-    };
-    Number { next, value }
-}
-
-// A number with no minus at the index.
-fn positive(text: &[u8], at: usize) -> Number
-    requires { (at ≤ length text.now) × (at < length text.now → get_or text.now at 0 ≡ 45 → ⊥) }
-    ensures { N.NumberAt text.now at result }
-{
-    let Digits { next, magnitude } = digits_at(text, at);
-    let good = plain(text, at, next) & (magnitude <= 2147483647);
-    let value = if good {
-        Some(word::signed(magnitude, false))
-    } else {
-        None
-    };
-    Number { next, value }
-}
-
-// What stands from an index on where a number may stand.
-pub fn number_at(text: &[u8], at: usize) -> Number
-    requires { at ≤ length text.now }
-    ensures { N.NumberAt text.now at result }
-{
-    if text.get(at) == Some(&bytes::MINUS) {
-        return negative(text, at + 1);
+    let text = here.rest;
+    let Digits { count, magnitude } = leading(text);
+    here.pass(count);
+    if !plain(&text[..count]) {
+        return None;
     }
-    positive(text, at)
+    Some(magnitude)
+}
+
+// A number whose minus stands before this place.
+fn negative(here: &mut Cursor<'_>) -> Option<i32>
+    ensures { N.NegativeAt here.old here.new result }
+{
+    let magnitude = natural(here)?;
+    if (magnitude < 1) | (2147483648 < magnitude) {
+        return None;
+    }
+    Some(word::signed(magnitude, true))
+}
+
+// A number with no minus.
+fn positive(here: &mut Cursor<'_>) -> Option<i32>
+    requires { Stops (λ c. eqb c 45) here.old.rest.now }
+    ensures { N.NumberAt here.old here.new result }
+{
+    let magnitude = natural(here)?;
+    if 2147483647 < magnitude {
+        return None;
+    }
+    Some(word::signed(magnitude, false))
+}
+
+// What stands here where a number may stand is passed, a minus and digits: the number, if they spell one.
+pub fn number_at(here: &mut Cursor<'_>) -> Option<i32>
+    ensures { N.NumberAt here.old here.new result }
+{
+    if passes(here, bytes::MINUS) {
+        return negative(here);
+    }
+    positive(here)
 }

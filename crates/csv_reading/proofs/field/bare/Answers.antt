@@ -1,17 +1,25 @@
--- `csv_reading::field::bare` meets its contract. The loop's invariant: all bytes passed can stand in a bare field.
-use native.Mathlib.Omega.{arith}
-use mathlib.Core.Path.{sym, ◌∙◌}
-use Rattle.csv_reading.proofs.FieldLaws.{bare-none, bare-more}
+-- `csv_reading::field::bare` meets its contract: a comma comes first, or the bytes are counted.
+use mathlib.Core.Path.{refl, ◌∙◌}
+use borrow.Author.Rules.{rules}
+use Rattle.std.proofs.Common.{tests}
+use Rattle.std.proofs.lemmas.Iterator.{YieldsList-from_slice}
+use Rattle.std.proofs.lemmas.Iterator.Consumers.{count_from_yields_List}
+use Rattle.std.proofs.lemmas.Iterator.Search.{YieldsList-from_take_while}
+use Rattle.std.proofs.lemmas.List.Folds.{length-prefix_len}
+use Rattle.model.specs.Csv.{text_data}
+use Rattle.csv_reading.proofs.FieldLaws.{bare-none, bare-passed}
 use Rattle.csv_reading.proofs.field.bare.Goals as goal
 
-pub loop-i-init : goal.loop-i-init
-loop-i-init c = (omega arith, omega arith, bare-none c.args.text.now c.args.from)
+pub returns-then-eq : goal.returns-then-eq
+returns-then-eq c = bare-none c.args.here.now (search rules)
 
-pub loop-i-preserved : goal.loop-i-preserved
-loop-i-preserved c =
-    let a = c.args in (
-      omega arith,
-      omega arith,
-      bare-more a.text.now a.from c.loop-i.i c.loop-i.invariant.0 c.loop-i-test.true
-          c.loop-i.invariant.2 (sym c.text_data.ensures ∙ c.if-not-text_data.false),
-    )
+pub returns : goal.returns
+returns c =
+    let rest = c.args.here.now.rest.now in
+    let t = c.take_while in
+    bare-passed c.args.here.now c.pass.new.self _
+    (count_from_yields_List t.result _ c.count-more.ensures.ran
+    (YieldsList-from_take_while _ text_data (YieldsList-from_slice rest (search rules)) t.ensures.closure t.ensures.done
+    (λ x b q k. search (rules, tests)))
+    ∙ length-prefix_len text_data rest)
+    c.pass.ensures.rest c.pass.ensures.at

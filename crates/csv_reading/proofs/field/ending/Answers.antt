@@ -1,46 +1,27 @@
 -- `csv_reading::field::ending` meets its contract, byte by byte.
-use Prim.Native.Nat.{◌+◌, ◌≤◌, ◌<◌}
-use native.Mathlib.Omega.{arith}
 use mathlib.Core.Path.{◌≡◌}
-use lib.ListN.{length, get_or}
+use lib.ListN.{length}
 use borrow.Author.Rules.{rules}
 use Rattle.csv_reading.proofs.FieldLaws.{ends-text, ends-comma, ends_bad, ends-early, ends-line}
 use Rattle.csv_reading.proofs.field.ending.Goals as goal
 
-pub returns-in-None : goal.returns-in-None
-returns-in-None c =
-    let a = c.args in
-    let end : length a.text.now ≤ a.at = search rules in
-    ends-text a.text.now a.at c.requires end
+pub returns-then-passes : goal.returns-then-passes
+returns-then-passes c = ends-comma c.args.here.now c.passes.new.here c.if-passes.ensures
 
-pub returns-in-Some-eq44 : goal.returns-in-Some-eq44
-returns-in-Some-eq44 c =
-    let a = c.args in
-    let there : a.at < length a.text.now = search rules in
-    let comma : get_or a.text.now a.at 0 ≡ 44 = search rules in
-    ends-comma a.text.now a.at there comma
+pub returns-then-passes-3 : goal.returns-then-passes-3
+returns-then-passes-3 c =
+    ends-line c.args.here.now c.passes.new.here c.passes-2.new.here c.passes-then-passes-2.new.here c.if-passes.ensures.0 c.if-passes-2.ensures
+    c.if-passes-3.ensures
 
-pub returns-then-ne : goal.returns-then-ne
-returns-then-ne c =
-    let a = c.args in
-    let there : a.at < length a.text.now = search rules in
-    let return : get_or a.text.now a.at 0 ≡ 13 = search rules in
-    let other : a.at + 1 < length a.text.now → get_or a.text.now (a.at + 1) 0 ≡ 10 → ⊥ = search rules in
-    ends-early a.text.now a.at there (λ e. omega (arith, return, e)) return other
+pub returns-then-passes-2 : goal.returns-then-passes-2
+returns-then-passes-2 c =
+    ends-early c.args.here.now c.passes.new.here c.passes-2.new.here c.passes-then-passes-2.new.here c.if-passes.ensures.0 c.if-passes-2.ensures
+    c.if-passes-3.ensures
 
-pub returns-else-ne : goal.returns-else-ne
-returns-else-ne c =
-    let a = c.args in
-    let there : a.at < length a.text.now = search rules in
-    let return : get_or a.text.now a.at 0 ≡ 13 = search rules in
-    let next : a.at + 1 < length a.text.now = search rules in
-    let feed : get_or a.text.now (a.at + 1) 0 ≡ 10 = search rules in
-    ends-line a.text.now a.at there (λ e. omega (arith, return, e)) return next feed
+pub returns-then-is_empty : goal.returns-then-is_empty
+returns-then-is_empty c =
+    let none : length c.passes-2.new.here.rest.now ≡ 0 = search rules in
+    ends-text c.args.here.now c.passes.new.here c.passes-2.new.here c.if-passes.ensures.0 c.if-passes-2.ensures.0 none
 
-pub returns-in-Some : goal.returns-in-Some
-returns-in-Some c =
-    let a = c.args in
-    let there : a.at < length a.text.now = search rules in
-    let comma : get_or a.text.now a.at 0 ≡ 44 → ⊥ = search rules in
-    let return : get_or a.text.now a.at 0 ≡ 13 → ⊥ = search rules in
-    ends_bad a.text.now a.at there comma return
+pub returns : goal.returns
+returns c = ends_bad c.args.here.now c.passes.new.here c.passes-2.new.here c.if-passes.ensures c.if-passes-2.ensures (search rules)

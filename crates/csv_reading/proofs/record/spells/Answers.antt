@@ -10,19 +10,20 @@ use Rattle.csv_reading.proofs.record.spells.Goals as goal
 
 pub returns-then-not-good_row : goal.returns-then-not-good_row
 returns-then-not-good_row c =
-    spells_bad c.args.table.now c.args.row.now c.args.fields _ c.requires.1 c.clear.ensures
-    (sym c.good_row.ensures ∙ c.if-not-good_row.true)
+    spells_bad c.args.table.now c.args.row.now c.args.fields (sym c.good_row.ensures ∙ c.if-not-good_row.true)
 
 pub overflow_add-result : goal.overflow_add-result
 overflow_add-result c =
-    let there : let table = c.args.table.now in (value c.clear.new.buffer 0 < predicates table) × (arity table (value c.clear.new.buffer 0) ≤ 6) =
-    good-arity c.args.table.now c.requires.0 c.clear.new.buffer (sym c.good_row.ensures ∙ c.if-not-good_row.false) in
-    let arity-is : c.arity.result ≡ arity c.args.table.now (value c.clear.new.buffer 0) = c.arity.ensures ∙ ap (arity c.args.table.now) c.value.ensures in
-    omega (arith, arity-is, (there).1)
+    let table = c.args.table.now in
+    let row = c.args.row.now in
+    let there : (value row 0 < predicates table) × (arity table (value row 0) ≤ 6) =
+    good-arity table c.requires.0 row (sym c.good_row.ensures ∙ c.if-not-good_row.false) in
+    let arity-is : c.arity.result ≡ arity table (value row 0) = c.arity.ensures ∙ ap (arity table) c.value.ensures in
+    omega (arith, arity-is, there.1)
 
 pub returns : goal.returns
 returns c =
-    let arity-is : c.arity.result ≡ arity c.args.table.now (value c.clear.new.buffer 0) = c.arity.ensures ∙ ap (arity c.args.table.now) c.value.ensures in
-    rw (arity-is)
-    (spells-good c.args.table.now c.args.row.now c.args.fields c.clear.new.buffer c.requires.1
-    c.clear.ensures (sym c.good_row.ensures ∙ c.if-not-good_row.false))
+    let table = c.args.table.now in
+    let row = c.args.row.now in
+    let arity-is : c.arity.result ≡ arity table (value row 0) = c.arity.ensures ∙ ap (arity table) c.value.ensures in
+    rw (arity-is) (spells-good table row c.args.fields (sym c.good_row.ensures ∙ c.if-not-good_row.false))

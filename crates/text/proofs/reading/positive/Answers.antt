@@ -1,21 +1,27 @@
--- `text::reading::positive` meets its contract, from the digits found.
-use mathlib.Core.Path.{◌≡◌, refl, ap, ◌∙◌}
-use mathlib.Core.Bool.{true, false}
+-- `text::reading::positive` meets its contract, from the digits passed.
+use native.Mathlib.Omega.{arith}
+use mathlib.Core.Path.{◌≡◌, sym, ap, ◌∙◌}
 use mir.Syntax.{w32}
 use mir.Val.{to_z, of_z}
 use borrow.Author.Rules.{rules}
 use Rattle.std.specs.Prelude.{Some}
-use Rattle.text.proofs.ReadingLaws.{positive-at}
+use Rattle.text.proofs.ReadingLaws.{positive-none, positive-wide, positive-spelt, positive-at}
 use Rattle.text.proofs.reading.positive.Goals as goal
 
-pub returns-then-good : goal.returns-then-good
-returns-then-good c =
-    let d = c.digits_at-next in
-    let back : to_z w32 (of_z w32 c.signed.result) ≡ c.signed.result = search rules in
-    positive-at c.args.text.now c.args.at d.result c.plain.result d.ensures c.plain.ensures true _ c.requires.1 c.if-good.true
-    (ap Some (back ∙ c.signed.ensures))
+pub returns-in_err-magnitude : goal.returns-in_err-magnitude
+returns-in_err-magnitude c =
+    let k = c.in_err-magnitude.ensures in
+    positive-at c.args.here.now c.natural.new.here _ k _ c.requires (c.from_residual.ensures ∙ sym (positive-none k.bytes k.digits k.means))
 
-pub returns-else-good : goal.returns-else-good
-returns-else-good c =
-    let d = c.digits_at-next in
-    positive-at c.args.text.now c.args.at d.result c.plain.result d.ensures c.plain.ensures false _ c.requires.1 c.if-good.false refl
+pub returns-then-magnitude-gt2147483647 : goal.returns-then-magnitude-gt2147483647
+returns-then-magnitude-gt2147483647 c =
+    let k = c.in_ok-magnitude.ensures in
+    positive-at c.args.here.now c.natural.new.here _ k _ c.requires
+    (sym (positive-wide k.bytes k.digits _ k.means.1 (omega (arith, c.if-magnitude-gt2147483647.true))))
+
+pub returns : goal.returns
+returns c =
+    let k = c.in_ok-magnitude.ensures in
+    let back : to_z w32 (of_z w32 c.signed.result) ≡ c.signed.result = search rules in
+    positive-at c.args.here.now c.natural.new.here _ k _ c.requires
+    (ap Some (back ∙ c.signed.ensures) ∙ positive-spelt k.bytes k.digits _ k.means.1 k.means.0 (omega (arith, c.if-magnitude-gt2147483647.false)))
