@@ -18,6 +18,7 @@ use Rattle.model.specs.declared.Refusal.TheVariants.{Tptp}
 use Rattle.laws.specs.Answer.{refused-passed}
 use Rattle.tptp_tokens.specs.Steps.{from, Moved, Reads, Value}
 use Rattle.tptp_tokens.specs.Several.{another}
+use Rattle.modes.specs.declared.marks.Marks.{Marks}
 use Rattle.tptp_state.specs.Told.{Passed, Ready, Told, Handed, Joined}
 use Rattle.tptp_reading.specs.Formula.{Begins, Follows, Further}
 use Rattle.tptp_state.specs.declared.state.State.{State}
