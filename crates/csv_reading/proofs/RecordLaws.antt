@@ -32,7 +32,6 @@ use Rattle.std.specs.Option.{is_some}
 use Rattle.text.specs.Reading.{spelt}
 use Rattle.csv_reading.specs.Field.{add_all, attach, reading, goes_on, Same, Onward, FieldOf}
 use Rattle.csv_reading.specs.Record.{Put, RowAsked, Spelled, Reads}
-use Rattle.text.proofs.Slices.{all-last}
 
 -- whole fields in front of the first record
 pub cons_all : List Text → Records → Records
@@ -103,6 +102,16 @@ attach_then :
 unfolding attach ◌>>=◌
 attach_then f fs (refused r p) = refl
 attach_then f fs (passed rs) = refl
+
+-- a test of all fields, with one more
+all-last : (test : Text → Bool) (fs : List Text) (f : Text) → all test (fs ++ f ∷ []) ≡ all test fs && test f
+unfolding all
+all-last test [] f = and_one (test f)
+all-last test (g ∷ fs) f = ap (λ (b : Bool). test g && b) (all-last test fs f) ∙ sym (and_assoc (test g) (all test fs) (test f))
+  where
+    and_assoc : (a b c : Bool) → (a && b) && c ≡ a && (b && c)
+    and_assoc true b c = refl
+    and_assoc false b c = refl
 
 -- a number more is good if there is room for it
 good_more :

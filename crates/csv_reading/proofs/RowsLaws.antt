@@ -156,9 +156,9 @@ module _ (table : Words) (text : Text) (here : Cursor) (count : ℕ) (rows : Wor
   unfolding read_from at_end ◌>>=◌
   all_read g = g.reads ∙ ap (λ (t : Text). read_from start here.at t >>= λ rs. passed (g.records ++ rs)) (empty here.rest.now h)
 
-  pub read_bad : (n : ℕ) → Gone table text here count (Some n) rows → ask_text table text ≡ refused Record n
+  pub read_bad : (n p : ℕ) → Gone table text here count (Some n) rows → p ≡ n → ask_text table text ≡ refused Record p
   unfolding ask_text ◌>>=◌
-  read_bad n g = rw (all_read g) (g.judged [])
+  read_bad n p g e = rw (all_read g, e) (g.judged [])
 
   pub read-good : Gone table text here count None rows → Stand table text rows count
   unfolding ask_text ◌>>=◌ ask_records

@@ -1,5 +1,4 @@
 -- Laws that several proofs of this crate, or of others, cite.
-pub mod Slices
 pub mod PassingLaws
 pub mod ReadingLaws
 pub mod WritingLaws

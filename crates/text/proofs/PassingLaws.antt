@@ -36,5 +36,14 @@ begun : (t : Text) (b : ℕ) → slice_get t 0 ≡ Some b → t ≡ b ∷ drop 1
 begun [] b h = absurd (omega (arith, slice_get_within [] 0 b h))
 begun (x ∷ t) b h = ap (λ (y : ℕ). y ∷ t) (get_or_from_slice_get (x ∷ t) 0 b 0 h)
 
-pub passes-one : (b : ℕ) (old new : Cursor) → slice_get old.rest.now 0 ≡ Some b → new.rest.now ≡ drop 1 old.rest.now → new.at ≡ old.at + 1 → Passed (b ∷ []) old new
-passes-one b old new h r e = record { rest = begun old.rest.now b h ∙ ap (λ (t : Text). b ∷ t) (sym r); at = e }
+pub passes-one :
+    (b : ℕ) (old new : Cursor) (n : ℕ) →
+    slice_get old.rest.now 0 ≡ Some b →
+    new.rest.now ≡ drop n old.rest.now →
+    new.at ≡ old.at + n →
+    n ≡ 1 →
+    Passed (b ∷ []) old new
+passes-one b old new n h r e f = record {
+  rest = begun old.rest.now b h ∙ ap (λ (t : Text). b ∷ t) (sym (r ∙ ap (λ (k : ℕ). drop k old.rest.now) f));
+  at = omega (arith, e, f);
+}

@@ -16,16 +16,19 @@ use Rattle.model.specs.Lists.{all}
 use Rattle.model.specs.Csv.{text_data}
 use Rattle.model.specs.Decimal.{numeral, plain_digits, good_number, number_of}
 use Rattle.laws.specs.Words.Tests.{decide, clash, and_left, and_right, and-true, and-false}
-use Rattle.laws.specs.Lists.Membership.{all_intro, all_mem}
+use Rattle.laws.specs.Lists.Membership.{all_append, all_intro, all_mem}
 use Rattle.laws.specs.Decimal.{digit-range, digit-text, numeral-append}
 use Rattle.std.specs.Prelude.{Option, Some, None}
 use Rattle.text.specs.Reading.{Follows, raised, Leading, signed, spelt, Means, Natural, NumberAt, NegativeAt}
 use Rattle.text.specs.Passing.{Stops}
 use Rattle.text.specs.declared.reading.Digits.{Digits}
 use Rattle.text.specs.declared.cursor.Cursor.{Cursor}
-use Rattle.laws.specs.Lists.Span.{side}
-use Rattle.text.proofs.Slices.{all_more}
 use Rattle.text.proofs.PassingLaws.{stops_first}
+
+-- a test of all bytes, with one more
+all_more : (test : ℕ → Bool) (t : Text) (b : ℕ) → all test t ≡ true → test b ≡ true → all test (t ++ b ∷ []) ≡ true
+unfolding all
+all_more test t b e f = all_append test t (b ∷ []) e (and-true f refl)
 
 -- the digits at the front of a text, so many so far
 pub record Counted (text : Text) (count m : ℕ) : Type 0 where
@@ -133,16 +136,15 @@ module _ (t : Text) where
   unfolding spelt good_number
   negative-none e = rw e refl
 
-  pub negative-wide : (m : ℕ) → Follows m (numeral 0 t) → (ltb m 1 || ltb 2147483648 m) ≡ true → spelt (minus ∷ t) ≡ None
-  unfolding spelt good_number
-  negative-wide m f e =
-      ⊎_elim
-      (λ (k : m < 1). rw (lt-leb 1 (numeral 0 t) (omega (arith, k, f)), and-false (plain_digits t) refl) refl)
-      (λ (k : 1 ≤ m). rw (lt-leb (numeral 0 t) 2147483648 (omega (arith, f, ltb-true 2147483648 m (rest k))), and-false (plain_digits t && leb 1 (numeral 0 t)) refl) refl)
-      (side 1 m)
-    where
-      rest : 1 ≤ m → ltb 2147483648 m ≡ true
-      rest k = ap (λ (b : Bool). b || ltb 2147483648 m) (sym (le-ltb m 1 k)) ∙ e
+  module _ (m : ℕ) (f : Follows m (numeral 0 t)) where
+    pub negative-zero : m < 1 → spelt (minus ∷ t) ≡ None
+    unfolding spelt good_number
+    negative-zero h = rw (lt-leb 1 (numeral 0 t) (omega (arith, h, f)), and-false (plain_digits t) refl) refl
+
+    pub negative-wide : 2147483648 < m → spelt (minus ∷ t) ≡ None
+    unfolding spelt good_number
+    negative-wide h =
+        rw (lt-leb (numeral 0 t) 2147483648 (omega (arith, f, h)), and-false (plain_digits t && leb 1 (numeral 0 t)) refl) refl
 
   pub negative-spelt : (m : ℕ) → Follows m (numeral 0 t) → plain_digits t ≡ true → 1 ≤ m → m ≤ 2147483648 → Some (signed true m) ≡ spelt (minus ∷ t)
   unfolding spelt good_number number_of

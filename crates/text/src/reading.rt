@@ -79,7 +79,10 @@ fn negative(here: &mut Cursor<'_>) -> Option<i32>
     ensures { N.NegativeAt here.old here.new result }
 {
     let magnitude = natural(here)?;
-    if (magnitude < 1) | (2147483648 < magnitude) {
+    if magnitude < 1 {
+        return None;
+    }
+    if 2147483648 < magnitude {
         return None;
     }
     Some(word::signed(magnitude, true))

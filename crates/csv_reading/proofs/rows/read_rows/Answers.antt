@@ -1,5 +1,6 @@
 -- `csv_reading::rows::read_rows` meets its contract. The loop's invariant: the records before this place are read, and their rows stand at
 -- the front if they fit.
+use native.Mathlib.Omega.{arith}
 use mathlib.Core.Path.{◌≡◌, refl, sym, ap, ◌∙◌, subst}
 use lib.ListN.{length}
 use borrow.Author.Rules.{rules}
@@ -43,8 +44,8 @@ pub returns-in-Some-bad : goal.returns-in-Some-bad
 returns-in-Some-bad c =
     let l = c.loop-here in
     let none : length l.here.rest.now ≡ 0 = search rules in
-    read_bad c.args.table.now c.args.text.now l.here l.count l.rows none _
-    (subst (λ (b : Option _). Gone c.args.table.now c.args.text.now l.here l.count b l.rows) c.in-Some-bad.is l.invariant.0)
+    read_bad c.args.table.now c.args.text.now l.here l.count l.rows none _ _
+    (subst (λ (b : Option _). Gone c.args.table.now c.args.text.now l.here l.count b l.rows) c.in-Some-bad.is l.invariant.0) (omega arith)
 
 pub returns-in-None-bad : goal.returns-in-None-bad
 returns-in-None-bad c =
