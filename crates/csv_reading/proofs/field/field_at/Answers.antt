@@ -36,7 +36,7 @@ returns c =
     let more = c.in_ok-more.more in
     let value : c.if-more-eq0.value ≡ cond (eqb more 0) n.result None =
     elim c.if-more-eq0.branch [
-      then-more-eq0 w ↦ rw (w.value-is, eq-eqb more 0 w.if-more-eq0.true) refl
+      | then-more-eq0 w ↦ rw (w.value-is, eq-eqb more 0 w.if-more-eq0.true) refl
       | else-more-eq0 w ↦ rw (w.value-is, ne_eqb more 0 w.if-more-eq0.false) refl
     ] in
     whole c.args.here.now m c.ending.new.here n.result more
