@@ -1,5 +1,5 @@
 -- Whole fields: a number's bytes and what follows them in the field, bare or in quotes, and what stands behind the field.
-use Prim.Native.Nat.{ℕ, ◌+◌, ◌≤◌, ◌<◌}
+use Prim.Native.Nat.{ℕ, ◌≤◌, ◌<◌}
 use native.Mathlib.Nat.{eq-or-lt_of_le}
 use native.Mathlib.Omega.{arith}
 use mathlib.Core.Path.{◌≡◌, refl, sym, ap, ◌∙◌, subst}
@@ -11,12 +11,12 @@ use lib.Seq.{drop-cons}
 use lib.Dec.{eqb}
 use lib.IntN.{ℤ}
 use borrow.Author.Tests.{eq-eqb, ne_eqb}
-use Rattle.std.specs.Prelude.{Option, None, Result, Ok, Err}
+use Rattle.std.specs.Prelude.{Option, None, Ok, Err}
 use Rattle.model.specs.declared.Refusal.TheVariants.{Csv}
 use Rattle.model.specs.Answer.{refused}
 use Rattle.model.specs.Bytes.{Text, quote}
 use Rattle.model.specs.Csv.{text_data}
-use Rattle.model.specs.CsvReading.{field, quoting, closing, move_first, move, follow, read_from}
+use Rattle.model.specs.CsvReading.{field, quoting, move_first, move, follow, read_from}
 use Rattle.model.specs.Decimal.{good_number}
 use Rattle.laws.specs.Lists.Membership.{all_append}
 use Rattle.text.specs.declared.cursor.Cursor.{Cursor}
@@ -25,7 +25,7 @@ use Rattle.text.specs.Reading.{NumberAt, spelt}
 use Rattle.csv_reading.specs.declared.field.End.{End}
 use Rattle.csv_reading.specs.declared.field.End.TheVariants.{Comma, Line}
 use Rattle.csv_reading.specs.declared.field.BadByte.{BadByte}
-use Rattle.csv_reading.specs.Field.{attach, behind, reading, goes_on, Same, Onward, Bare, Quoted, Content, EndOf, FieldOf}
+use Rattle.csv_reading.specs.Field.{attach, behind, reading, Same, Onward, Bare, Quoted, Content, EndOf, FieldOf}
 use Rattle.csv_reading.proofs.FieldLaws.{attach-append, attach-refused, quoting-text, field-text, closing-rest, read_past, empty}
 
 -- what lies behind a place lies behind one before it

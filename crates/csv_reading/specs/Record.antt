@@ -1,5 +1,5 @@
 -- What the reading of a record finds, and the row that it spells.
-use Rattle.std.specs.Prelude.{ℕ, ◌≤◌, ◌<◌, ◌≡◌, Bool, true, false, ◌&&◌, List, ◌∷◌, length, set, ltb, ℤ, Option, Some, None, Result, Ok, Err}
+use Rattle.std.specs.Prelude.{ℕ, ◌<◌, ◌≡◌, Bool, true, false, ◌&&◌, List, ◌∷◌, length, set, ltb, ℤ, Option, Some, None, Result, Ok, Err}
 use Rattle.std.specs.Option.{is_some}
 use Rattle.model.specs.declared.Refusal.TheVariants.{Csv}
 use Rattle.model.specs.Answer.{passed, refused, ◌>>=◌}

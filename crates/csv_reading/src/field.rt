@@ -112,7 +112,7 @@ pub fn field_at(here: &mut Cursor<'_>) -> Result<Field, BadByte>
     let quotes = passes(here, bytes::QUOTE);
     let number = number_at(here);
     let more = content(here, quotes)?;
-    let end = ending(here)?;
     let value = if more == 0 { number } else { None };
+    let end = ending(here)?;
     Ok(Field { value, end })
 }

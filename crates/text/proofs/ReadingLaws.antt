@@ -1,21 +1,21 @@
 -- Laws for the reading of numbers: digits one after another, and what the bytes passed spell.
-use Prim.Native.Nat.{ℕ, zero, suc, ◌+◌, ◌*◌, ◌-◌, ◌≤◌, ◌<◌}
+use Prim.Native.Nat.{ℕ, ◌+◌, ◌*◌, ◌-◌, ◌≤◌, ◌<◌}
 use native.Mathlib.Omega.{arith}
 use mathlib.Core.Path.{◌≡◌, refl, sym, ap, ◌∙◌, subst}
 use mathlib.Core.Logic.{⊎_elim}
-use mathlib.Core.Bool.{Bool, true, false, cond, not, ◌&&◌, ◌||◌}
+use mathlib.Core.Bool.{Bool, true, false, not, ◌&&◌, ◌||◌}
 use mathlib.Core.List.{[], ◌∷◌, ◌++◌}
 use lib.ListN.{length, get_or, take, drop, take-append-drop, drop_of_length-le}
 use native.Mathlib.Numerals.{add-one}
 use lib.Seq.{take-suc, length-take-le}
 use lib.Dec.{leb, ltb, eqb}
-use lib.IntN.{ℤ, pos, neg_ℤ}
-use borrow.Author.Tests.{leb-true, leb-false, le-leb, lt-leb, eq-eqb, ne_eqb, ltb-true, ltb-false, le-ltb}
+use lib.IntN.{ℤ, pos}
+use borrow.Author.Tests.{le-leb, lt-leb, eq-eqb, ne_eqb, ltb-true, ltb-false}
 use Rattle.model.specs.Bytes.{Text, minus, digit}
 use Rattle.model.specs.Lists.{all}
 use Rattle.model.specs.Csv.{text_data}
 use Rattle.model.specs.Decimal.{numeral, plain_digits, good_number, number_of}
-use Rattle.laws.specs.Words.Tests.{decide, clash, and_left, and_right, and-true, and-false}
+use Rattle.laws.specs.Words.Tests.{decide, clash, and_left, and-true, and-false}
 use Rattle.laws.specs.Lists.Membership.{all_append, all_intro, all_mem}
 use Rattle.laws.specs.Decimal.{digit-range, digit-text, numeral-append}
 use Rattle.std.specs.Prelude.{Option, Some, None}

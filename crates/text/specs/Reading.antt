@@ -1,5 +1,5 @@
 -- What the reading of a number in a text finds.
-use Rattle.std.specs.Prelude.{ℕ, ◌+◌, ◌*◌, ◌-◌, ◌≤◌, ◌<◌, min, ◌≡◌, Bool, true, false, cond, [], ◌∷◌, ◌++◌, length, take, drop, ltb}
+use Rattle.std.specs.Prelude.{ℕ, ◌+◌, ◌*◌, ◌-◌, ◌≤◌, min, ◌≡◌, Bool, true, false, cond, [], ◌∷◌, ◌++◌, length, take, drop, ltb}
 use Rattle.std.specs.Prelude.{ℤ, pos, neg_ℤ, Option, Some, None}
 use Rattle.model.specs.Bytes.{Text, minus, nought, digit}
 use Rattle.model.specs.Lists.{all}

@@ -1,8 +1,6 @@
 -- `csv_reading::field::quoted` meets its contract. The loop's invariant: the bytes so far stand in quotes, so that the reading goes on there.
 use Prim.Native.Nat.{◌+◌, ◌<◌}
-use native.Mathlib.Omega.{arith}
 use mathlib.Core.Path.{◌≡◌, refl, sym, ◌∙◌, subst}
-use mathlib.Core.Bool.{true}
 use lib.ListN.{length, get_or}
 use lib.Dec.{eqb}
 use borrow.Author.Rules.{rules}

@@ -1,6 +1,5 @@
 -- `csv_reading::record::record` meets its contract. The loop's invariant: the fields read so far belong to the record, and their numbers
 -- make the row.
-use mathlib.Core.Path.{sym, ap, ◌∙◌}
 use Rattle.std.proofs.lemmas.Result.{err_from_is_err_and}
 use Rattle.csv_reading.proofs.RecordLaws.{held_none, held_more, held_bad, ended-comma, line_bad, line_none, line-some}
 use Rattle.csv_reading.proofs.record.record.Goals as goal

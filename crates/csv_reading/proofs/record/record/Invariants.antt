@@ -1,6 +1,5 @@
 -- `csv_reading::record::record` meets its contract. The loop's invariant: the fields read so far belong to the record, and their numbers
 -- make the row.
-use mathlib.Core.Path.{◌≡◌}
 use lib.ListN.{length}
 use Rattle.csv_reading.proofs.RecordLaws.{Held}
 use Rattle.csv_reading.proofs.record.record.Given as goal

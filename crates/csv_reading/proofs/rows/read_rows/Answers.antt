@@ -1,7 +1,7 @@
 -- `csv_reading::rows::read_rows` meets its contract. The loop's invariant: the records before this place are read, and their rows stand at
 -- the front if they fit.
 use native.Mathlib.Omega.{arith}
-use mathlib.Core.Path.{◌≡◌, refl, sym, ap, ◌∙◌, subst}
+use mathlib.Core.Path.{◌≡◌, refl, ◌∙◌, subst}
 use lib.ListN.{length}
 use borrow.Author.Rules.{rules}
 use Rattle.std.proofs.lemmas.Result.{err_from_is_err_and}
@@ -27,18 +27,20 @@ loop-here-preserved c =
     let t = c.args.table.now in
     let text = c.args.text.now in
     let m = c.match-branch-2 in
-    let read = c.in_ok-row.ensures in
-    (elim m.branch [
-      in-Some w ↦
-      let long : length w.in-Some.row ≡ 8 = search rules in
-      rw (w.rows-is, w.bad-is)
-      (gone_row t text l.here l.count l.bad l.rows c.record.new.here w.in-Some.row w.place.new.rows l.invariant.0
-      (subst (λ (r : Option Words). Reads t l.here r c.record.new.here) w.in-Some.is read) long w.place.auto.rows w.place.ensures)
-      | in-None w ↦
-      rw (w.rows-is, w.bad-is, w.or-bad.ensures)
-      (gone_none_more t text l.here l.count l.bad l.rows c.record.new.here l.invariant.0
-      (subst (λ (r : Option Words). Reads t l.here r c.record.new.here) w.in-None.is read))
-    ], m.auto.rows ∙ l.invariant.1)
+    let read = c.in_ok-row.ensures in (
+      elim m.branch [
+        | in-Some w ↦
+            let long : length w.in-Some.row ≡ 8 = search rules in
+            rw (w.rows-is, w.bad-is)
+            (gone_row t text l.here l.count l.bad l.rows c.record.new.here w.in-Some.row w.place.new.rows l.invariant.0
+            (subst (λ (r : Option Words). Reads t l.here r c.record.new.here) w.in-Some.is read) long w.place.auto.rows w.place.ensures)
+        | in-None w ↦
+            rw (w.rows-is, w.bad-is, w.or-bad.ensures)
+            (gone_none_more t text l.here l.count l.bad l.rows c.record.new.here l.invariant.0
+            (subst (λ (r : Option Words). Reads t l.here r c.record.new.here) w.in-None.is read))
+      ],
+      m.auto.rows ∙ l.invariant.1,
+    )
 
 pub returns-in-Some-bad : goal.returns-in-Some-bad
 returns-in-Some-bad c =
