@@ -12,7 +12,8 @@ stay-requires c = (c.requires.0, atom_grown _ _ _ _ _ c.requires.1)
 pub returns-in-Some : goal.returns-in-Some
 returns-in-Some c =
     let a = c.args in
-    reduces_known _ _ a.log.now.rows.now _ a.scope _ _ _ c.value_at-found.ensures _ c.in-Some.is _
+    reduces_known a.log.now.table.now a.words.now a.log.now.rows.now a.environment a.scope a.holds a.at
+    _ c.value_at-found.ensures c.in-Some.value c.in-Some.is a.out.now
 
 pub returns-in-None : goal.returns-in-None
 returns-in-None c =

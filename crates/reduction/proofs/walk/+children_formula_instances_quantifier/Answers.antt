@@ -133,25 +133,19 @@ instances-loop-i-preserved t c = (
 pub instances-tree_end-requires : goal.instances-tree_end-requires
 instances-tree_end-requires t c = instances-tree c.requires.2
 
-pub instances-returns-in-Short : goal.instances-returns-in-Short
-instances-returns-in-Short t c = record {
-  works = instances-short c.args.log.now.rows.now _ c.loop-i.invariant.1 c.loop-i-test.true c.loop-i.invariant.0 c.requires.3 c.requires.0
-      c.instance-bound.ensures.numbers (lent_places c.loop-i.invariant.0 c.requires.4) c.instance-bound.ensures.scope
-      c.formula-child.ensures c.add-join.ensures c.in-Short.is c.loop-i.next;
-  scratch_unchanged = (kept_lent c.loop-i.invariant.0 c.requires.4 _ c.formula-child.auto.scratch).front;
-}
+pub instances-returns-in-Short-clause-works : goal.instances-returns-in-Short-clause-works
+instances-returns-in-Short-clause-works t c =
+    instances-short c.args.log.now.rows.now _ c.loop-i.invariant.1 c.loop-i-test.true c.loop-i.invariant.0 c.requires.3 c.requires.0
+    c.instance-bound.ensures.numbers (lent_places c.loop-i.invariant.0 c.requires.4) c.instance-bound.ensures.scope
+    c.formula-child.ensures c.add-join.ensures c.in-Short.is c.loop-i.next
 
-pub instances-returns-then-k-eq0 : goal.instances-returns-then-k-eq0
-instances-returns-then-k-eq0 t c = record {
-  works = instances-none c.args.log.now.rows.now _ c.loop-i.invariant.1 c.if-k-eq0.true _ c.tree_end.ensures;
-  scratch_unchanged = c.loop-i.invariant.0.front;
-}
+pub instances-returns-then-k-eq0-clause-works : goal.instances-returns-then-k-eq0-clause-works
+instances-returns-then-k-eq0-clause-works t c =
+    instances-none c.args.log.now.rows.now _ c.loop-i.invariant.1 c.if-k-eq0.true _ c.tree_end.ensures
 
-pub instances-returns : goal.instances-returns
-instances-returns t c = record {
-  works = instances_end c.args.log.now.rows.now _ c.loop-i.invariant.1 c.loop-i-test.false (omega (arith, c.if-k-eq0.false));
-  scratch_unchanged = c.loop-i.invariant.0.front;
-}
+pub instances-returns-clause-works : goal.instances-returns-clause-works
+instances-returns-clause-works t c =
+    instances_end c.args.log.now.rows.now _ c.loop-i.invariant.1 c.loop-i-test.false (omega (arith, c.if-k-eq0.false))
 
 pub quantifier-prepare-prepared-requires : goal.quantifier-prepare-prepared-requires
 quantifier-prepare-prepared-requires t c =

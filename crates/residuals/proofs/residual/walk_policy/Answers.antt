@@ -5,16 +5,12 @@ use Rattle.model.specs.Reading.{is_formula}
 use Rattle.residuals.proofs.ReduceWalking.{lent_few, walked_whole}
 use Rattle.residuals.proofs.residual.walk_policy.Goals as goal
 
-pub invariant_of-outer-clause-bound : goal.invariant_of-outer-clause-bound
-invariant_of-outer-clause-bound c = (c.empty.ensures.0, refl)
-
 pub formula-walked-requires : goal.formula-walked-requires
 unfolding is_formula
 formula-walked-requires c =
     let a = c.args in (lent_few a.buffer.now c.lendable-room.result c.lendable-room.ensures, refl, c.requires)
 
 pub returns : goal.returns
-returns c =
-    let a = c.args in
-    λ tree next node. let answers = (c.formula-walked.ensures [] tree next (c.empty.ensures.0, refl)
-    node).answers in walked_whole a.buffer.now c.lendable-room.result c.lendable-room.ensures _ answers.long answers
+returns c = λ tree next node.
+    let answers = (c.formula-walked.ensures [] tree next (c.empty.ensures.0, refl) node).answers in
+    walked_whole c.args.buffer.now c.lendable-room.result c.lendable-room.ensures _ answers.long answers
