@@ -2,7 +2,7 @@
 -- below asks and comes to.
 use Prim.Native.Nat.{ℕ, ◌+◌}
 use mathlib.Core.Path.{◌≡◌, refl, sym, ap, subst}
-use mathlib.Core.Bool.{Bool, true, false, false≢true}
+use mathlib.Core.Bool.{Bool, false≢true}
 use mathlib.Core.List.{List}
 use lib.IntN.{ℤ, nat_abs}
 use Rattle.model.specs.Words.{Words, word, value}
