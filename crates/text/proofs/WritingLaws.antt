@@ -7,7 +7,7 @@ use mathlib.Core.Path.{◌≡◌, refl, sym, ap, ap₂, ◌∙◌, subst}
 use mathlib.Core.Logic.{⊎_elim}
 use mathlib.Core.Bool.{Bool, true, false}
 use mathlib.Core.List.{List, [], ◌∷◌, ◌++◌, append_assoc, append-nil}
-use lib.ListN.{length, take, drop, set, get_or, length-append, length-set, take-append-drop}
+use lib.ListN.{length, take, drop, set, get_or, length-append, length-set}
 use lib.Seq.{take-suc, append_snoc, set_at, take_at, take-set-le, take-suc-set, length-take-le}
 use lib.Dec.{leb}
 use lib.IntN.{ℤ, pos, negsuc, nat_abs}
