@@ -3,10 +3,10 @@ use Prim.Native.Nat.{ℕ, suc, ◌+◌, ◌*◌, ◌-◌, ◌/◌, ◌≤◌, �
 use native.Mathlib.Nat.{sub-zero}
 use native.Mathlib.Numerals.{add-one}
 use native.Mathlib.Omega.{arith}
-use mathlib.Core.Path.{◌≡◌, refl, sym, ap, ap₂, ◌∙◌, subst}
+use mathlib.Core.Path.{◌≡◌, refl, sym, ap, ap₂, ◌∙◌}
 use mathlib.Core.Bool.{true}
 use mathlib.Core.List.{[], ◌∷◌, ◌++◌, map, append_assoc}
-use lib.ListN.{length, take, drop, set, length-set, drop_of_length-le, length-take}
+use lib.ListN.{length, take, drop, drop_of_length-le, length-take}
 use lib.Seq.{drop-cons, length-take-le, get_or-take}
 use lib.IntN.{ℤ, pos}
 use Rattle.model.specs.Words.{Words, word, value}

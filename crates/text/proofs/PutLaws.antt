@@ -1,8 +1,8 @@
 -- Laws for the writing of texts one behind another.
-use Prim.Native.Nat.{ℕ, ◌+◌, ◌≤◌, ◌<◌}
+use Prim.Native.Nat.{ℕ, ◌≤◌}
 use native.Mathlib.Omega.{arith}
 use mathlib.Core.Path.{◌≡◌, refl, sym, ap, ◌∙◌, subst}
-use mathlib.Core.List.{[], ◌∷◌, ◌++◌, append_assoc, append-nil}
+use mathlib.Core.List.{[], ◌++◌, append_assoc, append-nil}
 use lib.ListN.{length, take, length-append}
 use borrow.Author.Tests.{le-leb, lt-leb}
 use Rattle.model.specs.Bytes.{Text}
@@ -10,7 +10,7 @@ use Rattle.std.specs.Prelude.{Option, Some, None}
 use Rattle.std.specs.Option.{ForSome}
 use Rattle.std.proofs.lemmas.Option.{none-some}
 use Rattle.std.specs.Borrow.{MutBor}
-use Rattle.text.specs.Put.{Wrote, Puts, told, Writes}
+use Rattle.text.specs.Put.{Puts, told, Writes}
 use Rattle.text.specs.Adds.{PutsBehind, Adds, Begins}
 use Rattle.text.specs.declared.writer.Writer.{Writer}
 

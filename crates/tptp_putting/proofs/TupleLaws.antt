@@ -8,7 +8,7 @@ use lib.Seq.{drop-append_seam, take-append_seam}
 use lib.IntN.{ℤ}
 use Rattle.std.proofs.Common.{drop-drop}
 use Rattle.model.specs.Lists.{gather}
-use Rattle.model.specs.Bytes.{Text, bytes}
+use Rattle.model.specs.Bytes.{bytes}
 use Rattle.laws.specs.Reading.Formed.{AllOfLength}
 use Rattle.text.specs.declared.writer.Writer.{Writer}
 use Rattle.text.specs.Adds.{Adds}

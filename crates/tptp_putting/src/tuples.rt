@@ -1,10 +1,5 @@
 // The variables that a quantifier binds, and its excluded tuples.
-#![tactic(auto, using(
-    text::proofs::PutLaws::adds_is,
-    text::proofs::PutLaws::adds_then,
-    crate::proofs::TextLaws::head_parts,
-    crate::proofs::TextLaws::tuple_parts,
-), unfolding(model::specs::Bytes::bytes, crate::specs::Texts::unequal_text))]
+#![tactic(auto, using(text::proofs::PutLaws::adds_is, text::proofs::PutLaws::adds_then, crate::proofs::TextLaws::head_parts, crate::proofs::TextLaws::tuple_parts,), unfolding(model::specs::Bytes::bytes, crate::specs::Texts::unequal_text))]
 
 ghost use Rattle.std.specs.Prelude.{◌+◌, ◌≤◌, length};
 ghost use Rattle.model.specs.Words.{word, scope_limit};

@@ -1,7 +1,7 @@
 -- Laws for the walk: the text of a node, from what was written of the nodes below it.
 use Prim.Native.Nat.{ℕ, ◌+◌, ◌*◌, ◌-◌, ◌≤◌, ◌<◌}
 use native.Mathlib.Omega.{arith}
-use mathlib.Core.Path.{◌≡◌, refl, sym, ap, ◌∙◌, subst}
+use mathlib.Core.Path.{◌≡◌, refl, sym, ap, ◌∙◌}
 use mathlib.Core.Bool.{Bool, true, false, cond}
 use mathlib.Core.List.{◌++◌, append_assoc}
 use lib.ListN.{take, drop}
@@ -11,7 +11,7 @@ use Rattle.std.proofs.lemmas.Option.{none-some}
 use Rattle.model.specs.Words.{Words, word, value}
 use Rattle.model.specs.Bytes.{Text, bytes}
 use Rattle.model.specs.Tag.{Tag, tag_of}
-use Rattle.model.specs.Tree.{Tree, Trees, plain}
+use Rattle.model.specs.Tree.{Tree, Trees}
 use Rattle.model.specs.Tptp.{connective}
 use Rattle.text.specs.declared.writer.Writer.{Writer}
 use Rattle.text.specs.Adds.{Adds}

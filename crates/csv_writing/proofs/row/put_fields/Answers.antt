@@ -1,6 +1,5 @@
 -- `csv_writing::row::put_fields` meets its contract: the first field, and those behind it. The loop's invariant: the fields behind the
 -- first stand up to the word reached.
-use Rattle.model.specs.Bytes.{bytes}
 use Rattle.text.proofs.PutLaws.{adds_then, adds_is, left_more, left_end}
 use Rattle.csv_writing.proofs.RowLaws.{fields-first, behind_more, behind-none}
 use Rattle.csv_writing.proofs.row.put_fields.Goals as goal

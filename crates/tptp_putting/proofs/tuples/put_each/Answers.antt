@@ -1,7 +1,7 @@
 -- `tptp_putting::tuples::put_each` meets its contract. The loop's invariant: the tuples stand up to the index reached, whatever tuples
 -- they are.
 use native.Mathlib.Omega.{arith}
-use Rattle.tptp_putting.proofs.TupleLaws.{First, first-tuple, each_none, each_more, each_all}
+use Rattle.tptp_putting.proofs.TupleLaws.{first-tuple, each_none, each_more, each_all}
 use Rattle.tptp_putting.proofs.tuples.put_each.Goals as goal
 
 pub loop-from-init : goal.loop-from-init

@@ -1,5 +1,4 @@
 -- `tptp_writing::tree::atom` meets its contract: texts one behind another.
-use mathlib.Core.Path.{ap}
 use Rattle.model.specs.Bytes.{bytes}
 use Rattle.text.proofs.PutLaws.{adds_then, adds_is}
 use Rattle.tptp_writing.proofs.NodeTextLaws.{atom_text}
