@@ -1,14 +1,11 @@
 -- What the parts of the call reduce say on the way to it.
-use Rattle.std.specs.Prelude.{ℕ, ◌-◌, ◌≤◌, min, ◌≡◌, [], ◌++◌, length, take, leb}
+use Rattle.std.specs.Prelude.{ℕ, ◌-◌, ◌≤◌, min, ◌≡◌, ◌++◌, length, take, leb}
 use Rattle.model.specs.declared.Refusal.TheVariants.{Scratch}
 use Rattle.model.specs.Words.{Words, policy_limit}
 use Rattle.model.specs.Answer.{Answer, Outcome, ask, answer, count, ◌>>=◌}
 use Rattle.model.specs.Tree.{Tree, encode}
-use Rattle.model.specs.Level.{formula}
-use Rattle.model.specs.Log.{rows}
-use Rattle.model.specs.Reduction.{reduce, need}
+use Rattle.model.specs.Reduction.{need}
 use Rattle.model.specs.Calls.{zeros, filled, write, ask_reduction}
-use Rattle.laws.specs.Reading.Nodes.{Node}
 use Rattle.joining.specs.declared.answer.Reduced.{Reduced}
 use Rattle.joining.specs.declared.answer.Reduced.TheVariants.{Part}
 use Rattle.joining.specs.Answer.{told}
@@ -37,10 +34,3 @@ lendable buffer = min buffer policy_limit
 pub record Walked (places need : ℕ) (residual : Tree) (after : Words) (r : Reduced) : Type 0 where
   pub is : r ≡ told places need (lendable (length after)) residual
   pub words : (n : ℕ) → r ≡ Part n → take n after ≡ encode residual
-
--- the same of the tree that stands at the start of a policy, over a log
-abbrev pub WalkedPolicy : (table policy log : Words) (places : ℕ) (after : Words) (r : Reduced) → Type 0
-WalkedPolicy table policy log places after r =
-    (tree : Tree) (next : ℕ) →
-    Node table policy formula 0 0 0 tree next →
-    Walked places (need table (rows log) tree []) (reduce table (rows log) tree []) after r
