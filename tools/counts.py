@@ -77,6 +77,10 @@ show("5  functions with table, words, log and links", [f"{p} {n}" for p, n, a, _
      if all(re.search(rf"\b{x}: ", a) for x in ("words", "log", "links")) ])
 show("5  functions with above (or level), scope and at", [f"{p} {n}" for p, n, a, _ in functions
      if re.search(r"\b(above|level): ", a) and re.search(r"\bscope: ", a) and re.search(r"\bat: ", a)])
+show("5  functions with a text and an index in it", [f"{p} {n}" for p, n, a, _ in functions
+     if re.search(r"\btext: &\[u8\]", a) and re.search(r"\b(at|from): usize", a)])
+show("5  functions with a buffer and where a text in it ends", [f"{p} {n}" for p, n, a, _ in functions
+     if re.search(r"\bout: &mut \[u8\]", a) and re.search(r"\b(before|at): (Option<usize>|Put|usize)", a)])
 show("5  functions with known and set", [f"{p} {n}" for p, n, a, _ in functions if "known: " in a and "set: " in a])
 clauses = Counter()
 for p, n, a, c in functions:

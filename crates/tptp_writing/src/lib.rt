@@ -10,6 +10,7 @@ ghost use Rattle.model.specs.Reading.{read_policy};
 ghost use Rattle.model.specs.Tptp.{policy_text};
 ghost use Rattle.text.specs.Put.{Writes};
 
+use policies::depth::Depth;
 use text::writer::Writer;
 
 // A policy that was read, written as text. What stands behind the text is left open.
@@ -21,7 +22,7 @@ pub fn write_tree(table: &[i32], policy: &[i32], out: &mut [u8]) -> Option<usize
 {
     let mut w = Writer::new(out);
     w.bytes(b"tff(a,axiom,");
-    tree::node(policy, &mut w, true, 0, 0, 0);
+    tree::node(policy, &mut w, true, Depth::ROOT, 0);
     w.bytes(b").");
     w.put
 }

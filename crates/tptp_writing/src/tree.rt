@@ -7,6 +7,7 @@ ghost use Rattle.text.specs.Adds.{Adds};
 ghost use Rattle.tptp_writing.specs.Printing.{Printable, PrintableAll, Prints};
 ghost use Rattle.tptp_writing.specs.Printing as P;
 
+use policies::depth::Depth;
 use policies::node;
 use policies::node::Tag;
 use text::writer::Writer;
@@ -48,20 +49,19 @@ fn operands(
     words: &[i32],
     w: &mut Writer<'_>,
     every: bool,
-    above: usize,
-    scope: usize,
+    depth: Depth,
     n: usize,
     at: usize,
 ) -> Option<usize>
-    requires { (1 ≤ n) × PrintableAll words.now above scope n at }
-    ensures { (h : PrintableAll words.now above scope n at) →
-        Prints (P.operands_text every h.trees scope) h.next w.old w.new result }
+    requires { (1 ≤ n) × PrintableAll words.now depth.level depth.scope n at }
+    ensures { (h : PrintableAll words.now depth.level depth.scope n at) →
+        Prints (P.operands_text every h.trees depth.scope) h.next w.old w.new result }
 {
-    let mut next = node(words, w, false, above, scope, at);
+    let mut next = node(words, w, false, depth, at);
     for _ in 1..n {
         let from = next?;
         w.either(every, b"&", b"|");
-        next = node(words, w, false, above, scope, from);
+        next = node(words, w, false, depth, from);
     }
     next
 }
@@ -73,17 +73,20 @@ fn join(
     w: &mut Writer<'_>,
     bare: bool,
     every: bool,
-    above: usize,
-    scope: usize,
+    depth: Depth,
     at: usize,
 ) -> Option<usize>
-    requires { (T.Tag.join every ≡ T.tag_of (W.word words.now at)) × Printable words.now above scope at }
-    ensures { (h : Printable words.now above scope at) →
-        Prints (P.node_text bare h.tree scope) h.next w.old w.new result }
+    requires { (T.Tag.join every ≡ T.tag_of (W.word words.now at)) × Printable words.now depth.level depth.scope at }
+    ensures { (h : Printable words.now depth.level depth.scope at) →
+        Prints (P.node_text bare h.tree depth.scope) h.next w.old w.new result }
 {
     let n = words::value(words, at + 1);
     w.either(bare, b"", b"(");
-    let next = operands(words, w, every, above + 1, scope, n, at + 2);
+    let below = Depth {
+        level: depth.level + 1,
+        scope: depth.scope,
+    };
+    let next = operands(words, w, every, below, n, at + 2);
     w.either(bare, b"", b")");
     next
 }
@@ -94,52 +97,52 @@ fn quantifier(
     words: &[i32],
     w: &mut Writer<'_>,
     every: bool,
-    above: usize,
-    scope: usize,
+    depth: Depth,
     at: usize,
 ) -> Option<usize>
-    requires { (T.Tag.quantifier every ≡ T.tag_of (W.word words.now at)) × Printable words.now above scope at }
-    ensures { (h : Printable words.now above scope at) →
-        Prints (P.node_text true h.tree scope) h.next w.old w.new result }
+    requires { (T.Tag.quantifier every ≡ T.tag_of (W.word words.now at)) × Printable words.now depth.level depth.scope at }
+    ensures { (h : Printable words.now depth.level depth.scope at) →
+        Prints (P.node_text true h.tree depth.scope) h.next w.old w.new result }
 {
     let v = words::value(words, at + 1);
     let m = words::value(words, at + 2);
     let first = at + 3 + v * m;
-    tuples::put_head(w, every, scope, v, m == 0);
-    let body = node(words, w, false, above + 1, scope + v, first)?;
-    tuples::put_tuples(w, &words[at + 3..first], v, scope);
+    tuples::put_head(w, every, depth.scope, v, m == 0);
+    let below = Depth {
+        level: depth.level + 1,
+        scope: depth.scope + v,
+    };
+    let body = node(words, w, false, below, first)?;
+    tuples::put_tuples(w, &words[at + 3..first], v, depth.scope);
     w.either(every, b"=>", b"&");
-    let next = node(words, w, false, above + 1, scope + v, body);
+    let next = node(words, w, false, below, body);
     w.bytes(b")");
     next
 }
 
 // A some: its restriction stands bare in its parentheses.
 #[cycle(join_node_operands_quantifier_some)]
-fn some(words: &[i32], w: &mut Writer<'_>, above: usize, scope: usize, at: usize) -> Option<usize>
-    requires { (T.Tag.some ≡ T.tag_of (W.word words.now at)) × Printable words.now above scope at }
-    ensures { (h : Printable words.now above scope at) →
-        Prints (P.node_text true h.tree scope) h.next w.old w.new result }
+fn some(words: &[i32], w: &mut Writer<'_>, depth: Depth, at: usize) -> Option<usize>
+    requires { (T.Tag.some ≡ T.tag_of (W.word words.now at)) × Printable words.now depth.level depth.scope at }
+    ensures { (h : Printable words.now depth.level depth.scope at) →
+        Prints (P.node_text true h.tree depth.scope) h.next w.old w.new result }
 {
-    tuples::put_head(w, false, scope, 1, true);
-    let next = node(words, w, true, above + 1, scope + 1, at + 1);
+    tuples::put_head(w, false, depth.scope, 1, true);
+    let below = Depth {
+        level: depth.level + 1,
+        scope: depth.scope + 1,
+    };
+    let next = node(words, w, true, below, at + 1);
     w.bytes(b")");
     next
 }
 
 // The node at an index, and the nodes below it. An all-of or any-of stands bare, or in parentheses.
 #[cycle(join_node_operands_quantifier_some)]
-pub fn node(
-    words: &[i32],
-    w: &mut Writer<'_>,
-    bare: bool,
-    above: usize,
-    scope: usize,
-    at: usize,
-) -> Option<usize>
-    requires { Printable words.now above scope at }
-    ensures { (h : Printable words.now above scope at) →
-        Prints (P.node_text bare h.tree scope) h.next w.old w.new result }
+pub fn node(words: &[i32], w: &mut Writer<'_>, bare: bool, depth: Depth, at: usize) -> Option<usize>
+    requires { Printable words.now depth.level depth.scope at }
+    ensures { (h : Printable words.now depth.level depth.scope at) →
+        Prints (P.node_text bare h.tree depth.scope) h.next w.old w.new result }
 {
     w.put?;
     let tag = node::tag_at(words, at);
@@ -150,9 +153,9 @@ pub fn node(
         }
         Tag::Atom(holds) => atom(words, w, holds, at),
         Tag::Compare(holds) => compare(words, w, holds, at),
-        Tag::Join(every) => join(words, w, bare, every, above, scope, at),
-        Tag::Quantifier(every) => quantifier(words, w, every, above, scope, at),
-        Tag::Some => some(words, w, above, scope, at),
+        Tag::Join(every) => join(words, w, bare, every, depth, at),
+        Tag::Quantifier(every) => quantifier(words, w, every, depth, at),
+        Tag::Some => some(words, w, depth, at),
         Tag::Unused => None,
     }
 }
