@@ -10,6 +10,11 @@ use crate::cursor::Cursor;
 use crate::passing::passes;
 use crate::{bytes, word};
 
+// The greatest magnitudes of 32 bits, without a minus and with one.
+const GREATEST: usize = 2147483647;
+
+const GREATEST_BELOW: usize = 2147483648;
+
 // Digits at the front of a text: how many, and the number that they stand for, as far as it is followed.
 #[derive(Clone, Copy)]
 struct Digits {
@@ -82,7 +87,7 @@ fn negative(here: &mut Cursor<'_>) -> Option<i32>
     if magnitude < 1 {
         return None;
     }
-    if 2147483648 < magnitude {
+    if GREATEST_BELOW < magnitude {
         return None;
     }
     Some(word::signed(magnitude, true))
@@ -94,7 +99,7 @@ fn positive(here: &mut Cursor<'_>) -> Option<i32>
     ensures { N.NumberAt here.old here.new result }
 {
     let magnitude = natural(here)?;
-    if 2147483647 < magnitude {
+    if GREATEST < magnitude {
         return None;
     }
     Some(word::signed(magnitude, false))

@@ -18,11 +18,11 @@ returns-then-magnitude-lt1 c =
     let k = c.in_ok-magnitude.ensures in
     negative-at c.args.here.now c.natural.new.here _ k _ (sym (negative-zero k.bytes _ k.means.1 (omega (arith, c.if-magnitude-lt1.true))))
 
-pub returns-then-magnitude-gt2147483648 : goal.returns-then-magnitude-gt2147483648
-returns-then-magnitude-gt2147483648 c =
+pub returns-then-magnitude-gt-GREATEST_BELOW : goal.returns-then-magnitude-gt-GREATEST_BELOW
+returns-then-magnitude-gt-GREATEST_BELOW c =
     let k = c.in_ok-magnitude.ensures in
     negative-at c.args.here.now c.natural.new.here _ k _
-    (sym (negative-wide k.bytes _ k.means.1 (omega (arith, c.if-magnitude-gt2147483648.true))))
+    (sym (negative-wide k.bytes _ k.means.1 (omega (arith, c.if-magnitude-gt-GREATEST_BELOW.true))))
 
 pub returns : goal.returns
 returns c =
@@ -30,4 +30,4 @@ returns c =
     let back : to_z w32 (of_z w32 c.signed.result) ≡ c.signed.result = search rules in
     negative-at c.args.here.now c.natural.new.here _ k _
     (ap Some (back ∙ c.signed.ensures)
-    ∙ negative-spelt k.bytes _ k.means.1 k.means.0 (omega (arith, c.if-magnitude-lt1.false)) (omega (arith, c.if-magnitude-gt2147483648.false)))
+    ∙ negative-spelt k.bytes _ k.means.1 k.means.0 (omega (arith, c.if-magnitude-lt1.false)) (omega (arith, c.if-magnitude-gt-GREATEST_BELOW.false)))
