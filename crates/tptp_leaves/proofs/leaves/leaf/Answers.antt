@@ -10,8 +10,8 @@ returns-in-Some-eq36 c =
     record {
       kept = c.dollar.ensures.kept;
       reads =
-        leaf-dollar c.args.here.now c.args.room c.requires _ c.dollar.new.here c.dollar.result
-        c.pass.new.self c.pass.ensures.rest c.pass.ensures.at (search rules) c.dollar.ensures.reads;
+          leaf-dollar c.args.here.now c.args.room c.requires _ c.dollar.new.here c.dollar.result
+          c.pass.new.self c.pass.ensures.rest c.pass.ensures.at (search rules) c.dollar.ensures.reads;
     }
 
 pub returns-in-Some-eq112 : goal.returns-in-Some-eq112
@@ -19,7 +19,7 @@ returns-in-Some-eq112 c =
     record {
       kept = c.atom.ensures.kept;
       reads =
-        leaf-atom c.args.here.now c.args.room c.requires _ c.atom.new.here c.atom.result (search rules) c.atom.ensures.reads;
+          leaf-atom c.args.here.now c.args.room c.requires _ c.atom.new.here c.atom.result (search rules) c.atom.ensures.reads;
     }
 
 pub returns-in-Some-eq126 : goal.returns-in-Some-eq126
@@ -28,8 +28,8 @@ returns-in-Some-eq126 c =
     record {
       kept = c.negated.ensures.kept;
       reads =
-        leaf-negated c.args.here.now c.args.room c.requires _ c.negated.new.here c.negated.result
-        p.new.self p.ensures.rest p.ensures.at (search rules) c.negated.ensures.reads;
+          leaf-negated c.args.here.now c.args.room c.requires _ c.negated.new.here c.negated.result
+          p.new.self p.ensures.rest p.ensures.at (search rules) c.negated.ensures.reads;
     }
 
 pub returns-in_default : goal.returns-in_default
@@ -37,10 +37,10 @@ returns-in_default c =
     record {
       kept = record { same = refl; long = refl };
       reads =
-        elim c.in_default.branch [
-          | in_default-via-in-Some+in_default w ↦
-              leaf-none c.args.here.now c.args.room c.requires (search rules) (search rules) (search rules)
-          | in_default-via-in_default w ↦
-              leaf-none c.args.here.now c.args.room c.requires (search rules) (search rules) (search rules)
-        ];
+          elim c.in_default.branch [
+            | in_default-via-in-Some+in_default w ↦
+                leaf-none c.args.here.now c.args.room c.requires (search rules) (search rules) (search rules)
+            | in_default-via-in_default w ↦
+                leaf-none c.args.here.now c.args.room c.requires (search rules) (search rules) (search rules)
+          ];
     }
