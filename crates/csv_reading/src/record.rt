@@ -1,12 +1,11 @@
 // Records, as they stand in a text, and the rows that they spell.
 ghost use Rattle.std.specs.Prelude.{◌≡◌, ◌≤◌, length};
-ghost use Rattle.model.specs.Answer.{passed};
-ghost use Rattle.model.specs.Table.{ask_table};
 ghost use Rattle.csv_reading.specs.Record as R;
 
 use crate::field::{BadByte, End, Field, field_at};
 use logs::log;
 use model::{ARGUMENTS_FROM, ROW_WORDS};
+use tables::accepted::AcceptedTable;
 use tables::table;
 use text::cursor::Cursor;
 
@@ -25,20 +24,23 @@ fn put_field(row: &mut [i32], k: usize, field: Option<i32>) -> bool
 }
 
 // Question 14 of a record whose fields, so many, are numbers and make this row.
-fn spells(table: &[i32], row: &[i32], fields: usize) -> bool
-    requires { (ask_table table.now ≡ passed tt) × (length row.now ≡ 8) }
-    ensures { R.RowAsked table.now row.now fields result }
+fn spells(table: AcceptedTable<'_>, row: &[i32], fields: usize) -> bool
+    requires { length row.now ≡ 8 }
+    ensures { R.RowAsked table.entry.words.now row.now fields result }
 {
-    if !log::good_row(table, row) {
+    if !log::good_row(table.words, row) {
         return false;
     }
-    fields == ARGUMENTS_FROM + table::arity(table, words::value(row, 0))
+    fields == ARGUMENTS_FROM + table::arity(table.words, words::value(row, 0))
 }
 
 // The record that stands here is passed: the row that it spells, if it spells one.
-pub fn record(table: &[i32], here: &mut Cursor<'_>) -> Result<Option<[i32; ROW_WORDS]>, BadByte>
-    requires { (ask_table table.now ≡ passed tt) × (1 ≤ length here.old.rest.now) }
-    ensures { R.RecordAt table.now here.old here.new result }
+pub fn record(
+    table: AcceptedTable<'_>,
+    here: &mut Cursor<'_>,
+) -> Result<Option<[i32; ROW_WORDS]>, BadByte>
+    requires { 1 ≤ length here.old.rest.now }
+    ensures { R.RecordAt table.entry.words.now here.old here.new result }
 {
     let mut row = [0; ROW_WORDS];
     let mut fields = 0;

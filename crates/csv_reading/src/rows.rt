@@ -1,11 +1,9 @@
 // The rows that the records of a text spell: questions 13 and 14.
-ghost use Rattle.std.specs.Prelude.{◌≡◌};
-ghost use Rattle.model.specs.Answer.{passed};
-ghost use Rattle.model.specs.Table.{ask_table};
 ghost use Rattle.csv_reading.specs.Rows as R;
 
 use crate::record::record;
 use model::{ROW_WORDS, Refusal, Refused};
+use tables::accepted::AcceptedTable;
 use text::cursor::Cursor;
 
 // A row goes behind so many rows, if these have room for it.
@@ -19,9 +17,8 @@ fn place(rows: &mut [i32], count: usize, row: [i32; ROW_WORDS])
 }
 
 // Questions 13 and 14, and the number of rows. These stand in the slice, if they fit it.
-pub fn read_rows(table: &[i32], text: &[u8], rows: &mut [i32]) -> Result<usize, Refused>
-    requires { ask_table table.now ≡ passed tt }
-    ensures { R.RowsRead table.now text.now rows.new result }
+pub fn read_rows(table: AcceptedTable<'_>, text: &[u8], rows: &mut [i32]) -> Result<usize, Refused>
+    ensures { R.RowsRead table.entry.words.now text.now rows.new result }
 {
     let mut here = Cursor::new(text);
     let mut count = 0;

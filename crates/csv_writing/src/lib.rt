@@ -5,18 +5,18 @@ pub mod row;
 
 ghost use Rattle.std.specs.Prelude.{◌≡◌};
 ghost use Rattle.model.specs.Answer.{passed};
-ghost use Rattle.model.specs.Table.{ask_table};
 ghost use Rattle.model.specs.Log.{ask_log};
 ghost use Rattle.model.specs.LogText.{log_text};
 ghost use Rattle.text.specs.Put.{Writes};
 
 use model::ROW_WORDS;
+use tables::accepted::AcceptedTable;
 use text::writer::Writer;
 
 // An accepted log, written as text: a line for each row. What stands behind the text is left open.
-pub fn write_rows(table: &[i32], log: &[i32], out: &mut [u8]) -> Option<usize>
-    requires { (ask_table table.now ≡ passed tt) × (ask_log table.now log.now ≡ passed tt) }
-    ensures { Writes (log_text table.now log.now) out.old out.new result }
+pub fn write_rows(table: AcceptedTable<'_>, log: &[i32], out: &mut [u8]) -> Option<usize>
+    requires { ask_log table.words.now log.now ≡ passed tt }
+    ensures { Writes (log_text table.entry.words.now log.now) out.old out.new result }
 {
     let mut w = Writer::new(out);
     for row in 0..log.len() / ROW_WORDS {

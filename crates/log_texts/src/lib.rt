@@ -2,8 +2,6 @@
 #![tactic(auto)]
 
 ghost use Rattle.std.specs.Prelude.{◌≡◌, ◌*◌, ◌≤◌, length};
-ghost use Rattle.model.specs.Answer.{passed};
-ghost use Rattle.model.specs.Table.{ask_table};
 ghost use Rattle.csv_reading.specs.Rows.{Stand};
 ghost use Rattle.log_texts.specs.LogText as L;
 
@@ -11,24 +9,28 @@ use checks::{check_log, check_rows};
 use csv_reading::rows::read_rows;
 use csv_writing::write_rows;
 use model::{Answer, ROW_WORDS, Refusal, Refused};
+use tables::accepted::AcceptedTable;
 use text::writing::written;
 
 // Questions 8 to 10 of the rows of a text, so many, which are read to a place with room for them.
-fn ask_apart(table: &[i32], text: &[u8], words: &mut [i32], rows: usize) -> Result<(), Refused>
-    requires { (ask_table table.now ≡ passed tt)
-        × L.Spelled table.now text.now rows
-        × (8 * rows ≤ length words.old) }
-    ensures { L.AskedOf table.now text.now result }
+fn ask_apart(
+    table: AcceptedTable<'_>,
+    text: &[u8],
+    words: &mut [i32],
+    rows: usize,
+) -> Result<(), Refused>
+    requires { L.Spelled table.words.now text.now rows × (8 * rows ≤ length words.old) }
+    ensures { L.AskedOf table.entry.words.now text.now result }
 {
     let _ = read_rows(table, text, words);
     let n = ROW_WORDS * rows;
-    check_rows(table, &words[..n])
+    check_rows(table.words, &words[..n])
 }
 
 // The answer about a text whose rows, so many, do not fit the buffer: question 10 is asked before 12.
-fn no_room(table: &[i32], text: &[u8], rows: usize) -> Answer
-    requires { (ask_table table.now ≡ passed tt) × L.Spelled table.now text.now rows × (rows ≤ 4096) }
-    ensures { L.NoRoom table.now text.now result }
+fn no_room(table: AcceptedTable<'_>, text: &[u8], rows: usize) -> Answer
+    requires { L.Spelled table.words.now text.now rows × (rows ≤ 4096) }
+    ensures { L.NoRoom table.entry.words.now text.now result }
 {
     // An array, since no call takes memory.
     let mut words = [0; 32768];
@@ -37,9 +39,9 @@ fn no_room(table: &[i32], text: &[u8], rows: usize) -> Answer
 }
 
 // The answer about a text of so many rows, which stand at the front of the buffer if they fit it.
-fn settle_rows(table: &[i32], text: &[u8], buffer: &[i32], rows: usize) -> Answer
-    requires { (ask_table table.now ≡ passed tt) × Stand table.now text.now buffer.now rows }
-    ensures { L.AnyRoom table.now text.now (length buffer.now) result }
+fn settle_rows(table: AcceptedTable<'_>, text: &[u8], buffer: &[i32], rows: usize) -> Answer
+    requires { Stand table.words.now text.now buffer.now rows }
+    ensures { L.AnyRoom table.entry.words.now text.now (length buffer.now) result }
 {
     if 4096 < rows {
         return Err(Refused(Refusal::LogLength, 0));
@@ -48,7 +50,7 @@ fn settle_rows(table: &[i32], text: &[u8], buffer: &[i32], rows: usize) -> Answe
     if buffer.len() < n {
         return no_room(table, text, rows);
     }
-    check_rows(table, &buffer[..n])?;
+    check_rows(table.words, &buffer[..n])?;
     Ok(rows)
 }
 
@@ -57,6 +59,7 @@ pub fn read(table: &[i32], text: &[u8], buffer: &mut [i32]) -> Answer
     ensures { L.ReadsLog table.now text.now (length buffer.old) buffer.new result }
 {
     tables::table::check_table(table)?;
+    let table = AcceptedTable { words: table };
     let rows = read_rows(table, text, buffer)?;
     settle_rows(table, text, buffer, rows)
 }
@@ -66,5 +69,5 @@ pub fn write(table: &[i32], log: &[i32], buffer: &mut [u8]) -> Answer
     ensures { L.WritesLog table.now log.now (length buffer.old) buffer.new result }
 {
     check_log(table, log)?;
-    written(write_rows(table, log, buffer))
+    written(write_rows(AcceptedTable { words: table }, log, buffer))
 }

@@ -8,4 +8,4 @@ use Rattle.csv_writing.proofs.RowLaws.{lines_from}
 use Rattle.csv_writing.proofs.write_rows.Given as goal
 
 abbrev pub invariant-loop-row : goal.invariant-loop-row
-invariant-loop-row l = Left (log_text l.table l.log) (lines_from l.table l.log l.row (length l.log / 8 - l.row)) l.initial.w l.w
+invariant-loop-row l = Left (log_text l.table.words.now l.log) (lines_from l.table.words.now l.log l.row (length l.log / 8 - l.row)) l.initial.w l.w

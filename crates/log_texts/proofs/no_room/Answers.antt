@@ -9,8 +9,8 @@ pub returns-in_err-ask_apart : goal.returns-in_err-ask_apart
 returns-in_err-ask_apart c =
     λ log room e h.
     passed_on _ c.from_residual.ensures.1
-    ∙ settled-refused c.args.table.now room log (sym (c.ask_apart.ensures log e) ∙ ap outcome c.in_err-ask_apart.was)
+    ∙ settled-refused c.args.table.words.now room log (sym (c.ask_apart.ensures log e) ∙ ap outcome c.in_err-ask_apart.was)
 
 pub returns : goal.returns
 returns c =
-    λ log room e h. settled-short c.args.table.now room log (sym (c.ask_apart.ensures log e) ∙ ap outcome c.in_ok-ask_apart.was) h
+    λ log room e h. settled-short c.args.table.words.now room log (sym (c.ask_apart.ensures log e) ∙ ap outcome c.in_ok-ask_apart.was) h

@@ -12,15 +12,13 @@ use Rattle.log_texts.specs.LogText.{settled_log}
 use Rattle.log_texts.proofs.LogReading.{table-refused, text-refused, rows_settled}
 use Rattle.log_texts.proofs.read.Goals as goal
 
-pub read_rows-requires : goal.read_rows-requires
-read_rows-requires c = sym c.check_table.ensures ∙ ap outcome c.in_ok-check_table.was
+pub invariant_of-table : goal.invariant_of-table
+invariant_of-table c = record { accepted = sym c.check_table.ensures ∙ ap outcome c.in_ok-check_table.was }
 
 pub settle_rows-requires : goal.settle_rows-requires
 settle_rows-requires c =
-    let a = c.args in (
-      sym c.check_table.ensures ∙ ap outcome c.in_ok-check_table.was,
-      subst (RowsRead a.table.now a.text.now c.read_rows.new.rows) c.in_ok-rows.was c.read_rows.ensures,
-    )
+    let a = c.args in
+    subst (RowsRead a.table.now a.text.now c.read_rows.new.rows) c.in_ok-rows.was c.read_rows.ensures
 
 pub returns-in_err-check_table : goal.returns-in_err-check_table
 returns-in_err-check_table c =

@@ -13,23 +13,23 @@ use Rattle.log_texts.proofs.settle_rows.Goals as goal
 pub returns-then-rows-gt4096 : goal.returns-then-rows-gt4096
 returns-then-rows-gt4096 c =
     let a = c.args in
-    λ log e. settled-many a.table.now _ log a.rows
-    (log-long a.table.now a.text.now a.buffer.now a.rows c.requires.1 log e) c.if-rows-gt4096.true
+    λ log e. settled-many a.table.words.now _ log a.rows
+    (log-long a.table.words.now a.text.now a.buffer.now a.rows c.requires log e) c.if-rows-gt4096.true
 
 pub returns-in_err-check_rows : goal.returns-in_err-check_rows
 returns-in_err-check_rows c =
-    let asked_of : (log : Words) → let a = c.args in ask_text a.table.now a.text.now ≡ passed log → outcome c.check_rows.result ≡ ask_log a.table.now log = λ log e. let a = c.args in
+    let asked_of : (log : Words) → let a = c.args in ask_text a.table.words.now a.text.now ≡ passed log → outcome c.check_rows.result ≡ ask_log a.table.words.now log = λ log e. let a = c.args in
     c.check_rows.ensures
-    ∙ ap (ask_log a.table.now) (log-stands a.table.now a.text.now a.buffer.now a.rows c.requires.1 log e c.if-buffer-n.false) in
+    ∙ ap (ask_log a.table.words.now) (log-stands a.table.words.now a.text.now a.buffer.now a.rows c.requires log e c.if-buffer-n.false) in
     let a = c.args in
-    λ log e. passed_on _ c.from_residual.ensures.1 ∙ settled-refused a.table.now _ log (sym (asked_of log e) ∙ ap outcome c.in_err-check_rows.was)
+    λ log e. passed_on _ c.from_residual.ensures.1 ∙ settled-refused a.table.words.now _ log (sym (asked_of log e) ∙ ap outcome c.in_err-check_rows.was)
 
 pub returns : goal.returns
 returns c =
-    let asked_of : (log : Words) → let a = c.args in ask_text a.table.now a.text.now ≡ passed log → outcome c.check_rows.result ≡ ask_log a.table.now log = λ log e. let a = c.args in
+    let asked_of : (log : Words) → let a = c.args in ask_text a.table.words.now a.text.now ≡ passed log → outcome c.check_rows.result ≡ ask_log a.table.words.now log = λ log e. let a = c.args in
     c.check_rows.ensures
-    ∙ ap (ask_log a.table.now) (log-stands a.table.now a.text.now a.buffer.now a.rows c.requires.1 log e c.if-buffer-n.false) in
+    ∙ ap (ask_log a.table.words.now) (log-stands a.table.words.now a.text.now a.buffer.now a.rows c.requires log e c.if-buffer-n.false) in
     let a = c.args in
-    λ log e. let long = log-long a.table.now a.text.now a.buffer.now a.rows c.requires.1 log e in
-    settled-passed a.table.now _ log a.rows long (sym (asked_of log e) ∙ ap outcome c.in_ok-check_rows.was)
+    λ log e. let long = log-long a.table.words.now a.text.now a.buffer.now a.rows c.requires log e in
+    settled-passed a.table.words.now _ log a.rows long (sym (asked_of log e) ∙ ap outcome c.in_ok-check_rows.was)
     (omega (arith, c.if-buffer-n.false))

@@ -7,8 +7,11 @@ pub returns-in_err-check_log : goal.returns-in_err-check_log
 returns-in_err-check_log c =
     rw (passed_on _ c.from_residual.ensures.1) (log-refused _ _ c.check_log.ensures.same c.in_err-check_log.was)
 
+pub invariant_of-write_rows : goal.invariant_of-write_rows
+invariant_of-write_rows c = record { accepted = (log-passed _ _ c.check_log.ensures.same c.in_ok-check_log.was).0 }
+
 pub write_rows-requires : goal.write_rows-requires
-write_rows-requires c = log-passed _ _ c.check_log.ensures.same c.in_ok-check_log.was
+write_rows-requires c = (log-passed _ _ c.check_log.ensures.same c.in_ok-check_log.was).1
 
 pub returns : goal.returns
 returns c = log-written _ _ c.check_log.ensures.same c.in_ok-check_log.was c.write_rows.ensures c.written.ensures

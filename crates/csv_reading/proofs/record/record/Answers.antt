@@ -5,7 +5,7 @@ use Rattle.csv_reading.proofs.RecordLaws.{held_none, held_more, held_bad, ended-
 use Rattle.csv_reading.proofs.record.record.Goals as goal
 
 pub loop-value-init : goal.loop-value-init
-loop-value-init c = held_none c.args.here.now c.requires.1
+loop-value-init c = held_none c.args.here.now c.requires
 
 pub returns-in_err-value : goal.returns-in_err-value
 returns-in_err-value c =
@@ -29,7 +29,7 @@ returns-then-not-good c =
     let put = c.put_field-good in
     let ended = held_more c.args.here.now l.here c.field_at.new.here l.fields l.good l.row f.value f.end put.new.row put.result l.invariant
     c.in_ok-value.ensures put.ensures put.auto.row c.in-Line.is in
-    line_bad c.args.table.now c.args.here.now l.here c.field_at.new.here _ _ _ ended c.requires.1 c.requires.0 c.if-not-good.true
+    line_bad c.args.table.words.now c.args.here.now l.here c.field_at.new.here _ _ _ ended c.requires c.args.table.accepted c.if-not-good.true
 
 pub returns-then-not-spells : goal.returns-then-not-spells
 returns-then-not-spells c =
@@ -38,7 +38,7 @@ returns-then-not-spells c =
     let put = c.put_field-good in
     let ended = held_more c.args.here.now l.here c.field_at.new.here l.fields l.good l.row f.value f.end put.new.row put.result l.invariant
     c.in_ok-value.ensures put.ensures put.auto.row c.in-Line.is in
-    line_none c.args.table.now c.args.here.now l.here c.field_at.new.here _ _ _ ended c.requires.1 c.if-not-good.false _ c.spells.ensures
+    line_none c.args.table.words.now c.args.here.now l.here c.field_at.new.here _ _ _ ended c.requires c.if-not-good.false _ c.spells.ensures
     c.if-not-spells.true
 
 pub returns-in-Line : goal.returns-in-Line
@@ -48,5 +48,5 @@ returns-in-Line c =
     let put = c.put_field-good in
     let ended = held_more c.args.here.now l.here c.field_at.new.here l.fields l.good l.row f.value f.end put.new.row put.result l.invariant
     c.in_ok-value.ensures put.ensures put.auto.row c.in-Line.is in
-    line-some c.args.table.now c.args.here.now l.here c.field_at.new.here _ _ _ ended c.requires.1 c.if-not-good.false _ c.spells.ensures
+    line-some c.args.table.words.now c.args.here.now l.here c.field_at.new.here _ _ _ ended c.requires c.if-not-good.false _ c.spells.ensures
     c.if-not-spells.false

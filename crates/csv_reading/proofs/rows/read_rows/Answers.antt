@@ -13,18 +13,18 @@ use Rattle.csv_reading.proofs.rows.read_rows.Goals as goal
 use Rattle.csv_reading.proofs.rows.read_rows.Goals.{in-Some, in-None}
 
 pub loop-here-init : goal.loop-here-init
-loop-here-init c = (gone_none c.args.table.now c.args.text.now c.args.rows.now c.new-here.result c.new-here.ensures.rest c.new-here.ensures.at, refl)
+loop-here-init c = (gone_none c.args.table.words.now c.args.text.now c.args.rows.now c.new-here.result c.new-here.ensures.rest c.new-here.ensures.at, refl)
 
 pub returns-in_err-row : goal.returns-in_err-row
 returns-in_err-row c =
     let l = c.loop-here in
     let p = err_from_is_err_and c.from_residual.result c.from_residual.ensures.1 in
-    rw (p.1, p.2) (gone_bad c.args.table.now c.args.text.now l.here l.count l.bad l.rows l.invariant.0 _ c.in_err-row.ensures)
+    rw (p.1, p.2) (gone_bad c.args.table.words.now c.args.text.now l.here l.count l.bad l.rows l.invariant.0 _ c.in_err-row.ensures)
 
 pub loop-here-preserved : goal.loop-here-preserved
 loop-here-preserved c =
     let l = c.loop-here in
-    let t = c.args.table.now in
+    let t = c.args.table.words.now in
     let text = c.args.text.now in
     let m = c.match-branch-2 in
     let read = c.in_ok-row.ensures in (
@@ -46,12 +46,12 @@ pub returns-in-Some-bad : goal.returns-in-Some-bad
 returns-in-Some-bad c =
     let l = c.loop-here in
     let none : length l.here.rest.now ≡ 0 = search rules in
-    read_bad c.args.table.now c.args.text.now l.here l.count l.rows none _ _
-    (subst (λ (b : Option _). Gone c.args.table.now c.args.text.now l.here l.count b l.rows) c.in-Some-bad.is l.invariant.0) (omega arith)
+    read_bad c.args.table.words.now c.args.text.now l.here l.count l.rows none _ _
+    (subst (λ (b : Option _). Gone c.args.table.words.now c.args.text.now l.here l.count b l.rows) c.in-Some-bad.is l.invariant.0) (omega arith)
 
 pub returns-in-None-bad : goal.returns-in-None-bad
 returns-in-None-bad c =
     let l = c.loop-here in
     let none : length l.here.rest.now ≡ 0 = search rules in
-    read-good c.args.table.now c.args.text.now l.here l.count l.rows none
-    (subst (λ (b : Option _). Gone c.args.table.now c.args.text.now l.here l.count b l.rows) c.in-None-bad.is l.invariant.0)
+    read-good c.args.table.words.now c.args.text.now l.here l.count l.rows none
+    (subst (λ (b : Option _). Gone c.args.table.words.now c.args.text.now l.here l.count b l.rows) c.in-None-bad.is l.invariant.0)

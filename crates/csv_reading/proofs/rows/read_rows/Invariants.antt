@@ -6,7 +6,7 @@ use Rattle.csv_reading.proofs.RowsLaws.{Gone}
 use Rattle.csv_reading.proofs.rows.read_rows.Given as goal
 
 abbrev pub invariant-loop-here : goal.invariant-loop-here
-invariant-loop-here l = Gone l.table l.text l.here l.count l.bad l.rows × (length l.rows ≡ length l.initial.rows)
+invariant-loop-here l = Gone l.table.words.now l.text l.here l.count l.bad l.rows × (length l.rows ≡ length l.initial.rows)
 
 abbrev pub decreases-loop-here : goal.decreases-loop-here
 decreases-loop-here l = length l.here.rest.now

@@ -6,11 +6,11 @@ use Rattle.csv_writing.proofs.row.put_row.Goals as goal
 
 pub overflow_add-n : goal.overflow_add-n
 overflow_add-n c =
-    omega (arith, arity-few c.args.table.now c.args.row.now _ _ c.value.ensures c.arity-n.ensures c.requires.0 c.requires.2)
+    omega (arith, arity-few c.args.table.words.now c.args.row.now _ _ c.value.ensures c.arity-n.ensures c.args.table.accepted c.requires.1)
 
 pub put_fields-requires : goal.put_fields-requires
 put_fields-requires c =
-    omega (arith, arity-few c.args.table.now c.args.row.now _ _ c.value.ensures c.arity-n.ensures c.requires.0 c.requires.2, c.requires)
+    omega (arith, arity-few c.args.table.words.now c.args.row.now _ _ c.value.ensures c.arity-n.ensures c.args.table.accepted c.requires.1, c.requires)
 
 pub returns : goal.returns
-returns c = line_adds c.args.table.now c.args.row.now _ _ c.value.ensures c.arity-n.ensures c.put_fields.ensures c.bytes.ensures refl
+returns c = line_adds c.args.table.words.now c.args.row.now _ _ c.value.ensures c.arity-n.ensures c.put_fields.ensures c.bytes.ensures refl
