@@ -7,7 +7,6 @@ use lib.Dec.{eqb}
 use borrow.Author.Tests.{ne_eqb}
 use Rattle.std.specs.Prelude.{slice_get, Some, None, Result}
 use Rattle.text.specs.declared.cursor.Cursor.{Cursor}
-use Rattle.model.specs.Words.{Words}
 use Rattle.model.specs.Bytes.{Text, dollar, letter_p, tilde, parenthesis, interrogation, exclamation}
 use Rattle.model.specs.Answer.{refused}
 use Rattle.model.specs.Tree.{Tree}
@@ -17,7 +16,6 @@ use Rattle.model.specs.Tptp.{good_tree}
 use Rattle.model.specs.TptpReading as R
 use Rattle.model.specs.TptpReading.{Reader, stop, look, opening, readers, read_dollar, read_atom, read_negated, read_join, read_quantifier}
 use Rattle.model.specs.TptpReading.{read_some, read_operand}
-use Rattle.model.specs.declared.Refused.{Refused}
 use Rattle.model.specs.declared.Refusal.{Refusal}
 use Rattle.model.specs.declared.Refusal.TheVariants.{Tptp}
 use Rattle.laws.specs.Words.Tests.{clash}
@@ -77,7 +75,7 @@ module _ (room : ℕ) (formula : Bool) (scope : ℕ) where
       operand-join e = operand-chosen ∙ ap (λ (b : ℕ). from (chosen b) mid) e
 
       pub operand-some :
-          b ≡ interrogation → formula ≡ false → (facts : Tree → Type 0) (new : Cursor) (r : Result (Unit {0}) Refused) →
+          b ≡ interrogation → formula ≡ false → (facts : Tree → Type 0) (new : Cursor) (r : Result (Unit {0}) Refusal) →
           Valued (read_some room (beneath room) scope) facts mid new r →
           Valued operand facts old new r
       operand-some e f facts new =
@@ -88,7 +86,7 @@ module _ (room : ℕ) (formula : Bool) (scope : ℕ) where
 
       pub operand-quantifier :
           (every : Bool) → b ≡ cond every exclamation interrogation → formula ≡ true → (facts : Tree → Type 0) (new : Cursor)
-          (r : Result (Unit {0}) Refused) →
+          (r : Result (Unit {0}) Refusal) →
           Valued (read_quantifier room (beneath room) every scope) facts mid new r →
           Valued operand facts old new r
       operand-quantifier every e f facts new =
@@ -111,7 +109,7 @@ module _ (room : ℕ) (formula : Bool) (scope : ℕ) where
 
         pub operand-chain :
             (inside : Cursor) → Reads (opening room) mid tt inside → (lower : ℕ) → lower ≡ room - 1 → (facts : Tree → Type 0) (new : Cursor)
-            (r : Result (Unit {0}) Refused) →
+            (r : Result (Unit {0}) Refusal) →
             Valued (chained ((readers lower).operand formula scope)) facts inside new r →
             Valued operand facts old new r
         unfolding read_join
@@ -125,7 +123,7 @@ module _ (room : ℕ) (formula : Bool) (scope : ℕ) where
 
   -- an operand behind blanks
   pub operand_skip :
-      (old mid : Cursor) → Skips old mid → (facts : Tree → Type 0) (new : Cursor) (r : Result (Unit {0}) Refused) →
+      (old mid : Cursor) → Skips old mid → (facts : Tree → Type 0) (new : Cursor) (r : Result (Unit {0}) Refusal) →
       Valued operand facts mid new r →
       Valued operand facts old new r
   operand_skip old mid s facts new =

@@ -14,7 +14,7 @@ ghost use Rattle.tptp_leaves.specs.Leaves.{Unblank};
 ghost use Rattle.tptp_state.specs.Told.{Ready};
 ghost use Rattle.tptp_reading.specs.Formula as F;
 
-use model::{Refusal, Refused};
+use model::Refusal;
 use policies::node;
 use policies::node::{Role, Tag};
 use text::cursor::Cursor;
@@ -38,7 +38,7 @@ fn read_leaf(
     scope: usize,
     state: &mut State,
     out: &mut [i32],
-) -> Result<(), Refused>
+) -> Result<(), Refusal>
     requires { Ready table.now above scope state.old
         × Unblank here.old.rest.now
         × F.LeafByte (is_formula (as_role role)) here.old.rest.now }
@@ -61,7 +61,7 @@ fn connective(every: bool) -> u8
 }
 
 // What stands between restriction and body. By an if, since the text says which.
-fn implies(here: &mut Cursor<'_>, every: bool) -> Result<(), Refused>
+fn implies(here: &mut Cursor<'_>, every: bool) -> Result<(), Refusal>
     ensures { Steps (R.token (cond every (bytes "=>") (bytes "&"))) here.old here.new result }
 {
     if every {
@@ -84,7 +84,7 @@ fn children(
     start: [bool; 16],
     state: &mut State,
     out: &mut [i32],
-) -> Result<usize, Refused>
+) -> Result<usize, Refusal>
     requires { F.Begins table.now room above scope state.old × (1 ≤ length here.old.rest.now) }
     ensures { F.ChildrenRead room every table.now (as_role role) above scope start state.old state.new out.old out.new here.old here.new result }
 {
@@ -112,7 +112,7 @@ fn chain(
     scope: usize,
     state: &mut State,
     out: &mut [i32],
-) -> Result<(), Refused>
+) -> Result<(), Refusal>
     requires { F.Begins table.now room above scope state.old
         × (above + 1 + 2 * room ≤ 600)
         × StopsAt here.old stop.now }
@@ -127,7 +127,7 @@ fn chain(
     operand(table, here, room, below, above + 1, scope, state, out)?;
     skip(here);
     if (here.at != stop.at) | !(every | some) {
-        return Err(Refused(Refusal::Tptp, here.at));
+        return Err(Refusal::Tptp);
     }
     let count = children(
         table,
@@ -157,7 +157,7 @@ pub fn whole(
     scope: usize,
     state: &mut State,
     out: &mut [i32],
-) -> Result<(), Refused>
+) -> Result<(), Refusal>
     requires { F.Begins table.now room above scope state.old × (above + 1 + 2 * room ≤ 600) }
     ensures { F.NodeRead (F.closed ((R.readers room).operand (is_formula (as_role role)) scope)) table.now (as_role role) above scope state.old state.new out.old out.new here.old here.new result }
 {
@@ -171,7 +171,7 @@ pub fn whole(
     operand(table, here, room, role, above, scope, state, out)?;
     if parenthesis {
         skip(here);
-        return Err(Refused(Refusal::Tptp, here.at));
+        return Err(Refusal::Tptp);
     }
     expect(here, 41)
 }
@@ -186,7 +186,7 @@ fn some(
     scope: usize,
     state: &mut State,
     out: &mut [i32],
-) -> Result<(), Refused>
+) -> Result<(), Refusal>
     requires { F.Begins table.now room above scope state.old × (slice_get here.old.rest.now 0 ≡ Some interrogation) }
     ensures { F.NodeRead (R.read_some room (F.beneath room) scope) table.now restriction above scope state.old state.new out.old out.new here.old here.new result }
 {
@@ -217,7 +217,7 @@ fn some(
 }
 
 // How many were read: none, if they were refused.
-fn count_of(listed: Result<usize, Refused>) -> usize
+fn count_of(listed: Result<usize, Refusal>) -> usize
     ensures { result ≡ F.count_of listed }
 {
     listed.unwrap_or(0)
@@ -237,7 +237,7 @@ fn excluding<'a>(
     v: usize,
     state: &mut State,
     out: &mut [i32],
-) -> Result<usize, Refused>
+) -> Result<usize, Refusal>
     requires { F.Begins table.now room level (x + v) state.old
         × (1 ≤ v) × (v ≤ 4)
         × StopsAt here.old stop.now
@@ -260,10 +260,10 @@ fn excluding<'a>(
     )?;
     skip(here);
     if here.at != stop.at {
-        return Err(Refused(Refusal::Tptp, here.at));
+        return Err(Refusal::Tptp);
     }
-    let count = listed?;
     *here = behind;
+    let count = listed?;
     expect(here, 41)?;
     Ok(count)
 }
@@ -279,7 +279,7 @@ fn restricted(
     v: usize,
     state: &mut State,
     out: &mut [i32],
-) -> Result<usize, Refused>
+) -> Result<usize, Refusal>
     requires { F.Begins table.now room level (x + v) state.old × (1 ≤ v) × (v ≤ 4) }
     ensures { F.RestrictionRead ((R.readers room).restriction v x) table.now level x v state.old state.new out.old out.new here.old here.new result }
 {
@@ -337,7 +337,7 @@ fn quantifier(
     scope: usize,
     state: &mut State,
     out: &mut [i32],
-) -> Result<(), Refused>
+) -> Result<(), Refusal>
     requires { F.Begins table.now room above scope state.old
         × (slice_get here.old.rest.now 0 ≡ Some (cond every exclamation interrogation))
         × (is_formula (as_role role) ≡ true) }
@@ -393,13 +393,13 @@ fn operand(
     scope: usize,
     state: &mut State,
     out: &mut [i32],
-) -> Result<(), Refused>
+) -> Result<(), Refusal>
     requires { F.Begins table.now room above scope state.old }
     ensures { F.OperandRead room table.now (as_role role) above scope state.old state.new out.old out.new here.old here.new result }
 {
     skip(here);
     let Some(&b) = here.rest.first() else {
-        return Err(Refused(Refusal::Tptp, here.at));
+        return Err(Refusal::Tptp);
     };
     if b == 40 {
         opening(here, room)?;

@@ -1,5 +1,4 @@
 -- `tptp_reading::formula::read_leaf` meets its contract.
-use mathlib.Core.Path.{◌∙◌}
 use Rattle.model.specs.Reading.{is_formula}
 use Rattle.laws.specs.Answer.{passed_on}
 use Rattle.policies.specs.Node.{as_role}
