@@ -25,17 +25,17 @@ use Rattle.tptp_leaves.specs.declared.own.Own.{Own}
 use Rattle.tptp_leaves.specs.declared.terms.TermWords.{TermWords}
 use Rattle.tptp_leaves.specs.Room.{Becomes}
 use Rattle.tptp_leaves.specs.Terms.{TermsStand}
-use Rattle.tptp_leaves.specs.Leaves.{Unblank, LeafPut, read_plain, behind_dollar, behind_negation, read_leaf}
+use Rattle.tptp_leaves.specs.Leaves.{Unblank, LeafStands, read_plain, behind_dollar, behind_negation, read_leaf}
 use Rattle.tptp_tokens.proofs.MovedLaws.{still}
 use Rattle.tptp_tokens.proofs.BehindLaws.{valued_from}
 use Rattle.tptp_tokens.proofs.TokenLaws.{begun, ended, look-here, look-over, token-here}
-use Rattle.tptp_leaves.proofs.TermLaws.{two-words, term-put, kept-further}
+use Rattle.tptp_leaves.proofs.TermLaws.{two-words, term-put}
 
 -- an atom
 pub atom-stands :
     (b : Bool) (p : ℕ) (ts : List Term) (own own₁ own₂ own₃ : Own) (x : ℕ) → x ≡ cond b 2 3 →
-    Becomes own (set own.words.now 0 (pos x)) own₁ → Becomes own₁ (set own₁.words.now 1 (pos p)) own₂ → TermsStand own₂ own₃ ts →
-    LeafPut own own₃ (atom b p ts)
+    Becomes own (set own.words.now 0 (pos x)) own₁ → Becomes own₁ (set own₁.words.now 1 (pos p)) own₂ → TermsStand own₂.words.now own₃.words.now ts →
+    LeafStands own₃.words.now (atom b p ts)
 unfolding encode
 atom-stands b p ts own own₁ own₂ own₃ x is tag e t =
     let ws = own.words.now in
@@ -44,15 +44,12 @@ atom-stands b p ts own own₁ own₂ own₃ x is tag e t =
     (e.now ∙ ap (λ (us : Words). set us 1 (pos p)) (tag.now ∙ ap (λ (n : ℕ). set ws 0 (pos n)) is)) in
     let size : suc (suc (suc (length (gather encode_term ts)))) ≡ 3 + 2 * length ts = omega (arith, terms-length ts) in
     record {
-      kept = kept-further own own₁ own₃ tag.kept (kept-further own₁ own₂ own₃ e.kept t.kept);
-      stands = record {
-        leaf = refl;
-        most = omega (arith, terms-length ts, t.most);
-        words =
-            ap (λ (n : ℕ). take n own₃.words.now) size
-            ∙ t.words
-            ∙ ap (λ (us : Words). us ++ pos (length ts) ∷ gather encode_term ts) front;
-      };
+      leaf = refl;
+      most = omega (arith, terms-length ts, t.most);
+      words =
+          ap (λ (n : ℕ). take n own₃.words.now) size
+          ∙ t.words
+          ∙ ap (λ (us : Words). us ++ pos (length ts) ∷ gather encode_term ts) front;
     }
 
 -- a comparison
@@ -68,18 +65,15 @@ module _
       encode_term x ≡ w.kind ∷ w.number ∷ [] → Becomes own₁ (set (set own₁.words.now 2 w.kind) 3 w.number) own₂ →
       Becomes own₂ (set own₂.words.now 1 z) own₃ →
       encode_term y ≡ v.kind ∷ v.number ∷ [] → Becomes own₃ (set (set own₃.words.now 4 v.kind) 5 v.number) own₄ →
-      LeafPut own own₄ (compare b d x y)
+      LeafStands own₄.words.now (compare b d x y)
   unfolding encode
   compare-stands d z same x y w v xs p e ys q = record {
-    kept = kept-further own own₁ own₄ tag.kept (kept-further own₁ own₂ own₄ p.kept (kept-further own₂ own₃ own₄ e.kept q.kept));
-    stands = record {
-      leaf = refl;
-      most = omega (arith, length-append (encode_term x) (encode_term y), term-two x, term-two y);
-      words =
-          ap (λ (k : ℕ). take k own₄.words.now) size
-          ∙ term-put own₃ own₄ 4 v (omega arith) y ys q
-          ∙ ap (λ (ws : Words). ws ++ encode_term y) (front own.words.now own.long (tag.now ∙ ap (λ (k : ℕ). set own.words.now 0 (pos k)) is));
-    };
+    leaf = refl;
+    most = omega (arith, length-append (encode_term x) (encode_term y), term-two x, term-two y);
+    words =
+        ap (λ (k : ℕ). take k own₄.words.now) size
+        ∙ term-put own₃ own₄ 4 v (omega arith) y ys q
+        ∙ ap (λ (ws : Words). ws ++ encode_term y) (front own.words.now own.long (tag.now ∙ ap (λ (k : ℕ). set own.words.now 0 (pos k)) is));
   }
     where
       size : suc (suc (length (encode_term x ++ encode_term y))) ≡ 6
@@ -95,11 +89,12 @@ module _
 
 -- plain true or false
 pub plain-stands :
-    (b : Bool) (own own₁ : Own) (n : ℕ) → n ≡ cond b 1 0 → Becomes own (set own.words.now 0 (pos n)) own₁ → LeafPut own own₁ (plain b)
+    (b : Bool) (own own₁ : Own) (n : ℕ) → n ≡ cond b 1 0 → Becomes own (set own.words.now 0 (pos n)) own₁ → LeafStands own₁.words.now (plain b)
 unfolding encode
 plain-stands b own own₁ n is p = record {
-  kept = p.kept;
-  stands = record { leaf = refl; most = omega arith; words = front own.words.now own.long (p.now ∙ ap (λ (k : ℕ). set own.words.now 0 (pos k)) is) };
+  leaf = refl;
+  most = omega arith;
+  words = front own.words.now own.long (p.now ∙ ap (λ (k : ℕ). set own.words.now 0 (pos k)) is);
 }
   where
     front : (ws : Words) → 15 ≤ length ws → own₁.words.now ≡ set ws 0 (pos (cond b 1 0)) → take 1 own₁.words.now ≡ pos (cond b 1 0) ∷ []

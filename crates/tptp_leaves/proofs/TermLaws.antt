@@ -101,16 +101,15 @@ gather-last (u ∷ ts) t = ap (λ (ws : Words). encode_term u ++ ws) (gather-las
 -- the words of the first term, and of one more, with the number of terms
 module _ (old own own' own'' : Own) where
   first-stands :
-      (t : Term) → take 5 own'.words.now ≡ take 3 old.words.now ++ encode_term t → Kept old own' →
-      Becomes own' (set own'.words.now 2 (pos 1)) own'' → TermsStand old own'' (t ∷ [])
+      (t : Term) → take 5 own'.words.now ≡ take 3 old.words.now ++ encode_term t →
+      Becomes own' (set own'.words.now 2 (pos 1)) own'' → TermsStand old.words.now own''.words.now (t ∷ [])
   unfolding gather
-  first-stands t h k e =
+  first-stands t h e =
       let ws = old.words.now in
       let three : take 3 ws ≡ take 2 ws ++ get_or ws 2 (pos 0) ∷ [] = take-suc ws 2 (pos 0) (omega (arith, old.long)) in
       let two : length (take 2 ws) ≡ 2 = length-take-le 2 ws (omega (arith, old.long)) in
       let front = h ∙ ap (λ (us : Words). us ++ encode_term t) three ∙ append_assoc (take 2 ws) (get_or ws 2 (pos 0) ∷ []) (encode_term t) in
       record {
-        kept = kept-further old own' own'' k e.kept;
         most = omega arith;
         words =
             ap (take 5) e.now
@@ -121,10 +120,10 @@ module _ (old own own' own'' : Own) where
       }
 
   more-stand :
-      (ts : List Term) (t : Term) (n : ℕ) → length ts ≡ n → n < 6 → TermsStand old own ts →
-      take (3 + 2 * n + 2) own'.words.now ≡ take (3 + 2 * n) own.words.now ++ encode_term t → Kept own own' →
-      Becomes own' (set own'.words.now 2 (pos (n + 1))) own'' → TermsStand old own'' (ts ++ t ∷ [])
-  more-stand ts t n is few s h k e =
+      (ts : List Term) (t : Term) (n : ℕ) → length ts ≡ n → n < 6 → TermsStand old.words.now own.words.now ts →
+      take (3 + 2 * n + 2) own'.words.now ≡ take (3 + 2 * n) own.words.now ++ encode_term t →
+      Becomes own' (set own'.words.now 2 (pos (n + 1))) own'' → TermsStand old.words.now own''.words.now (ts ++ t ∷ [])
+  more-stand ts t n is few s h e =
       let ws = gather encode_term ts in
       let us = old.words.now in
       let all : length (ts ++ t ∷ []) ≡ n + 1 = omega (arith, length-append ts (t ∷ []), is) in
@@ -134,7 +133,6 @@ module _ (old own own' own'' : Own) where
       subst (λ (k : ℕ). take (3 + 2 * k) own.words.now ≡ take 2 us ++ pos k ∷ ws) is s.words in
       let front = h ∙ ap (λ (vs : Words). vs ++ encode_term t) words ∙ append_assoc (take 2 us) (pos n ∷ ws) (encode_term t) in
       record {
-        kept = kept-further old own own'' s.kept (kept-further own own' own'' k e.kept);
         most = omega (arith, all);
         words =
             subst (λ (k : ℕ). take (3 + 2 * k) own''.words.now ≡ take 2 us ++ pos k ∷ gather encode_term (ts ++ t ∷ [])) (sym all)
@@ -152,7 +150,8 @@ pub record Listing (start : Cursor) (old own : Own) (here : Cursor) (n : ℕ) : 
   pub number : length ts ≡ n
   pub goes : from terms start ≡ attach ts (from (up_to (6 - n) comma term) here)
   pub moved : Moved start here
-  pub stand : TermsStand old own ts
+  pub kept : Kept old own
+  pub stand : TermsStand old.words.now own.words.now ts
 
 pub listing_first :
     (start : Cursor) (old own' own : Own) (here : Cursor) (w : TermWords) →
@@ -165,18 +164,19 @@ listing_first start old own' own here w f p e = record {
   number = refl;
   goes = rw f.reads.reads (attach-give f.what (from (up_to 5 comma term) here));
   moved = f.reads.moved;
-  stand = first-stands old own own' own f.what (term-put old own' 3 w (omega arith) f.what f.holds p) p.kept e;
+  kept = kept-further old own' own p.kept e.kept;
+  stand = first-stands old own own' own f.what (term-put old own' 3 w (omega arith) f.what f.holds p) e;
 }
 
 module _ {start : Cursor} {old own : Own} {here : Cursor} {n : ℕ} (p : Listing start old own here n) where
-  stands : (end : Cursor) → from terms start ≡ got p.ts end → Moved here end → Value terms (TermsStand old own) start end
+  stands : (end : Cursor) → from terms start ≡ got p.ts end → Moved here end → Value terms (TermsStand old.words.now own.words.now) start end
   stands end e m = record { what = p.ts; reads = record { moved = further _ _ _ p.moved m; reads = e }; holds = p.stand }
 
   module _ (few : n < 6) where
     pub listing_refused : (q : Refusal) (k : ℕ) → from (another comma) here ≡ refused q k → from terms start ≡ refused q k
     listing_refused q k a = several_refused term comma p.ts here (5 - n) (6 - n) (omega arith) p.goes q k a
 
-    pub listing_stop : (b : Bool) → b ≡ false → (end : Cursor) → Reads (another comma) here b end → Value terms (TermsStand old own) start end
+    pub listing_stop : (b : Bool) → b ≡ false → (end : Cursor) → Reads (another comma) here b end → Value terms (TermsStand old.words.now own.words.now) start end
     listing_stop b e end a = stands end (several_stop term comma p.ts here (5 - n) (6 - n) (omega arith) p.goes b e end a.reads) a.moved
 
     module _ (b : Bool) (y : b ≡ true) (mid : Cursor) (a : Reads (another comma) here b mid) where
@@ -195,13 +195,14 @@ module _ {start : Cursor} {old own : Own} {here : Cursor} {n : ℕ} (p : Listing
             several_more term comma p.ts here (5 - n) (6 - n) (omega arith) p.goes b y mid a.reads f.what end f.reads.reads
             ∙ ap (λ (k : ℕ). attach (p.ts ++ f.what ∷ []) (from (up_to k comma term) end)) (let z : 5 - n ≡ 6 - (n + 1) = omega arith in z);
         moved = further _ _ _ p.moved (further _ _ _ a.moved f.reads.moved);
+        kept = kept-further old own own'' p.kept (kept-further own own' own'' q.kept e.kept);
         stand =
             more-stand old own own' own'' p.ts f.what n p.number few p.stand
-            (term-put own own' (3 + 2 * n) w (omega arith) f.what f.holds q) q.kept e;
+            (term-put own own' (3 + 2 * n) w (omega arith) f.what f.holds q) e;
       }
 
   -- all six
-  pub listing_all : n ≡ 6 → Value terms (TermsStand old own) start here
+  pub listing_all : n ≡ 6 → Value terms (TermsStand old.words.now own.words.now) start here
   listing_all e = record {
     what = p.ts;
     reads = record { moved = p.moved; reads = several_all term comma p.ts here (6 - n) (omega (arith, e)) p.goes };

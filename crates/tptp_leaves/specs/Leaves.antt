@@ -4,8 +4,6 @@ use Rattle.model.specs.Words.{Words}
 use Rattle.model.specs.Bytes.{Text, bytes, blank, dollar, tilde, letter_p, letter_t, letter_f}
 use Rattle.model.specs.Tree.{Tree, plain, atom, compare, join, quantifier, some, encode}
 use Rattle.model.specs.TptpReading.{Reader, give, stop, look, peek, token, literal, read_atom, read_compare, read_dollar, read_negated, ◌>>=◌}
-use Rattle.tptp_leaves.specs.declared.own.Own.{Own}
-use Rattle.tptp_leaves.specs.Room.{Kept}
 
 -- no blank stands in front
 abbrev pub Unblank : (text : Text) → Type 0
@@ -25,11 +23,6 @@ pub record LeafStands (own : Words) (tree : Tree) : Type 0 where
   pub leaf : is_leaf tree ≡ true
   pub most : length (encode tree) ≤ 15
   pub words : take (length (encode tree)) own ≡ encode tree
-
--- its words were put into their room
-pub record LeafPut (own own' : Own) (tree : Tree) : Type 0 where
-  pub kept : Kept own own'
-  pub stands : LeafStands own'.words.now tree
 
 -- plain true or false, by these bytes
 abbrev pub read_plain : (word : Text) (b : Bool) → Reader Tree

@@ -1,5 +1,6 @@
 -- What the reading of terms comes to.
 use Rattle.std.specs.Prelude.{◌+◌, ◌*◌, ◌≤◌, ◌≡◌, List, ◌∷◌, [], ◌++◌, length, take, pos, Result, Ok, Err}
+use Rattle.model.specs.Words.{Words}
 use Rattle.model.specs.Lists.{gather}
 use Rattle.model.specs.Answer.{refused}
 use Rattle.model.specs.Tree.{Term, constant, variable, encode_term}
@@ -8,8 +9,6 @@ use Rattle.model.specs.declared.Refusal.{Refusal}
 use Rattle.text.specs.declared.cursor.Cursor.{Cursor}
 use Rattle.tptp_tokens.specs.Steps.{from, Value}
 use Rattle.tptp_leaves.specs.declared.terms.TermWords.{TermWords}
-use Rattle.tptp_leaves.specs.declared.own.Own.{Own}
-use Rattle.tptp_leaves.specs.Room.{Kept}
 
 -- a reader comes to a term with these words, or to a refusal
 abbrev pub TermRead : (reader : Reader Term) (old new : Cursor) (r : Result TermWords Refusal) → Type 0
@@ -28,7 +27,6 @@ read_constant = do
   give (constant k)
 
 -- the number of terms, at most six, and their words stand behind two words
-pub record TermsStand (own own' : Own) (ts : List Term) : Type 0 where
-  pub kept : Kept own own'
+pub record TermsStand (own own' : Words) (ts : List Term) : Type 0 where
   pub most : length ts ≤ 6
-  pub words : take (3 + 2 * length ts) own'.words.now ≡ take 2 own.words.now ++ pos (length ts) ∷ gather encode_term ts
+  pub words : take (3 + 2 * length ts) own' ≡ take 2 own ++ pos (length ts) ∷ gather encode_term ts

@@ -2,6 +2,7 @@
 // a small room of their own.
 ghost use Rattle.std.specs.Prelude.{◌≡◌, cond, ◌≤◌, length};
 ghost use Rattle.model.specs.TptpReading as R;
+ghost use Rattle.tptp_leaves.specs.Room.{Kept};
 ghost use Rattle.tptp_leaves.specs.Leaves as L;
 ghost use Rattle.tptp_tokens.specs.Steps.{Valued};
 
@@ -23,7 +24,8 @@ pub fn either(b: bool, x: usize, y: usize) -> usize
 
 // An atom that holds, or fails.
 fn atom(here: &mut Cursor<'_>, room: usize, holds: bool, own: &mut Own<'_>) -> Result<(), Refusal>
-    ensures { Valued (R.read_atom room holds) (L.LeafPut own.old own.new) here.old here.new result }
+    ensures kept { Kept own.old own.new }
+    ensures reads { Valued (R.read_atom room holds) (L.LeafStands own.new.words.now) here.old here.new result }
 {
     own.put(0, either(holds, 2, 3));
     expect(here, 112)?;
@@ -41,7 +43,8 @@ fn compare(
     holds: bool,
     own: &mut Own<'_>,
 ) -> Result<(), Refusal>
-    ensures { Valued (R.read_compare room holds) (L.LeafPut own.old own.new) here.old here.new result }
+    ensures kept { Kept own.old own.new }
+    ensures reads { Valued (R.read_compare room holds) (L.LeafStands own.new.words.now) here.old here.new result }
 {
     own.put(0, either(holds, 4, 5));
     opening(here, room)?;
@@ -59,7 +62,8 @@ fn compare(
 // Plain true or false, whose bytes stand here.
 fn plain(here: &mut Cursor<'_>, value: bool, word: &[u8], own: &mut Own<'_>) -> Result<(), Refusal>
     requires { 1 ≤ length word.now }
-    ensures { Valued (L.read_plain word.now value) (L.LeafPut own.old own.new) here.old here.new result }
+    ensures kept { Kept own.old own.new }
+    ensures reads { Valued (L.read_plain word.now value) (L.LeafStands own.new.words.now) here.old here.new result }
 {
     own.put(0, either(value, 1, 0));
     literal(here, word)
@@ -67,7 +71,8 @@ fn plain(here: &mut Cursor<'_>, value: bool, word: &[u8], own: &mut Own<'_>) -> 
 
 // Behind a dollar: plain true or false, or a comparison.
 fn dollar(here: &mut Cursor<'_>, room: usize, own: &mut Own<'_>) -> Result<(), Refusal>
-    ensures { Valued (L.behind_dollar room) (L.LeafPut own.old own.new) here.old here.new result }
+    ensures kept { Kept own.old own.new }
+    ensures reads { Valued (L.behind_dollar room) (L.LeafStands own.new.words.now) here.old here.new result }
 {
     match here.rest.first() {
         Some(&116) => plain(here, true, b"true", own),
@@ -81,7 +86,8 @@ fn dollar(here: &mut Cursor<'_>, room: usize, own: &mut Own<'_>) -> Result<(), R
 
 // Behind a negation: an atom or a comparison.
 fn negated(here: &mut Cursor<'_>, room: usize, own: &mut Own<'_>) -> Result<(), Refusal>
-    ensures { Valued (L.behind_negation room) (L.LeafPut own.old own.new) here.old here.new result }
+    ensures kept { Kept own.old own.new }
+    ensures reads { Valued (L.behind_negation room) (L.LeafStands own.new.words.now) here.old here.new result }
 {
     skip(here);
     if here.rest.first() == Some(&112) {
@@ -94,7 +100,8 @@ fn negated(here: &mut Cursor<'_>, room: usize, own: &mut Own<'_>) -> Result<(), 
 // A node with none below it, whose first byte stands here.
 pub fn leaf(here: &mut Cursor<'_>, room: usize, own: &mut Own<'_>) -> Result<(), Refusal>
     requires { L.Unblank here.old.rest.now }
-    ensures { Valued (L.read_leaf room) (L.LeafPut own.old own.new) here.old here.new result }
+    ensures kept { Kept own.old own.new }
+    ensures reads { Valued (L.read_leaf room) (L.LeafStands own.new.words.now) here.old here.new result }
 {
     match here.rest.first() {
         Some(&36) => {

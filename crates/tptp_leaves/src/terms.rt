@@ -1,6 +1,7 @@
 // Terms, as they stand in a text. The words of several go to a small room of their own, which holds the words of one atom.
 ghost use Rattle.model.specs.TptpReading as R;
 ghost use Rattle.tptp_tokens.specs.Steps.{Valued};
+ghost use Rattle.tptp_leaves.specs.Room.{Kept};
 ghost use Rattle.tptp_leaves.specs.Terms as T;
 
 use crate::own::Own;
@@ -51,7 +52,8 @@ pub fn term(here: &mut Cursor<'_>) -> Result<TermWords, Refusal>
 
 // One to six terms with commas between them. Their number and their words go behind the first two words.
 pub fn terms(here: &mut Cursor<'_>, own: &mut Own<'_>) -> Result<(), Refusal>
-    ensures { Valued R.terms (T.TermsStand own.old own.new) here.old here.new result }
+    ensures kept { Kept own.old own.new }
+    ensures reads { Valued R.terms (T.TermsStand own.old.words.now own.new.words.now) here.old here.new result }
 {
     own.put_term(3, term(here)?);
     own.put(2, 1);

@@ -7,6 +7,7 @@ use lib.Dec.{eqb}
 use borrow.Author.Tests.{ne_eqb}
 use Rattle.std.specs.Prelude.{slice_get, Some, None, Result}
 use Rattle.text.specs.declared.cursor.Cursor.{Cursor}
+use Rattle.model.specs.Words.{Words}
 use Rattle.model.specs.Bytes.{Text, dollar, letter_p, tilde, parenthesis, interrogation, exclamation}
 use Rattle.model.specs.Answer.{refused}
 use Rattle.model.specs.Tree.{Tree}
@@ -21,8 +22,7 @@ use Rattle.model.specs.declared.Refusal.TheVariants.{Tptp}
 use Rattle.laws.specs.Words.Tests.{clash}
 use Rattle.laws.specs.Tptp.Sound.Policies.{operand_sound}
 use Rattle.tptp_tokens.specs.Steps.{from, Skips, Reads, Value, Valued}
-use Rattle.tptp_leaves.specs.Leaves.{Unblank, LeafStands, LeafPut, read_leaf}
-use Rattle.tptp_leaves.specs.declared.own.Own.{Own}
+use Rattle.tptp_leaves.specs.Leaves.{Unblank, LeafStands, read_leaf}
 use Rattle.tptp_reading.specs.Formula.{beneath, LeafByte, chained}
 use Rattle.tptp_tokens.proofs.MovedLaws.{further}
 use Rattle.tptp_tokens.proofs.TokenLaws.{onward, halt, look-here, look-over}
@@ -155,21 +155,21 @@ module _ (room : ℕ) (formula : Bool) (scope : ℕ) where
     pub leaf-refused : (q : Refusal) (p : ℕ) → from (read_leaf room) here ≡ refused q p → from operand here ≡ refused q p
     leaf-refused q p e = operand-leaf ∙ e
 
-    module _ {own own' : Own} {new : Cursor} (v : Value (read_leaf room) (LeafPut own own') here new) where
+    module _ {own : Words} {new : Cursor} (v : Value (read_leaf room) (LeafStands own) here new) where
       -- it stands there, and is good
       good : good_tree v.what formula ≡ true
       good = (operand_sound room formula scope _ _ _ (operand-leaf ∙ v.reads.reads)).good
 
-      pub leaf-stands : (t : Tree) × LeafStands own'.words.now t × (good_tree t formula ≡ true)
-      leaf-stands = (v.what, v.holds.stands, good)
+      pub leaf-stands : (t : Tree) × LeafStands own t × (good_tree t formula ≡ true)
+      leaf-stands = (v.what, v.holds, good)
 
       pub leaf-read :
-          (facts : Tree → Type 0) → ((t : Tree) → LeafStands own'.words.now t → good_tree t formula ≡ true → facts t) →
+          (facts : Tree → Type 0) → ((t : Tree) → LeafStands own t → good_tree t formula ≡ true → facts t) →
           Value operand facts here new
       leaf-read facts told = record {
         what = v.what;
         reads = record { moved = v.reads.moved; reads = operand-leaf ∙ v.reads.reads };
-        holds = told v.what v.holds.stands good;
+        holds = told v.what v.holds good;
       }
 
 -- a first byte that begins no node that has others below it

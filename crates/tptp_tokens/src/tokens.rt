@@ -23,6 +23,7 @@ pub fn skip(here: &mut Cursor<'_>)
 }
 
 // A token of one byte.
+#[inline(always)]
 pub fn expect(here: &mut Cursor<'_>, c: u8) -> Result<(), Refusal>
     ensures { Steps (R.token (c ∷ [])) here.old here.new result }
 {
