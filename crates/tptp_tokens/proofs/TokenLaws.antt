@@ -3,6 +3,7 @@ use Prim.Native.Nat.{ℕ, zero, suc, ◌+◌, ◌≤◌, ◌<◌}
 use native.Mathlib.Numerals.{add-one}
 use native.Mathlib.Omega.{arith}
 use mathlib.Core.Path.{◌≡◌, refl, sym, ap, ◌∙◌}
+use mathlib.Core.Logic.{⊎_elim}
 use mathlib.Core.List.{[], ◌∷◌}
 use lib.ListN.{length, drop, get_or, drop_of_length-le}
 use lib.Seq.{drop-cons}
@@ -10,12 +11,13 @@ use borrow.Author.Tests.{eq-eqb, ne_eqb}
 use Rattle.std.specs.Prelude.{slice_get, Some, None, Result, Ok, Err}
 use Rattle.std.proofs.lemmas.Option.{slice_get_within, get_or_from_slice_get}
 use Rattle.text.specs.declared.cursor.Cursor.{Cursor}
+use Rattle.laws.specs.Lists.Span.{side}
 use Rattle.model.specs.Bytes.{Text, bytes}
 use Rattle.model.specs.Answer.{Outcome, passed, refused}
 use Rattle.model.specs.TptpReading.{Got, Reader, give, onwards, ◌>>=◌, stop, blanks, peek, literal, look, token, opening}
 use Rattle.model.specs.declared.Refusal.{Refusal}
 use Rattle.model.specs.declared.Refusal.TheVariants.{Level, Tptp}
-use Rattle.tptp_tokens.specs.Steps.{from, got, Moved, Skips, Reads, Steps}
+use Rattle.tptp_tokens.specs.Steps.{from, got, Skips, Reads, Steps}
 use Rattle.tptp_tokens.proofs.MovedLaws.{further, past}
 
 -- a text from an index on: a byte and the rest, or nothing
@@ -94,25 +96,32 @@ literal-here old new r e c h =
     record { moved = past old new 1 (omega (arith, one)) r e; reads = literal-is c [] old.rest.now old.at h ∙ rw (sym r, sym e) refl }
 
 -- bytes of a literal one after another
-module _ (word : Text) (i : ℕ) (old : Cursor) where
+module _ (word text : Text) (i p : ℕ) where
   pub literal-more :
-      (new : Cursor) → i < length word → slice_get old.rest.now 0 ≡ Some (get_or word i 0) → new.rest.now ≡ drop 1 old.rest.now →
-      new.at ≡ old.at + 1 →
-      Moved old new × (from (literal (drop i word)) old ≡ from (literal (drop (i + 1) word)) new)
-  literal-more new h e r p =
-      let c = get_or word i 0 in
-      let some = slice_get_within old.rest.now 0 c e in (
-        past old new 1 (omega (arith, some)) r p,
-        rw (here word i h) (literal-is c (drop (i + 1) word) old.rest.now old.at e ∙ rw (sym r, sym p) refl),
-      )
+      i < length word →
+      i < length text →
+      get_or text i 0 ≡ get_or word i 0 →
+      literal (drop i word) (drop i text) (p + i) ≡ literal (drop (i + 1) word) (drop (i + 1) text) (p + (i + 1))
+  unfolding literal
+  literal-more h l e =
+      let next : suc (p + i) ≡ p + (i + 1) = omega arith in
+      rw (here word i h, here text i l, eq-eqb (get_or text i 0) (get_or word i 0) e, next)
 
   pub literal-other :
-      i < length word → (slice_get old.rest.now 0 ≡ Some (get_or word i 0) → ⊥) → from (literal (drop i word)) old ≡ refused Tptp old.at
-  literal-other h e = rw (here word i h) (literal-not (get_or word i 0) (drop (i + 1) word) old.rest.now old.at e)
-
-  pub literal_end : length word ≤ i → from (literal (drop i word)) old ≡ got tt old
+      i < length word →
+      (i < length text → get_or text i 0 ≡ get_or word i 0 → ⊥) →
+      literal (drop i word) (drop i text) (p + i) ≡ refused Tptp (p + i)
   unfolding literal
-  literal_end h = rw (over word i h) refl
+  literal-other h e =
+      rw (here word i h)
+      (⊎_elim
+      (λ (l : i < length text). rw (here text i l, ne_eqb (get_or text i 0) (get_or word i 0) (e l)))
+      (λ (l : length text ≤ i). rw (over text i l))
+      (side (length text) i))
+
+pub literal_end : (word text : Text) (i p : ℕ) → length word ≤ i → literal (drop i word) text p ≡ passed (record { what = tt; rest = text; at = p })
+unfolding literal
+literal_end word text i p h = rw (over word i h) refl
 
 -- the next byte behind blanks, and a token there
 module _ (old mid : Cursor) (s : Skips old mid) where

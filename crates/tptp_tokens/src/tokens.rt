@@ -23,7 +23,6 @@ pub fn skip(here: &mut Cursor<'_>)
 }
 
 // A token of one byte.
-#[inline(always)]
 pub fn expect(here: &mut Cursor<'_>, c: u8) -> Result<(), Refusal>
     ensures { Steps (R.token (c ∷ [])) here.old here.new result }
 {
@@ -39,12 +38,14 @@ pub fn expect(here: &mut Cursor<'_>, c: u8) -> Result<(), Refusal>
 pub fn literal(here: &mut Cursor<'_>, word: &[u8]) -> Result<(), Refusal>
     ensures { Steps (R.literal word.now) here.old here.new result }
 {
+    let text = here.rest;
     for i in 0..word.len() {
-        if here.rest.first() != Some(&word[i]) {
+        if text.get(i) != Some(&word[i]) {
+            here.pass(i);
             return Err(Refusal::Tptp);
         }
-        here.pass(1);
     }
+    here.pass(word.len());
     Ok(())
 }
 
