@@ -17,7 +17,7 @@ returns-in_err-expect c =
     record {
       kept = c.put.ensures.kept;
       reads =
-        rw (passed_on _ c.from_residual.ensures.1) (rw c.in_err-expect.ensures);
+          rw (passed_on _ c.from_residual.ensures.1) (rw c.in_err-expect.ensures);
     }
 
 pub returns-in_err-predicate : goal.returns-in_err-predicate
@@ -26,7 +26,7 @@ returns-in_err-predicate c =
     record {
       kept = c.put.ensures.kept;
       reads =
-        rw (passed_on _ c.from_residual-in_err-predicate.ensures.1) (rw (c.in_ok-expect.ensures.reads, c.in_err-predicate.ensures));
+          rw (passed_on _ c.from_residual-in_err-predicate.ensures.1) (rw (c.in_ok-expect.ensures.reads, c.in_err-predicate.ensures));
     }
 
 pub returns-in_err-opening : goal.returns-in_err-opening
@@ -35,8 +35,8 @@ returns-in_err-opening c =
     record {
       kept = kept-further _ _ _ c.put.ensures.kept c.put-2.ensures.kept;
       reads =
-        rw (passed_on _ c.from_residual-in_err-opening.ensures.1)
-        (rw (c.in_ok-expect.ensures.reads, c.in_ok-predicate.ensures.0.reads, c.in_err-opening.ensures));
+          rw (passed_on _ c.from_residual-in_err-opening.ensures.1)
+          (rw (c.in_ok-expect.ensures.reads, c.in_ok-predicate.ensures.0.reads, c.in_err-opening.ensures));
     }
 
 pub returns-in_err-terms : goal.returns-in_err-terms
@@ -45,8 +45,8 @@ returns-in_err-terms c =
     record {
       kept = kept-further _ _ _ c.put.ensures.kept (kept-further _ _ _ c.put-2.ensures.kept c.terms.ensures.kept);
       reads =
-        rw (passed_on _ c.from_residual-in_err-terms.ensures.1)
-        (rw (c.in_ok-expect.ensures.reads, c.in_ok-predicate.ensures.0.reads, c.in_ok-opening.ensures.reads, c.in_err-terms.ensures.reads));
+          rw (passed_on _ c.from_residual-in_err-terms.ensures.1)
+          (rw (c.in_ok-expect.ensures.reads, c.in_ok-predicate.ensures.0.reads, c.in_ok-opening.ensures.reads, c.in_err-terms.ensures.reads));
     }
 
 pub returns : goal.returns
@@ -60,11 +60,11 @@ returns c =
     record {
       kept = kept-further _ _ _ c.put.ensures.kept (kept-further _ _ _ c.put-2.ensures.kept c.terms.ensures.kept);
       reads =
-        closed_from a.here.now c.terms.new.here c.expect-2.new.here
-        (further _ _ _ name.moved (further _ _ _ p.moved (further _ _ _ open_one.moved ts.reads.moved)))
-        (read_atom a.room a.holds) (token (41 ∷ [])) (atom a.holds c.in_ok-predicate.predicate ts.what) (LeafStands c.terms.new.own.words.now)
-        (rw (name.reads, p.reads, open_one.reads, ts.reads.reads))
-        (atom-stands a.holds c.in_ok-predicate.predicate ts.what a.own.now c.put.new.self c.put-2.new.self c.terms.new.own c.either.result
-        c.either.ensures c.put.ensures c.put-2.ensures ts.holds)
-        c.expect-2.result c.expect-2.ensures;
+          closed_from a.here.now c.terms.new.here c.expect-2.new.here
+          (further _ _ _ name.moved (further _ _ _ p.moved (further _ _ _ open_one.moved ts.reads.moved)))
+          (read_atom a.room a.holds) (token (41 ∷ [])) (atom a.holds c.in_ok-predicate.predicate ts.what) (LeafStands c.terms.new.own.words.now)
+          (rw (name.reads, p.reads, open_one.reads, ts.reads.reads))
+          (atom-stands a.holds c.in_ok-predicate.predicate ts.what a.own.now c.put.new.self c.put-2.new.self c.terms.new.own c.either.result
+          c.either.ensures c.put.ensures c.put-2.ensures ts.holds)
+          c.expect-2.result c.expect-2.ensures;
     }

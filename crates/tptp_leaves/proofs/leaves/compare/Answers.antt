@@ -19,8 +19,8 @@ returns-in_err-opening c =
     record {
       kept = c.put.ensures.kept;
       reads =
-        rw (passed_on _ c.from_residual.ensures.1)
-        (rw c.in_err-opening.ensures);
+          rw (passed_on _ c.from_residual.ensures.1)
+          (rw c.in_err-opening.ensures);
     }
 
 pub returns-in_err-token : goal.returns-in_err-token
@@ -29,8 +29,8 @@ returns-in_err-token c =
     record {
       kept = c.put.ensures.kept;
       reads =
-        rw (passed_on _ c.from_residual-in_err-token.ensures.1)
-        (rw (c.in_ok-opening.ensures.reads, c.in_err-token.ensures));
+          rw (passed_on _ c.from_residual-in_err-token.ensures.1)
+          (rw (c.in_ok-opening.ensures.reads, c.in_err-token.ensures));
     }
 
 pub returns-in_err-opening-2 : goal.returns-in_err-opening-2
@@ -39,8 +39,8 @@ returns-in_err-opening-2 c =
     record {
       kept = c.put.ensures.kept;
       reads =
-        rw (passed_on _ c.from_residual-in_err-opening-2.ensures.1)
-        (rw (sym c.saturating_sub.ensures, c.in_ok-opening.ensures.reads, c.in_ok-token.ensures.reads, c.in_err-opening-2.ensures));
+          rw (passed_on _ c.from_residual-in_err-opening-2.ensures.1)
+          (rw (sym c.saturating_sub.ensures, c.in_ok-opening.ensures.reads, c.in_ok-token.ensures.reads, c.in_err-opening-2.ensures));
     }
 
 pub returns-in_err-term : goal.returns-in_err-term
@@ -49,14 +49,14 @@ returns-in_err-term c =
     record {
       kept = c.put.ensures.kept;
       reads =
-        rw (passed_on _ c.from_residual-in_err-term.ensures.1)
-        (rw (
-          sym c.saturating_sub.ensures,
-          c.in_ok-opening.ensures.reads,
-          c.in_ok-token.ensures.reads,
-          c.in_ok-opening-2.ensures.reads,
-          c.in_err-term.ensures,
-        ));
+          rw (passed_on _ c.from_residual-in_err-term.ensures.1)
+          (rw (
+            sym c.saturating_sub.ensures,
+            c.in_ok-opening.ensures.reads,
+            c.in_ok-token.ensures.reads,
+            c.in_ok-opening-2.ensures.reads,
+            c.in_err-term.ensures,
+          ));
     }
 
 pub returns-in_err-expect : goal.returns-in_err-expect
@@ -65,15 +65,15 @@ returns-in_err-expect c =
     record {
       kept = kept-further _ _ _ c.put.ensures.kept c.put_term.ensures.kept;
       reads =
-        rw (passed_on _ c.from_residual-in_err-expect.ensures.1)
-        (rw (
-          sym c.saturating_sub.ensures,
-          c.in_ok-opening.ensures.reads,
-          c.in_ok-token.ensures.reads,
-          c.in_ok-opening-2.ensures.reads,
-          c.in_ok-term.ensures.reads.reads,
-          c.in_err-expect.ensures,
-        ));
+          rw (passed_on _ c.from_residual-in_err-expect.ensures.1)
+          (rw (
+            sym c.saturating_sub.ensures,
+            c.in_ok-opening.ensures.reads,
+            c.in_ok-token.ensures.reads,
+            c.in_ok-opening-2.ensures.reads,
+            c.in_ok-term.ensures.reads.reads,
+            c.in_err-expect.ensures,
+          ));
     }
 
 pub returns-in_err-integer : goal.returns-in_err-integer
@@ -82,16 +82,16 @@ returns-in_err-integer c =
     record {
       kept = kept-further _ _ _ c.put.ensures.kept c.put_term.ensures.kept;
       reads =
-        rw (passed_on _ c.from_residual-in_err-integer.ensures.1)
-        (rw (
-          sym c.saturating_sub.ensures,
-          c.in_ok-opening.ensures.reads,
-          c.in_ok-token.ensures.reads,
-          c.in_ok-opening-2.ensures.reads,
-          c.in_ok-term.ensures.reads.reads,
-          c.in_ok-expect.ensures.reads,
-          c.in_err-integer.ensures,
-        ));
+          rw (passed_on _ c.from_residual-in_err-integer.ensures.1)
+          (rw (
+            sym c.saturating_sub.ensures,
+            c.in_ok-opening.ensures.reads,
+            c.in_ok-token.ensures.reads,
+            c.in_ok-opening-2.ensures.reads,
+            c.in_ok-term.ensures.reads.reads,
+            c.in_ok-expect.ensures.reads,
+            c.in_err-integer.ensures,
+          ));
     }
 
 pub returns-in_err-expect-2 : goal.returns-in_err-expect-2
@@ -100,17 +100,17 @@ returns-in_err-expect-2 c =
     record {
       kept = kept-further _ _ _ c.put.ensures.kept (kept-further _ _ _ c.put_term.ensures.kept c.put_number.ensures.kept);
       reads =
-        rw (passed_on _ c.from_residual-in_err-expect-2.ensures.1)
-        (rw (
-          sym c.saturating_sub.ensures,
-          c.in_ok-opening.ensures.reads,
-          c.in_ok-token.ensures.reads,
-          c.in_ok-opening-2.ensures.reads,
-          c.in_ok-term.ensures.reads.reads,
-          c.in_ok-expect.ensures.reads,
-          c.in_ok-integer.ensures.0.reads,
-          c.in_err-expect-2.ensures,
-        ));
+          rw (passed_on _ c.from_residual-in_err-expect-2.ensures.1)
+          (rw (
+            sym c.saturating_sub.ensures,
+            c.in_ok-opening.ensures.reads,
+            c.in_ok-token.ensures.reads,
+            c.in_ok-opening-2.ensures.reads,
+            c.in_ok-term.ensures.reads.reads,
+            c.in_ok-expect.ensures.reads,
+            c.in_ok-integer.ensures.0.reads,
+            c.in_err-expect-2.ensures,
+          ));
     }
 
 pub returns-in_err-expect-3 : goal.returns-in_err-expect-3
@@ -119,18 +119,18 @@ returns-in_err-expect-3 c =
     record {
       kept = kept-further _ _ _ c.put.ensures.kept (kept-further _ _ _ c.put_term.ensures.kept c.put_number.ensures.kept);
       reads =
-        rw (passed_on _ c.from_residual-in_err-expect-3.ensures.1)
-        (rw (
-          sym c.saturating_sub.ensures,
-          c.in_ok-opening.ensures.reads,
-          c.in_ok-token.ensures.reads,
-          c.in_ok-opening-2.ensures.reads,
-          c.in_ok-term.ensures.reads.reads,
-          c.in_ok-expect.ensures.reads,
-          c.in_ok-integer.ensures.0.reads,
-          c.in_ok-expect-2.ensures.reads,
-          c.in_err-expect-3.ensures,
-        ));
+          rw (passed_on _ c.from_residual-in_err-expect-3.ensures.1)
+          (rw (
+            sym c.saturating_sub.ensures,
+            c.in_ok-opening.ensures.reads,
+            c.in_ok-token.ensures.reads,
+            c.in_ok-opening-2.ensures.reads,
+            c.in_ok-term.ensures.reads.reads,
+            c.in_ok-expect.ensures.reads,
+            c.in_ok-integer.ensures.0.reads,
+            c.in_ok-expect-2.ensures.reads,
+            c.in_err-expect-3.ensures,
+          ));
     }
 
 pub returns-in_err-term-2 : goal.returns-in_err-term-2
@@ -139,19 +139,19 @@ returns-in_err-term-2 c =
     record {
       kept = kept-further _ _ _ c.put.ensures.kept (kept-further _ _ _ c.put_term.ensures.kept c.put_number.ensures.kept);
       reads =
-        rw (passed_on _ c.from_residual-in_err-term-2.ensures.1)
-        (rw (
-          sym c.saturating_sub.ensures,
-          c.in_ok-opening.ensures.reads,
-          c.in_ok-token.ensures.reads,
-          c.in_ok-opening-2.ensures.reads,
-          c.in_ok-term.ensures.reads.reads,
-          c.in_ok-expect.ensures.reads,
-          c.in_ok-integer.ensures.0.reads,
-          c.in_ok-expect-2.ensures.reads,
-          c.in_ok-expect-3.ensures.reads,
-          c.in_err-term-2.ensures,
-        ));
+          rw (passed_on _ c.from_residual-in_err-term-2.ensures.1)
+          (rw (
+            sym c.saturating_sub.ensures,
+            c.in_ok-opening.ensures.reads,
+            c.in_ok-token.ensures.reads,
+            c.in_ok-opening-2.ensures.reads,
+            c.in_ok-term.ensures.reads.reads,
+            c.in_ok-expect.ensures.reads,
+            c.in_ok-integer.ensures.0.reads,
+            c.in_ok-expect-2.ensures.reads,
+            c.in_ok-expect-3.ensures.reads,
+            c.in_err-term-2.ensures,
+          ));
     }
 
 pub returns : goal.returns
@@ -165,22 +165,22 @@ returns c =
     record {
       kept = kept-further _ _ _ c.put.ensures.kept (kept-further _ _ _ c.put_term.ensures.kept (kept-further _ _ _ c.put_number.ensures.kept c.put_term-2.ensures.kept));
       reads =
-        closed_from a.here.now c.term-2.new.here c.expect-4.new.here
-        (further _ _ _ c.in_ok-opening.ensures.moved (further _ _ _ c.in_ok-token.ensures.moved (further _ _ _ c.in_ok-opening-2.ensures.moved (further _ _ _ x.reads.moved (further _ _ _ c.in_ok-expect.ensures.moved (further _ _ _ c.in_ok-integer.ensures.0.moved (further _ _ _ c.in_ok-expect-2.ensures.moved (further _ _ _ c.in_ok-expect-3.ensures.moved y.reads.moved))))))))
-        (read_compare a.room a.holds) (token (41 ∷ [])) (compare a.holds d x.what y.what) (LeafStands c.put_term-2.new.self.words.now)
-        (rw (
-          sym c.saturating_sub.ensures,
-          c.in_ok-opening.ensures.reads,
-          c.in_ok-token.ensures.reads,
-          c.in_ok-opening-2.ensures.reads,
-          c.in_ok-term.ensures.reads.reads,
-          c.in_ok-expect.ensures.reads,
-          c.in_ok-integer.ensures.0.reads,
-          c.in_ok-expect-2.ensures.reads,
-          c.in_ok-expect-3.ensures.reads,
-          c.in_ok-term-2.ensures.reads.reads,
-        ))
-        (compare-stands a.holds a.own.now c.put.new.self c.put_term.new.self c.put_number.new.self c.put_term-2.new.self _ c.either.ensures
-        c.put.ensures d _ back x.what y.what _ _ x.holds c.put_term.ensures c.put_number.ensures y.holds c.put_term-2.ensures)
-        c.expect-4.result c.expect-4.ensures;
+          closed_from a.here.now c.term-2.new.here c.expect-4.new.here
+          (further _ _ _ c.in_ok-opening.ensures.moved (further _ _ _ c.in_ok-token.ensures.moved (further _ _ _ c.in_ok-opening-2.ensures.moved (further _ _ _ x.reads.moved (further _ _ _ c.in_ok-expect.ensures.moved (further _ _ _ c.in_ok-integer.ensures.0.moved (further _ _ _ c.in_ok-expect-2.ensures.moved (further _ _ _ c.in_ok-expect-3.ensures.moved y.reads.moved))))))))
+          (read_compare a.room a.holds) (token (41 ∷ [])) (compare a.holds d x.what y.what) (LeafStands c.put_term-2.new.self.words.now)
+          (rw (
+            sym c.saturating_sub.ensures,
+            c.in_ok-opening.ensures.reads,
+            c.in_ok-token.ensures.reads,
+            c.in_ok-opening-2.ensures.reads,
+            c.in_ok-term.ensures.reads.reads,
+            c.in_ok-expect.ensures.reads,
+            c.in_ok-integer.ensures.0.reads,
+            c.in_ok-expect-2.ensures.reads,
+            c.in_ok-expect-3.ensures.reads,
+            c.in_ok-term-2.ensures.reads.reads,
+          ))
+          (compare-stands a.holds a.own.now c.put.new.self c.put_term.new.self c.put_number.new.self c.put_term-2.new.self _ c.either.ensures
+          c.put.ensures d _ back x.what y.what _ _ x.holds c.put_term.ensures c.put_number.ensures y.holds c.put_term-2.ensures)
+          c.expect-4.result c.expect-4.ensures;
     }

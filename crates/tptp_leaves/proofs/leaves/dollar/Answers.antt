@@ -25,7 +25,7 @@ returns-in_err-literal-in_default c =
     record {
       kept = record { same = refl; long = refl };
       reads =
-        rw (passed_on _ c.from_residual.ensures.1) (less ∙ rw c.in_err-literal-in_default.ensures);
+          rw (passed_on _ c.from_residual.ensures.1) (less ∙ rw c.in_err-literal-in_default.ensures);
     }
 
 pub returns-in-Some-eq116 : goal.returns-in-Some-eq116
@@ -34,7 +34,7 @@ returns-in-Some-eq116 c =
     record {
       kept = c.plain.ensures.kept;
       reads =
-        dollar-true c.args.here.now c.args.room _ c.plain.new.here c.plain.result (search rules) c.plain.ensures.reads;
+          dollar-true c.args.here.now c.args.room _ c.plain.new.here c.plain.result (search rules) c.plain.ensures.reads;
     }
 
 pub returns-in-Some-eq102 : goal.returns-in-Some-eq102
@@ -43,8 +43,8 @@ returns-in-Some-eq102 c =
     record {
       kept = c.plain-in-Some-eq102.ensures.kept;
       reads =
-        dollar-false c.args.here.now c.args.room _ c.plain-in-Some-eq102.new.here c.plain-in-Some-eq102.result (search rules)
-        c.plain-in-Some-eq102.ensures.reads;
+          dollar-false c.args.here.now c.args.room _ c.plain-in-Some-eq102.new.here c.plain-in-Some-eq102.result (search rules)
+          c.plain-in-Some-eq102.ensures.reads;
     }
 
 pub returns-in_ok-literal-in_default : goal.returns-in_ok-literal-in_default
@@ -61,6 +61,6 @@ returns-in_ok-literal-in_default c =
     record {
       kept = c.compare.ensures.kept;
       reads =
-        valued_from here c.literal.new.here c.compare.new.here name.moved (behind_dollar room) (read_compare room true)
-        (LeafStands c.compare.new.own.words.now) (less ∙ rw name.reads) c.compare.result c.compare.ensures.reads;
+          valued_from here c.literal.new.here c.compare.new.here name.moved (behind_dollar room) (read_compare room true)
+          (LeafStands c.compare.new.own.words.now) (less ∙ rw name.reads) c.compare.result c.compare.ensures.reads;
     }

@@ -9,8 +9,8 @@ returns-in-Some-eq36 c =
     record {
       kept = c.dollar.ensures.kept;
       reads =
-        leaf-dollar c.args.here.now c.args.room c.requires _ c.dollar.new.here c.dollar.result
-        c.pass.new.self c.pass.ensures.rest c.pass.ensures.at (search rules) c.dollar.ensures.reads;
+          leaf-dollar c.args.here.now c.args.room c.requires _ c.dollar.new.here c.dollar.result
+          c.pass.new.self c.pass.ensures.rest c.pass.ensures.at (search rules) c.dollar.ensures.reads;
     }
 
 pub returns-in-Some-eq112 : goal.returns-in-Some-eq112
@@ -18,7 +18,7 @@ returns-in-Some-eq112 c =
     record {
       kept = c.atom.ensures.kept;
       reads =
-        leaf-atom c.args.here.now c.args.room c.requires _ c.atom.new.here c.atom.result (search rules) c.atom.ensures.reads;
+          leaf-atom c.args.here.now c.args.room c.requires _ c.atom.new.here c.atom.result (search rules) c.atom.ensures.reads;
     }
 
 pub returns-in-Some-eq126 : goal.returns-in-Some-eq126
@@ -27,8 +27,8 @@ returns-in-Some-eq126 c =
     record {
       kept = c.negated.ensures.kept;
       reads =
-        leaf-negated c.args.here.now c.args.room c.requires _ c.negated.new.here c.negated.result
-        p.new.self p.ensures.rest p.ensures.at (search rules) c.negated.ensures.reads;
+          leaf-negated c.args.here.now c.args.room c.requires _ c.negated.new.here c.negated.result
+          p.new.self p.ensures.rest p.ensures.at (search rules) c.negated.ensures.reads;
     }
 
 pub returns-in_default : goal.returns-in_default

@@ -16,7 +16,7 @@ returns-then-eq c =
     record {
       kept = c.atom.ensures.kept;
       reads =
-        negation-atom c.args.here.now c.skip.new.here c.skip.ensures c.args.room _ c.atom.new.here c.atom.result (search rules) c.atom.ensures.reads;
+          negation-atom c.args.here.now c.skip.new.here c.skip.ensures c.args.room _ c.atom.new.here c.atom.result (search rules) c.atom.ensures.reads;
     }
 
 pub returns-in_err-token : goal.returns-in_err-token
@@ -26,7 +26,7 @@ returns-in_err-token c =
     record {
       kept = record { same = refl; long = refl };
       reads =
-        rw (passed_on _ c.from_residual.ensures.1) (name ∙ rw c.in_err-token.ensures);
+          rw (passed_on _ c.from_residual.ensures.1) (name ∙ rw c.in_err-token.ensures);
     }
 
 pub returns : goal.returns
@@ -38,6 +38,6 @@ returns c =
     record {
       kept = c.compare.ensures.kept;
       reads =
-        valued_from a.here.now c.token.new.here c.compare.new.here (further _ _ _ c.skip.ensures.reads.moved t.moved) (behind_negation a.room)
-        (read_compare a.room false) (LeafStands c.compare.new.own.words.now) (name ∙ rw t.reads) c.compare.result c.compare.ensures.reads;
+          valued_from a.here.now c.token.new.here c.compare.new.here (further _ _ _ c.skip.ensures.reads.moved t.moved) (behind_negation a.room)
+          (read_compare a.room false) (LeafStands c.compare.new.own.words.now) (name ∙ rw t.reads) c.compare.result c.compare.ensures.reads;
     }

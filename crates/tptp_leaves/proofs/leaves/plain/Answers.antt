@@ -15,7 +15,7 @@ returns c =
     record {
       kept = c.put.ensures.kept;
       reads =
-        closed_from here here c.literal.new.here (still here) (read_plain a.word.now a.value) (literal a.word.now) (plain a.value)
-        (LeafStands c.put.new.self.words.now) refl (plain-stands a.value a.own.now c.put.new.self c.either.result c.either.ensures c.put.ensures)
-        c.literal.result c.literal.ensures;
+          closed_from here here c.literal.new.here (still here) (read_plain a.word.now a.value) (literal a.word.now) (plain a.value)
+          (LeafStands c.put.new.self.words.now) refl (plain-stands a.value a.own.now c.put.new.self c.either.result c.either.ensures c.put.ensures)
+          c.literal.result c.literal.ensures;
     }

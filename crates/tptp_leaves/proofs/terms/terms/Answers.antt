@@ -12,7 +12,7 @@ returns-in_err-term c =
     record {
       kept = record { same = refl; long = refl };
       reads =
-        rw (passed_on _ c.from_residual.ensures.1) (rw c.in_err-term.ensures);
+          rw (passed_on _ c.from_residual.ensures.1) (rw c.in_err-term.ensures);
     }
 
 pub loop-n-init : goal.loop-n-init
@@ -23,8 +23,8 @@ returns-in_err-another c =
     record {
       kept = c.loop-n.invariant.kept;
       reads =
-        rw (passed_on _ c.from_residual-in_err-another.ensures.1)
-        (listing_refused c.loop-n.invariant c.loop-n-test.true _ _ c.in_err-another.ensures);
+          rw (passed_on _ c.from_residual-in_err-another.ensures.1)
+          (listing_refused c.loop-n.invariant c.loop-n-test.true _ _ c.in_err-another.ensures);
     }
 
 pub returns-then-not-branch : goal.returns-then-not-branch
@@ -32,7 +32,7 @@ returns-then-not-branch c =
     record {
       kept = c.loop-n.invariant.kept;
       reads =
-        listing_stop c.loop-n.invariant c.loop-n-test.true _ c.if-not-branch.true c.another.new.here c.in_ok-another.ensures.0;
+          listing_stop c.loop-n.invariant c.loop-n-test.true _ c.if-not-branch.true c.another.new.here c.in_ok-another.ensures.0;
     }
 
 pub returns-in_err-term-2 : goal.returns-in_err-term-2
@@ -40,9 +40,9 @@ returns-in_err-term-2 c =
     record {
       kept = c.loop-n.invariant.kept;
       reads =
-        rw (passed_on _ c.from_residual-in_err-term-2.ensures.1)
-        (listing_none c.loop-n.invariant c.loop-n-test.true _ c.if-not-branch.false c.another.new.here c.in_ok-another.ensures.0
-        _ _ c.in_err-term-2.ensures);
+          rw (passed_on _ c.from_residual-in_err-term-2.ensures.1)
+          (listing_none c.loop-n.invariant c.loop-n-test.true _ c.if-not-branch.false c.another.new.here c.in_ok-another.ensures.0
+          _ _ c.in_err-term-2.ensures);
     }
 
 pub loop-n-preserved : goal.loop-n-preserved
@@ -55,5 +55,5 @@ returns c =
     record {
       kept = c.loop-n.invariant.kept;
       reads =
-        listing_all c.loop-n.invariant (omega (arith, c.loop-n-test.false));
+          listing_all c.loop-n.invariant (omega (arith, c.loop-n-test.false));
     }
