@@ -19,7 +19,6 @@ use Rattle.model.specs.Answer.{passed, refused}
 use Rattle.model.specs.TptpReading.{Got, blanks, literal, token, onwards, ◌>>=◌, behind_blanks, begins_with, begins_tuple, begins_excluding}
 use Rattle.model.specs.declared.Refusal.{Refusal}
 use Rattle.model.specs.declared.Refusal.TheVariants.{Tptp}
-use Rattle.model.specs.declared.Refused.{Refused}
 use Rattle.laws.specs.Words.Tests.{decide}
 use Rattle.laws.specs.Answer.{refused-passed, passed-same}
 use Rattle.text.specs.declared.cursor.Cursor.{Cursor}
@@ -133,14 +132,14 @@ module _ (c : ℕ) where
     some new r = ⊎_elim (λ y. y) (λ n. refused-passed (sym (one_no n) ∙ r.reads)) (decide (begins c old.rest.now))
 
     pub ahead :
-        (new : Cursor) (r : Result (Unit {0}) Refused) → Steps (token (c ∷ [])) old new r → is_ok r ≡ begins c old.rest.now
+        (new : Cursor) (r : Result (Unit {0}) Refusal) → Steps (token (c ∷ [])) old new r → is_ok r ≡ begins c old.rest.now
     ahead new (Ok u) s = sym (some new s)
     ahead new (Err e) s = sym (none s)
 
     -- and what stands behind it
     module _ (test : Text → Bool) where
       pub ahead_then :
-          (new : Cursor) (r : Result (Unit {0}) Refused) → Steps (token (c ∷ [])) old new r → true ≡ is_ok r →
+          (new : Cursor) (r : Result (Unit {0}) Refusal) → Steps (token (c ∷ [])) old new r → true ≡ is_ok r →
           test new.rest.now ≡ (begins c old.rest.now && test (drop 1 (behind_blanks old.rest.now)))
       unfolding one
       ahead_then new (Ok u) s e =
@@ -149,7 +148,7 @@ module _ (c : ℕ) where
       ahead_then new (Err r) s e = cc
 
       pub ahead_else :
-          (b : Bool) (new : Cursor) (r : Result (Unit {0}) Refused) → Steps (token (c ∷ [])) old new r → b ≡ is_ok r → b ≡ false →
+          (b : Bool) (new : Cursor) (r : Result (Unit {0}) Refusal) → Steps (token (c ∷ [])) old new r → b ≡ is_ok r → b ≡ false →
           b ≡ (begins c old.rest.now && test (drop 1 (behind_blanks old.rest.now)))
       ahead_else b new r s is e = rw (sym (ahead new r s) ∙ sym is ∙ e, e)
 

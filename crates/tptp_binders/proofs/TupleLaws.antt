@@ -19,7 +19,6 @@ use Rattle.model.specs.Answer.{Outcome, passed, refused}
 use Rattle.model.specs.Tptp.{excludes, good_tuple}
 use Rattle.model.specs.TptpReading.{Got, Reader, give, onwards, token, opening, unequal, read_unequals, read_tuple, ◌>>=◌}
 use Rattle.model.specs.declared.Refusal.{Refusal}
-use Rattle.model.specs.declared.Refused.{Refused}
 use Rattle.laws.specs.Words.Tests.{decide}
 use Rattle.laws.specs.Tptp.Sound.Lists.{tuple-reads}
 use Rattle.laws.specs.Tptp.Sound.Policies.{item_sound}
@@ -149,7 +148,7 @@ module _ (x v w : ℕ) (out out₁ out' : Words) (h : 1 ≤ v) (old mid new : Cu
       ∙ ap (λ (y : ℕ). attach (f.what ∷ []) (from (further_unequals (v - 1) y) mid)) (sym (add-one x))
 
   pub unequals-read :
-      (r : Result (Unit {0}) Refused) → Valued (further_unequals (v - 1) (x + 1)) (StoredAll (v - 1) (w + 1) out₁ out') mid new r →
+      (r : Result (Unit {0}) Refusal) → Valued (further_unequals (v - 1) (x + 1)) (StoredAll (v - 1) (w + 1) out₁ out') mid new r →
       Valued (read_unequals (v - 1) x) (StoredAll v w out out') old new r
   unfolding attach
   unequals-read (Ok u) g = record {
@@ -178,7 +177,7 @@ module _ (room v : ℕ) (old : Cursor) where
   unfolding tuple_closing give
   closing_one e = record { moved = still old; reads = rw (eq-eqb v 1 e) }
 
-  module _ (n : v ≡ 1 → ⊥) (new : Cursor) (r : Result (Unit {0}) Refused) where
+  module _ (n : v ≡ 1 → ⊥) (new : Cursor) (r : Result (Unit {0}) Refusal) where
     pub opening_more : Steps (opening room) old new r → Steps (tuple_opening room v) old new r
     unfolding tuple_opening
     opening_more = steps_from old old new (still old) (tuple_opening room v) (opening room) (rw (ne_eqb v 1 n)) r

@@ -9,7 +9,7 @@ use Rattle.model.specs.TptpReading.{Reader, give, token, opening, more, read_une
 use Rattle.text.specs.declared.cursor.Cursor.{Cursor}
 use Rattle.tptp_tokens.specs.Steps.{from, Value}
 use Rattle.tptp_tokens.specs.Laying.{most_words}
-use Rattle.model.specs.declared.Refused.{Refused}
+use Rattle.model.specs.declared.Refusal.{Refusal}
 
 -- numbers, so many, are the words from an index on, as far as there are words
 pub record StoredAll (n w : ℕ) (out out' : Words) (ks : List ℤ) : Type 0 where
@@ -36,6 +36,6 @@ pub record StoredTuples (v w count : ℕ) (out out' : Words) (ts : List (List �
   pub size : length (gather (λ tuple. tuple) ts) ≡ v * count
   pub laid : w + v * count ≤ most_words → out' ≡ sets out w (gather (λ tuple. tuple) ts)
 
-abbrev pub TuplesRead : (room v x w : ℕ) (out out' : Words) (old new : Cursor) (count : Result ℕ Refused) → Type 0
+abbrev pub TuplesRead : (room v x w : ℕ) (out out' : Words) (old new : Cursor) (count : Result ℕ Refusal) → Type 0
 TuplesRead room v x w out out' old new (Ok n) = Value (more ampersand (read_tuple room v x)) (StoredTuples v w n out out') old new
-TuplesRead room v x w out out' old new (Err e) = from (more ampersand (read_tuple room v x)) old ≡ refused e.0 e.1
+TuplesRead room v x w out out' old new (Err e) = from (more ampersand (read_tuple room v x)) old ≡ refused e new.at

@@ -5,7 +5,7 @@ ghost use Rattle.model.specs.TptpReading as R;
 ghost use Rattle.tptp_tokens.specs.Steps.{Steps};
 ghost use Rattle.tptp_binders.specs.Binder as B;
 
-use model::Refused;
+use model::Refusal;
 use text::bytes;
 use text::cursor::Cursor;
 use text::writing::put_natural;
@@ -13,7 +13,7 @@ use tptp_tokens::several::another;
 use tptp_tokens::tokens::{expect, token};
 
 // The token of a variable, whose letter stands in front of a small room for it.
-fn named(here: &mut Cursor<'_>, word: &mut [u8], x: usize) -> Result<(), Refused>
+fn named(here: &mut Cursor<'_>, word: &mut [u8], x: usize) -> Result<(), Refusal>
     requires { (length word.old ≡ 11) × (take 1 word.old ≡ 88 ∷ []) }
     ensures { Steps (R.token (variable_token x)) here.old here.new result }
 {
@@ -25,7 +25,7 @@ fn named(here: &mut Cursor<'_>, word: &mut [u8], x: usize) -> Result<(), Refused
 }
 
 // The token of a variable.
-pub fn variable(here: &mut Cursor<'_>, x: usize) -> Result<(), Refused>
+pub fn variable(here: &mut Cursor<'_>, x: usize) -> Result<(), Refusal>
     ensures { Steps (R.token (variable_token x)) here.old here.new result }
 {
     let mut word = [88; 11];
@@ -33,7 +33,7 @@ pub fn variable(here: &mut Cursor<'_>, x: usize) -> Result<(), Refused>
 }
 
 // A variable and its type.
-fn declared(here: &mut Cursor<'_>, x: usize) -> Result<(), Refused>
+fn declared(here: &mut Cursor<'_>, x: usize) -> Result<(), Refusal>
     ensures { Steps (R.declaration x) here.old here.new result }
 {
     variable(here, x)?;
@@ -42,7 +42,7 @@ fn declared(here: &mut Cursor<'_>, x: usize) -> Result<(), Refused>
 }
 
 // The variables of a binder from x on, at most so many and one: how many.
-fn variables(here: &mut Cursor<'_>, x: usize, most: usize) -> Result<usize, Refused>
+fn variables(here: &mut Cursor<'_>, x: usize, most: usize) -> Result<usize, Refusal>
     requires { x + most < 2 ^ 32 }
     ensures { B.VariablesRead most x here.old here.new result }
 {
@@ -57,7 +57,7 @@ fn variables(here: &mut Cursor<'_>, x: usize, most: usize) -> Result<usize, Refu
 }
 
 // A binder from x on, of at most so many variables and one: how many.
-pub fn binder(here: &mut Cursor<'_>, x: usize, most: usize) -> Result<usize, Refused>
+pub fn binder(here: &mut Cursor<'_>, x: usize, most: usize) -> Result<usize, Refusal>
     requires { x + most < 2 ^ 32 }
     ensures { B.BinderRead most x here.old here.new result }
 {

@@ -6,14 +6,14 @@ ghost use Rattle.tptp_tokens.specs.Laying as L;
 ghost use Rattle.tptp_binders.specs.Tuples as T;
 
 use crate::binder::variable;
-use model::Refused;
+use model::Refusal;
 use text::cursor::Cursor;
 use tptp_tokens::laying::{MOST, lay_integer, more_words};
 use tptp_tokens::several::another;
 use tptp_tokens::tokens::{expect, opening, token};
 
 // A variable and the number that it is unequal to, which becomes the word at an index.
-fn unequal(here: &mut Cursor<'_>, x: usize, out: &mut [i32], w: usize) -> Result<(), Refused>
+fn unequal(here: &mut Cursor<'_>, x: usize, out: &mut [i32], w: usize) -> Result<(), Refusal>
     ensures { Valued (R.unequal x) (L.Stored w out.old out.new) here.old here.new result }
 {
     variable(here, x)?;
@@ -28,7 +28,7 @@ fn further(
     n: usize,
     out: &mut [i32],
     w: usize,
-) -> Result<(), Refused>
+) -> Result<(), Refusal>
     requires { (x + n < 2 ^ 32) × (w + n < 2 ^ 32) }
     ensures { Valued (T.further_unequals n x) (T.StoredAll n w out.old out.new) here.old here.new result }
 {
@@ -46,7 +46,7 @@ fn unequals(
     v: usize,
     out: &mut [i32],
     w: usize,
-) -> Result<(), Refused>
+) -> Result<(), Refusal>
     requires { (1 ≤ v) × (x + v < 2 ^ 32) × (w + v < 2 ^ 32) }
     ensures { Valued (R.read_unequals (v - 1) x) (T.StoredAll v w out.old out.new) here.old here.new result }
 {
@@ -55,7 +55,7 @@ fn unequals(
 }
 
 // A tuple of v variables begins here: those of more than one stand in parentheses.
-fn opened(here: &mut Cursor<'_>, room: usize, v: usize) -> Result<(), Refused>
+fn opened(here: &mut Cursor<'_>, room: usize, v: usize) -> Result<(), Refusal>
     ensures { Steps (T.tuple_opening room v) here.old here.new result }
 {
     if v == 1 {
@@ -65,7 +65,7 @@ fn opened(here: &mut Cursor<'_>, room: usize, v: usize) -> Result<(), Refused>
 }
 
 // A tuple of v variables ends.
-fn closed(here: &mut Cursor<'_>, v: usize) -> Result<(), Refused>
+fn closed(here: &mut Cursor<'_>, v: usize) -> Result<(), Refusal>
     ensures { Steps (T.tuple_closing v) here.old here.new result }
 {
     if v == 1 {
@@ -82,7 +82,7 @@ fn tuple(
     x: usize,
     out: &mut [i32],
     w: usize,
-) -> Result<(), Refused>
+) -> Result<(), Refusal>
     requires { (1 ≤ v) × (x + v < 2 ^ 32) × (w + v < 2 ^ 32) }
     ensures { Valued (R.read_tuple room v x) (T.StoredAll v w out.old out.new) here.old here.new result }
 {
@@ -99,7 +99,7 @@ pub fn tuples(
     x: usize,
     out: &mut [i32],
     w: usize,
-) -> Result<usize, Refused>
+) -> Result<usize, Refusal>
     requires { (1 ≤ length here.old.rest.now) × (1 ≤ v) × (v ≤ 4) × (x + v < 2 ^ 32) × (w ≤ L.most_words) }
     ensures { T.TuplesRead room v x w out.old out.new here.old here.new result }
 {

@@ -18,7 +18,7 @@ use Rattle.model.specs.Tree.{Term, constant, variable, Tree, plain, atom, compar
 use Rattle.model.specs.TptpReading.{stop, blanks, onwards, peek, literal, token, ◌>>=◌}
 use Rattle.model.specs.TptpReading.{read_atom, read_compare, read_dollar, read_negated}
 use Rattle.model.specs.declared.Refusal.TheVariants.{Tptp}
-use Rattle.model.specs.declared.Refused.{Refused}
+use Rattle.model.specs.declared.Refusal.{Refusal}
 use Rattle.laws.specs.Putting.Modes.{terms-length}
 use Rattle.tptp_tokens.specs.Steps.{from, got, Skips, Valued}
 use Rattle.tptp_leaves.specs.declared.own.Own.{Own}
@@ -135,7 +135,7 @@ module _ (here : Cursor) (room : ℕ) where
       go None e = rw (peek_over e) (sym (less_over e))
       go (Some b) e = rw (peeked b e, ne_eqb b 116 (other here.rest.now b 116 e n), ne_eqb b 102 (other here.rest.now b 102 e m))
 
-  module _ (facts : Tree → Type 0) (end : Cursor) (r : Result (Unit {0}) Refused) where
+  module _ (facts : Tree → Type 0) (end : Cursor) (r : Result (Unit {0}) Refusal) where
     pub dollar-true :
         slice_get here.rest.now 0 ≡ Some 116 → Valued (read_plain (bytes "true") true) facts here end r →
         Valued (behind_dollar room) facts here end r
@@ -170,7 +170,7 @@ module _ (old mid : Cursor) (s : Skips old mid) (room : ℕ) where
       go (Some b) e = rw (look-here old mid s b e, ne_eqb b 112 (other mid.rest.now b 112 e n))
 
   pub negation-atom :
-      (facts : Tree → Type 0) (end : Cursor) (r : Result (Unit {0}) Refused) → slice_get mid.rest.now 0 ≡ Some 112 →
+      (facts : Tree → Type 0) (end : Cursor) (r : Result (Unit {0}) Refusal) → slice_get mid.rest.now 0 ≡ Some 112 →
       Valued (read_atom room false) facts mid end r → Valued (behind_negation room) facts old end r
   unfolding ◌>>=◌ onwards
   negation-atom facts end r e =
@@ -202,7 +202,7 @@ module _ (here : Cursor) (room : ℕ) (u : Unblank here.rest.now) where
             ne_eqb b 126 (other here.rest.now b 126 e n),
           )
 
-  module _ (facts : Tree → Type 0) (end : Cursor) (r : Result (Unit {0}) Refused) where
+  module _ (facts : Tree → Type 0) (end : Cursor) (r : Result (Unit {0}) Refusal) where
     pub leaf-atom :
         slice_get here.rest.now 0 ≡ Some 112 → Valued (read_atom room true) facts here end r → Valued (read_leaf room) facts here end r
     unfolding ◌>>=◌ onwards

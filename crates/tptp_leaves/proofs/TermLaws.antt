@@ -18,7 +18,6 @@ use Rattle.model.specs.Tree.{Term, encode_term}
 use Rattle.model.specs.TptpReading.{Reader, look, blanks, peek, onwards, ◌>>=◌, integer, term, terms, up_to}
 use Rattle.model.specs.declared.Refusal.{Refusal}
 use Rattle.model.specs.declared.Refusal.TheVariants.{Tptp}
-use Rattle.model.specs.declared.Refused.{Refused}
 use Rattle.text.specs.declared.cursor.Cursor.{Cursor}
 use Rattle.tptp_tokens.specs.Steps.{from, got, Moved, Reads, Skips, Value}
 use Rattle.tptp_tokens.specs.Several.{another}
@@ -59,7 +58,7 @@ module _ (own own' : Own) (k : ℕ) (w : TermWords) (fits : k + 2 ≤ 15) (t : T
 -- a term read from a later place on by another reader
 term_from :
     (old mid new : Cursor) → Moved old mid → (whole reader : Reader Term) → from whole old ≡ from reader mid →
-    (r : Result TermWords Refused) → TermRead reader mid new r → TermRead whole old new r
+    (r : Result TermWords Refusal) → TermRead reader mid new r → TermRead whole old new r
 term_from old mid new m whole reader e (Ok w) v = record {
   what = v.what;
   reads = record { moved = further old mid new m v.reads.moved; reads = e ∙ v.reads.reads };
@@ -81,7 +80,7 @@ module _ (old mid : Cursor) (s : Skips old mid) where
       go None e = rw (look-over old mid s e) (sym (constant_over e))
       go (Some b) e = rw (look-here old mid s b e, ne_eqb b 88 (λ z. n (e ∙ ap (λ (c : ℕ). Some c) z)))
 
-  module _ (end : Cursor) (r : Result TermWords Refused) where
+  module _ (end : Cursor) (r : Result TermWords Refusal) where
     pub term-variable :
         slice_get mid.rest.now 0 ≡ Some 88 → (new : Cursor) → new.rest.now ≡ drop 1 mid.rest.now → new.at ≡ mid.at + 1 →
         TermRead read_variable new end r → TermRead term old end r

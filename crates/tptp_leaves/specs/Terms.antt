@@ -5,15 +5,15 @@ use Rattle.model.specs.Lists.{gather}
 use Rattle.model.specs.Answer.{refused}
 use Rattle.model.specs.Tree.{Term, constant, variable, encode_term}
 use Rattle.model.specs.TptpReading.{Reader, give, integer, natural, ◌>>=◌}
-use Rattle.model.specs.declared.Refused.{Refused}
+use Rattle.model.specs.declared.Refusal.{Refusal}
 use Rattle.text.specs.declared.cursor.Cursor.{Cursor}
 use Rattle.tptp_tokens.specs.Steps.{from, Value}
 use Rattle.tptp_leaves.specs.declared.terms.TermWords.{TermWords}
 
 -- a reader comes to a term with these words, or to a refusal
-abbrev pub TermRead : (reader : Reader Term) (old new : Cursor) (r : Result TermWords Refused) → Type 0
+abbrev pub TermRead : (reader : Reader Term) (old new : Cursor) (r : Result TermWords Refusal) → Type 0
 TermRead reader old new (Ok w) = Value reader (λ t. encode_term t ≡ w.kind ∷ w.number ∷ []) old new
-TermRead reader old new (Err e) = from reader old ≡ refused e.0 e.1
+TermRead reader old new (Err e) = from reader old ≡ refused e new.at
 
 -- behind the letter of a variable; a constant
 abbrev pub read_variable : Reader Term

@@ -8,7 +8,7 @@ ghost use Rattle.tptp_tokens.specs.Steps.{Valued};
 
 use crate::own::Own;
 use crate::terms::{term, terms};
-use model::{Refusal, Refused};
+use model::Refusal;
 use text::bytes;
 use text::cursor::Cursor;
 use tptp_tokens::numbers::{integer, natural};
@@ -23,7 +23,7 @@ pub fn either(b: bool, x: usize, y: usize) -> usize
 }
 
 // An atom that holds, or fails.
-fn atom(here: &mut Cursor<'_>, room: usize, holds: bool, own: &mut Own<'_>) -> Result<(), Refused>
+fn atom(here: &mut Cursor<'_>, room: usize, holds: bool, own: &mut Own<'_>) -> Result<(), Refusal>
     ensures kept { Kept own.old own.new }
     ensures reads { Valued (R.read_atom room holds) (L.LeafStands own.new.words.now) here.old here.new result }
 {
@@ -42,7 +42,7 @@ fn compare(
     room: usize,
     holds: bool,
     own: &mut Own<'_>,
-) -> Result<(), Refused>
+) -> Result<(), Refusal>
     ensures kept { Kept own.old own.new }
     ensures reads { Valued (R.read_compare room holds) (L.LeafStands own.new.words.now) here.old here.new result }
 {
@@ -60,7 +60,7 @@ fn compare(
 }
 
 // Plain true or false, whose bytes stand here.
-fn plain(here: &mut Cursor<'_>, value: bool, word: &[u8], own: &mut Own<'_>) -> Result<(), Refused>
+fn plain(here: &mut Cursor<'_>, value: bool, word: &[u8], own: &mut Own<'_>) -> Result<(), Refusal>
     requires { 1 ≤ length word.now }
     ensures kept { Kept own.old own.new }
     ensures reads { Valued (L.read_plain word.now value) (L.LeafStands own.new.words.now) here.old here.new result }
@@ -70,7 +70,7 @@ fn plain(here: &mut Cursor<'_>, value: bool, word: &[u8], own: &mut Own<'_>) -> 
 }
 
 // Behind a dollar: plain true or false, or a comparison.
-fn dollar(here: &mut Cursor<'_>, room: usize, own: &mut Own<'_>) -> Result<(), Refused>
+fn dollar(here: &mut Cursor<'_>, room: usize, own: &mut Own<'_>) -> Result<(), Refusal>
     ensures kept { Kept own.old own.new }
     ensures reads { Valued (L.behind_dollar room) (L.LeafStands own.new.words.now) here.old here.new result }
 {
@@ -85,7 +85,7 @@ fn dollar(here: &mut Cursor<'_>, room: usize, own: &mut Own<'_>) -> Result<(), R
 }
 
 // Behind a negation: an atom or a comparison.
-fn negated(here: &mut Cursor<'_>, room: usize, own: &mut Own<'_>) -> Result<(), Refused>
+fn negated(here: &mut Cursor<'_>, room: usize, own: &mut Own<'_>) -> Result<(), Refusal>
     ensures kept { Kept own.old own.new }
     ensures reads { Valued (L.behind_negation room) (L.LeafStands own.new.words.now) here.old here.new result }
 {
@@ -98,7 +98,7 @@ fn negated(here: &mut Cursor<'_>, room: usize, own: &mut Own<'_>) -> Result<(), 
 }
 
 // A node with none below it, whose first byte stands here.
-pub fn leaf(here: &mut Cursor<'_>, room: usize, own: &mut Own<'_>) -> Result<(), Refused>
+pub fn leaf(here: &mut Cursor<'_>, room: usize, own: &mut Own<'_>) -> Result<(), Refusal>
     requires { L.Unblank here.old.rest.now }
     ensures kept { Kept own.old own.new }
     ensures reads { Valued (L.read_leaf room) (L.LeafStands own.new.words.now) here.old here.new result }
@@ -113,6 +113,6 @@ pub fn leaf(here: &mut Cursor<'_>, room: usize, own: &mut Own<'_>) -> Result<(),
             here.pass(1);
             negated(here, room, own)
         }
-        _ => Err(Refused(Refusal::Tptp, here.at)),
+        _ => Err(Refusal::Tptp),
     }
 }

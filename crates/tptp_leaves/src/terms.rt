@@ -5,7 +5,7 @@ ghost use Rattle.tptp_leaves.specs.Room.{Kept};
 ghost use Rattle.tptp_leaves.specs.Terms as T;
 
 use crate::own::Own;
-use model::Refused;
+use model::Refusal;
 use text::bytes;
 use text::cursor::Cursor;
 use tptp_tokens::numbers::{integer, natural};
@@ -20,7 +20,7 @@ pub struct TermWords {
 }
 
 // A variable, whose letter was passed.
-fn variable(here: &mut Cursor<'_>) -> Result<TermWords, Refused>
+fn variable(here: &mut Cursor<'_>) -> Result<TermWords, Refusal>
     ensures { T.TermRead T.read_variable here.old here.new result }
 {
     let number = natural(here)?;
@@ -31,7 +31,7 @@ fn variable(here: &mut Cursor<'_>) -> Result<TermWords, Refused>
 }
 
 // A constant.
-fn constant(here: &mut Cursor<'_>) -> Result<TermWords, Refused>
+fn constant(here: &mut Cursor<'_>) -> Result<TermWords, Refusal>
     ensures { T.TermRead T.read_constant here.old here.new result }
 {
     let number = integer(here)?;
@@ -39,7 +39,7 @@ fn constant(here: &mut Cursor<'_>) -> Result<TermWords, Refused>
 }
 
 // A term, behind blanks.
-pub fn term(here: &mut Cursor<'_>) -> Result<TermWords, Refused>
+pub fn term(here: &mut Cursor<'_>) -> Result<TermWords, Refusal>
     ensures { T.TermRead R.term here.old here.new result }
 {
     skip(here);
@@ -51,7 +51,7 @@ pub fn term(here: &mut Cursor<'_>) -> Result<TermWords, Refused>
 }
 
 // One to six terms with commas between them. Their number and their words go behind the first two words.
-pub fn terms(here: &mut Cursor<'_>, own: &mut Own<'_>) -> Result<(), Refused>
+pub fn terms(here: &mut Cursor<'_>, own: &mut Own<'_>) -> Result<(), Refusal>
     ensures kept { Kept own.old own.new }
     ensures reads { Valued R.terms (T.TermsStand own.old.words.now own.new.words.now) here.old here.new result }
 {

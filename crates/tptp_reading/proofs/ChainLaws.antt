@@ -23,7 +23,6 @@ use Rattle.model.specs.Tptp.{Stand, predicate_token, parenthesized, negation, is
 use Rattle.model.specs.TptpReading as R
 use Rattle.model.specs.TptpReading.{Got, Reader, give, onwards, ◌>>=◌, blanks, peek, literal, look, token, more, trees, joining}
 use Rattle.model.specs.TptpReading.{readers, begins_with, behind_blanks}
-use Rattle.model.specs.declared.Refused.{Refused}
 use Rattle.model.specs.declared.Refusal.{Refusal}
 use Rattle.model.specs.declared.Refusal.TheVariants.{Level, Variable, Tptp}
 use Rattle.laws.specs.Answer.{ask-passed, then_passed}
@@ -363,7 +362,7 @@ module _
 
           -- they were read, and behind them the closing parenthesis was read or refused
           pub chain-read :
-              (rest : State) (next end : Cursor) (count : ℕ) (out₁ out₂ out₃ : Words) (tag : ℕ) (close : Result (Unit {0}) Refused) →
+              (rest : State) (next end : Cursor) (count : ℕ) (out₁ out₂ out₃ : Words) (tag : ℕ) (close : Result (Unit {0}) Refusal) →
               Entered 2 (ltb above 64) true before.set before handed →
               Value (more c lower-each) (Further table every low (above + 1) scope before.set first rest out out₁ count) mid next →
               tag ≡ cond every 6 7 →
@@ -404,7 +403,7 @@ module _
 
     -- a connective stands ahead
     pub whole-chain :
-        (facts : Tree → Type 0) (end : Cursor) (r : Result (Unit {0}) Refused) → (every || any) ≡ true →
+        (facts : Tree → Type 0) (end : Cursor) (r : Result (Unit {0}) Refusal) → (every || any) ≡ true →
         Valued (chained single) facts here end r →
         Valued (closed single) facts here end r
     whole-chain facts end r both =
@@ -433,7 +432,7 @@ module _
 
         -- another operand, and the closing parenthesis
         pub whole-alone :
-            parenthesis ≡ false → (end : Cursor) (close : Result (Unit {0}) Refused) → Steps (token (41 ∷ [])) behind end close →
+            parenthesis ≡ false → (end : Cursor) (close : Result (Unit {0}) Refusal) → Steps (token (41 ∷ [])) behind end close →
             Valued (closed single) facts here end close
         unfolding bytes
         whole-alone e end close closes =

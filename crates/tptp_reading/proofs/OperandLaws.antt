@@ -17,7 +17,6 @@ use Rattle.model.specs.Tptp.{good_tree}
 use Rattle.model.specs.TptpReading as R
 use Rattle.model.specs.TptpReading.{Reader, stop, look, opening, readers, read_dollar, read_atom, read_negated, read_join, read_quantifier}
 use Rattle.model.specs.TptpReading.{read_some, read_operand}
-use Rattle.model.specs.declared.Refused.{Refused}
 use Rattle.model.specs.declared.Refusal.{Refusal}
 use Rattle.model.specs.declared.Refusal.TheVariants.{Tptp}
 use Rattle.laws.specs.Words.Tests.{clash}
@@ -76,7 +75,7 @@ module _ (room : ℕ) (formula : Bool) (scope : ℕ) where
       operand-join e = operand-chosen ∙ ap (λ (b : ℕ). from (chosen b) mid) e
 
       pub operand-some :
-          b ≡ interrogation → formula ≡ false → (facts : Tree → Type 0) (new : Cursor) (r : Result (Unit {0}) Refused) →
+          b ≡ interrogation → formula ≡ false → (facts : Tree → Type 0) (new : Cursor) (r : Result (Unit {0}) Refusal) →
           Valued (read_some room (beneath room) scope) facts mid new r →
           Valued operand facts old new r
       operand-some e f facts new =
@@ -87,7 +86,7 @@ module _ (room : ℕ) (formula : Bool) (scope : ℕ) where
 
       pub operand-quantifier :
           (every : Bool) → b ≡ cond every exclamation interrogation → formula ≡ true → (facts : Tree → Type 0) (new : Cursor)
-          (r : Result (Unit {0}) Refused) →
+          (r : Result (Unit {0}) Refusal) →
           Valued (read_quantifier room (beneath room) every scope) facts mid new r →
           Valued operand facts old new r
       operand-quantifier every e f facts new =
@@ -110,7 +109,7 @@ module _ (room : ℕ) (formula : Bool) (scope : ℕ) where
 
         pub operand-chain :
             (inside : Cursor) → Reads (opening room) mid tt inside → (lower : ℕ) → lower ≡ room - 1 → (facts : Tree → Type 0) (new : Cursor)
-            (r : Result (Unit {0}) Refused) →
+            (r : Result (Unit {0}) Refusal) →
             Valued (chained ((readers lower).operand formula scope)) facts inside new r →
             Valued operand facts old new r
         unfolding read_join
@@ -124,7 +123,7 @@ module _ (room : ℕ) (formula : Bool) (scope : ℕ) where
 
   -- an operand behind blanks
   pub operand_skip :
-      (old mid : Cursor) → Skips old mid → (facts : Tree → Type 0) (new : Cursor) (r : Result (Unit {0}) Refused) →
+      (old mid : Cursor) → Skips old mid → (facts : Tree → Type 0) (new : Cursor) (r : Result (Unit {0}) Refusal) →
       Valued operand facts mid new r →
       Valued operand facts old new r
   operand_skip old mid s facts new =

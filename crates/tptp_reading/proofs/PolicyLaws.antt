@@ -1,5 +1,5 @@
 -- Laws for the reading of a whole text: what stands before its formula, and what behind it.
-use Prim.Native.Nat.{ℕ}
+use Prim.Native.Nat.{ℕ, ◌+◌}
 use native.Mathlib.Omega.{arith}
 use mathlib.Core.Path.{◌≡◌, refl, sym, ap, ◌∙◌, subst}
 use mathlib.Core.Bool.{true, false}
@@ -65,17 +65,9 @@ blanks_end t p g e = behind (blanks t p) e
     behind (refused r q) k = refused-passed k
     behind (passed h) k = end h.rest h.at k
 
--- what a place at the beginning comes to
-pub policy-from :
-    (room : ℕ) (text : Text) (here : Cursor) → here.rest.now ≡ text → here.at ≡ 0 → {o : Outcome (Got Tree)} →
-    from (read_whole room) here ≡ o →
-    read_whole room text 0 ≡ o
-policy-from room text here begin zero e =
-    ap (λ (t : Text). read_whole room t 0) (sym begin) ∙ ap (λ (p : ℕ). read_whole room here.rest.now p) (sym zero) ∙ e
-
 -- what stands before the formula of a text, and behind it
 module _
-    (text : Text) (room : ℕ) {here n₁ n₂ n₃ n₄ n₅ at : Cursor} (begin : here.rest.now ≡ text) (zero : here.at ≡ 0)
+    (room : ℕ) {here n₁ n₂ n₃ n₄ n₅ at : Cursor}
     (s₁ : Reads (token (116 ∷ 102 ∷ 102 ∷ [])) here tt n₁)
     (s₂ : Reads (token (40 ∷ [])) n₁ tt n₂)
     (s₃ : Reads name n₂ tt n₃)
@@ -89,49 +81,46 @@ module _
     abbrev behind_dot : Tree → Reader Tree
     behind_dot t = blanks >>= λ _. ending >>= λ _. give t
 
-    header : read_whole room text 0 ≡ from (one >>= λ t. token (46 ∷ []) >>= λ _. behind_dot t) at
+    header : from (read_whole room) here ≡ from (one >>= λ t. token (46 ∷ []) >>= λ _. behind_dot t) at
     unfolding read_whole bytes
     header =
-        policy-from room text here begin zero
-        (onward (token (116 ∷ 102 ∷ 102 ∷ [])) _ here tt n₁ s₁.reads
+        onward (token (116 ∷ 102 ∷ 102 ∷ [])) _ here tt n₁ s₁.reads
         ∙ onward (token (40 ∷ [])) _ n₁ tt n₂ s₂.reads
         ∙ onward name _ n₂ tt n₃ s₃.reads
         ∙ onward (token (44 ∷ [])) _ n₃ tt n₄ s₄.reads
         ∙ onward (token (97 ∷ 120 ∷ 105 ∷ 111 ∷ 109 ∷ [])) _ n₄ tt n₅ s₅.reads
         ∙ onward (token (44 ∷ [])) _ n₅ tt at s₆.reads
-        ∙ closed_then (whole ((readers room).operand true 0)) (bytes ")") (λ t. token (46 ∷ []) >>= λ _. behind_dot t) at.rest.now at.at)
+        ∙ closed_then (whole ((readers room).operand true 0)) (bytes ")") (λ t. token (46 ∷ []) >>= λ _. behind_dot t) at.rest.now at.at
 
-    pub policy-refused : (q : Refusal) (p : ℕ) → from one at ≡ refused q p → read_whole room text 0 ≡ refused q p
+    pub policy-refused : (q : Refusal) (p : ℕ) → from one at ≡ refused q p → from (read_whole room) here ≡ refused q p
     policy-refused q p e = header ∙ halt one _ at q p e
 
     module _ {facts : Tree → Type 0} (end : Cursor) (tree : Value one facts at end) where
-      formula_read : read_whole room text 0 ≡ from (token (46 ∷ []) >>= λ _. behind_dot tree.what) end
+      formula_read : from (read_whole room) here ≡ from (token (46 ∷ []) >>= λ _. behind_dot tree.what) end
       formula_read = header ∙ onward one (λ t. token (46 ∷ []) >>= λ _. behind_dot t) at tree.what end tree.reads.reads
 
-      pub policy_undotted : (q : Refusal) (p : ℕ) → from (token (46 ∷ [])) end ≡ refused q p → read_whole room text 0 ≡ refused q p
+      pub policy_undotted : (q : Refusal) (p : ℕ) → from (token (46 ∷ [])) end ≡ refused q p → from (read_whole room) here ≡ refused q p
       policy_undotted q p e = formula_read ∙ halt (token (46 ∷ [])) _ end q p e
 
       module _ (dot : Cursor) (dots : Reads (token (46 ∷ [])) end tt dot) where
-        dotted : read_whole room text 0 ≡ from (blanks_ending >>= λ _. give tree.what) dot
+        dotted : from (read_whole room) here ≡ from (blanks_ending >>= λ _. give tree.what) dot
         dotted =
             formula_read
             ∙ onward (token (46 ∷ [])) (λ _. behind_dot tree.what) end tt dot dots.reads
             ∙ sym (grouped blanks (λ _. ending) (λ _. give tree.what) dot.rest.now dot.at)
 
-        pub policy_unended : (q : Refusal) (p : ℕ) → from blanks_ending dot ≡ refused q p → read_whole room text 0 ≡ refused q p
+        pub policy_unended : (q : Refusal) (p : ℕ) → from blanks_ending dot ≡ refused q p → from (read_whole room) here ≡ refused q p
         policy_unended q p e = dotted ∙ halt blanks_ending (λ _. give tree.what) dot q p e
 
         pub policy-read :
             (last : Cursor) → Reads blanks_ending dot tt last →
-            read_whole room text 0 ≡ passed (record { what = tree.what; rest = []; at = length text })
+            from (read_whole room) here ≡ passed (record { what = tree.what; rest = []; at = here.at + length here.rest.now })
         unfolding give
         policy-read last ended =
             let none = blanks_end dot.rest.now dot.at _ ended.reads in
-            let end-at : last.at ≡ length text =
+            let end-at : last.at ≡ here.at + length here.rest.now =
             omega (
               arith,
-              zero,
-              ap length begin,
               ap length none,
               s₁.moved.whole,
               s₂.moved.whole,
@@ -144,3 +133,15 @@ module _
               ended.moved.whole,
             ) in
             dotted ∙ onward blanks_ending (λ _. give tree.what) dot tt last ended.reads ∙ rw (none, end-at) refl
+
+-- from the first place of a text
+module _ (text : Text) (here : Cursor) (begin : here.rest.now ≡ text) (zero : here.at ≡ 0) where
+  pub policy-from : {o : Outcome (Got Tree)} → from (read_whole 255) here ≡ o → read_whole 255 text 0 ≡ o
+  policy-from e = ap (λ (t : Text). read_whole 255 t 0) (sym begin) ∙ ap (λ (p : ℕ). read_whole 255 here.rest.now p) (sym zero) ∙ e
+
+  pub policy-to :
+      (t : Tree) → from (read_whole 255) here ≡ passed (record { what = t; rest = []; at = here.at + length here.rest.now }) →
+      read_whole 255 text 0 ≡ passed (record { what = t; rest = []; at = length text })
+  policy-to t e =
+      let end : here.at + length here.rest.now ≡ length text = omega (arith, zero, ap length begin) in
+      policy-from e ∙ ap (λ (n : ℕ). passed (record { what = t; rest = []; at = n })) end

@@ -360,7 +360,7 @@ module _
                 -- the body, and the closing parenthesis
                 pub quantifier-read :
                     (role : Role) (above tag w₁ w₂ : ℕ) (s between r : State) (last out₁ out₂ out' : Words) (deep free : Bool)
-                    (marks : Marks) (last-end new : Cursor) (close : Result (Unit {0}) Refused) →
+                    (marks : Marks) (last-end new : Cursor) (close : Result (Unit {0}) Refusal) →
                     is_formula role ≡ true →
                     level ≡ above + cost role (M.Tag.quantifier b) →
                     deep ≡ leb level level_limit →

@@ -23,7 +23,6 @@ use Rattle.model.specs.TptpReading as R
 use Rattle.model.specs.TptpReading.{Got, Reader, Readers, Restricted, give, blanks, peek, look, onwards, literal, token, opening, more, joining}
 use Rattle.model.specs.TptpReading.{excluding, read_tuple, read_operand, read_restriction, readers, behind_blanks, begins_with, begins_excluding}
 use Rattle.model.specs.TptpReading.{◌>>=◌}
-use Rattle.model.specs.declared.Refused.{Refused}
 use Rattle.model.specs.declared.Refusal.{Refusal}
 use Rattle.model.specs.declared.Refusal.TheVariants.{Tptp}
 use Rattle.laws.specs.Words.Tests.{decide, clash, and_left}
@@ -467,7 +466,7 @@ module _ (here : Cursor) (v x room : ℕ) where
 
       -- with excluded tuples
       pub restricted-excluding :
-          (told : ℕ → Restricted → Type 0) (next : Cursor) (r : Result ℕ Refused) → Numbered (exclusion lower v x) told inside next r →
+          (told : ℕ → Restricted → Type 0) (next : Cursor) (r : Result ℕ Refusal) → Numbered (exclusion lower v x) told inside next r →
           Numbered restricts told here next r
       restricted-excluding told next (Ok n) value = record {
         what = value.what;

@@ -19,17 +19,17 @@ use Rattle.tptp_tokens.specs.Laying.{most_words}
 use Rattle.modes.specs.declared.marks.Marks.{Marks}
 use Rattle.tptp_state.specs.Told.{Passed, told, Ready, Told}
 use Rattle.tptp_state.specs.declared.state.State.{State}
-use Rattle.model.specs.declared.Refused.{Refused}
+use Rattle.model.specs.declared.Refusal.{Refusal}
 
 -- how many were read: none, if they were refused
-abbrev pub count_of : (listed : Result ℕ Refused) → ℕ
+abbrev pub count_of : (listed : Result ℕ Refusal) → ℕ
 count_of (Ok n) = n
 count_of (Err e) = 0
 
 -- a reader comes to something of which facts hold, together with a number; or to a refusal
-abbrev pub Numbered : {A : Type 0} (reader : Reader A) (facts : ℕ → A → Type 0) (old new : Cursor) (r : Result ℕ Refused) → Type 0
+abbrev pub Numbered : {A : Type 0} (reader : Reader A) (facts : ℕ → A → Type 0) (old new : Cursor) (r : Result ℕ Refusal) → Type 0
 Numbered reader facts old new (Ok n) = Value reader (facts n) old new
-Numbered reader facts old new (Err e) = from reader old ≡ refused e.0 e.1
+Numbered reader facts old new (Err e) = from reader old ≡ refused e new.at
 
 -- what can be read behind one parenthesis more
 unfoldable pub beneath : ℕ → Readers
@@ -45,14 +45,14 @@ pub record Begins (table : Words) (room above scope : ℕ) (s : State) : Type 0 
 -- a node was read, by a reader
 abbrev pub NodeRead :
     (reader : Reader Tree) (table : Words) (role : Role) (above scope : ℕ) (s s' : State) (out out' : Words) (old new : Cursor)
-    (r : Result (Unit {0}) Refused) → Type 0
+    (r : Result (Unit {0}) Refusal) → Type 0
 NodeRead reader table role above scope s s' out out' old new r =
     Valued reader (λ t. Told table t role above scope s s' out out') old new r
 
 -- an operand, with room for so many parentheses
 abbrev pub OperandRead :
     (room : ℕ) (table : Words) (role : Role) (above scope : ℕ) (s s' : State) (out out' : Words) (old new : Cursor)
-    (r : Result (Unit {0}) Refused) → Type 0
+    (r : Result (Unit {0}) Refusal) → Type 0
 OperandRead room table role above scope s s' out out' old new r =
     NodeRead ((readers room).operand (is_formula role) scope) table role above scope s s' out out' old new r
 
@@ -100,7 +100,7 @@ pub record Further (table : Words) (b : Bool) (role : Role) (above scope : ℕ) 
 
 abbrev pub ChildrenRead :
     (room : ℕ) (b : Bool) (table : Words) (role : Role) (above scope : ℕ) (start : Marks) (first last : State) (out out' : Words)
-    (old new : Cursor) (r : Result ℕ Refused) → Type 0
+    (old new : Cursor) (r : Result ℕ Refusal) → Type 0
 ChildrenRead room b table role above scope start first last out out' old new r =
     Numbered
     (more (cond b ampersand bar) ((readers room).operand (is_formula role) scope))
@@ -129,7 +129,7 @@ pub record RestrictedTold (table : Words) (level x v : ℕ) (s last : State) (ou
 
 abbrev pub RestrictionRead :
     (reader : Reader R.Restricted) (table : Words) (level x v : ℕ) (s last : State) (out out' : Words) (old new : Cursor)
-    (r : Result ℕ Refused) → Type 0
+    (r : Result ℕ Refusal) → Type 0
 RestrictionRead reader table level x v s last out out' old new r =
     Numbered reader (RestrictedTold table level x v s last out out') old new r
 

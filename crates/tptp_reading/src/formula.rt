@@ -14,7 +14,7 @@ ghost use Rattle.tptp_leaves.specs.Leaves.{Unblank};
 ghost use Rattle.tptp_state.specs.Told.{Ready};
 ghost use Rattle.tptp_reading.specs.Formula as F;
 
-use model::{Refusal, Refused};
+use model::Refusal;
 use modes::marks::Marks;
 use policies::node;
 use policies::node::{Role, Tag};
@@ -39,7 +39,7 @@ fn read_leaf(
     scope: usize,
     state: &mut State,
     out: &mut [i32],
-) -> Result<(), Refused>
+) -> Result<(), Refusal>
     requires { Ready above scope state.old
         × Unblank here.old.rest.now
         × F.LeafByte (is_formula (as_role role)) here.old.rest.now }
@@ -62,7 +62,7 @@ fn connective(every: bool) -> u8
 }
 
 // What stands between restriction and body. By an if, since the text says which.
-fn implies(here: &mut Cursor<'_>, every: bool) -> Result<(), Refused>
+fn implies(here: &mut Cursor<'_>, every: bool) -> Result<(), Refusal>
     ensures { Steps (R.token (cond every (bytes "=>") (bytes "&"))) here.old here.new result }
 {
     if every {
@@ -85,7 +85,7 @@ fn children(
     start: Marks,
     state: &mut State,
     out: &mut [i32],
-) -> Result<usize, Refused>
+) -> Result<usize, Refusal>
     requires { F.Begins table.now room above scope state.old × (1 ≤ length here.old.rest.now) }
     ensures { F.ChildrenRead room every table.now (as_role role) above scope start state.old state.new out.old out.new here.old here.new result }
 {
@@ -113,7 +113,7 @@ fn chain(
     scope: usize,
     state: &mut State,
     out: &mut [i32],
-) -> Result<(), Refused>
+) -> Result<(), Refusal>
     requires { F.Begins table.now room above scope state.old
         × (above + 1 + 2 * room ≤ 600)
         × StopsAt here.old stop.now }
@@ -128,7 +128,7 @@ fn chain(
     operand(table, here, room, below, above + 1, scope, state, out)?;
     skip(here);
     if (here.at != stop.at) | !(every | some) {
-        return Err(Refused(Refusal::Tptp, here.at));
+        return Err(Refusal::Tptp);
     }
     let count = children(
         table,
@@ -158,7 +158,7 @@ pub fn whole(
     scope: usize,
     state: &mut State,
     out: &mut [i32],
-) -> Result<(), Refused>
+) -> Result<(), Refusal>
     requires { F.Begins table.now room above scope state.old × (above + 1 + 2 * room ≤ 600) }
     ensures { F.NodeRead (F.closed ((R.readers room).operand (is_formula (as_role role)) scope)) table.now (as_role role) above scope state.old state.new out.old out.new here.old here.new result }
 {
@@ -172,7 +172,7 @@ pub fn whole(
     operand(table, here, room, role, above, scope, state, out)?;
     if parenthesis {
         skip(here);
-        return Err(Refused(Refusal::Tptp, here.at));
+        return Err(Refusal::Tptp);
     }
     expect(here, 41)
 }
@@ -187,7 +187,7 @@ fn some(
     scope: usize,
     state: &mut State,
     out: &mut [i32],
-) -> Result<(), Refused>
+) -> Result<(), Refusal>
     requires { F.Begins table.now room above scope state.old × (slice_get here.old.rest.now 0 ≡ Some interrogation) }
     ensures { F.NodeRead (R.read_some room (F.beneath room) scope) table.now restriction above scope state.old state.new out.old out.new here.old here.new result }
 {
@@ -218,7 +218,7 @@ fn some(
 }
 
 // How many were read: none, if they were refused.
-fn count_of(listed: Result<usize, Refused>) -> usize
+fn count_of(listed: Result<usize, Refusal>) -> usize
     ensures { result ≡ F.count_of listed }
 {
     listed.unwrap_or(0)
@@ -238,7 +238,7 @@ fn excluding<'a>(
     v: usize,
     state: &mut State,
     out: &mut [i32],
-) -> Result<usize, Refused>
+) -> Result<usize, Refusal>
     requires { F.Begins table.now room level (x + v) state.old
         × (1 ≤ v) × (v ≤ 4)
         × StopsAt here.old stop.now
@@ -261,10 +261,10 @@ fn excluding<'a>(
     )?;
     skip(here);
     if here.at != stop.at {
-        return Err(Refused(Refusal::Tptp, here.at));
+        return Err(Refusal::Tptp);
     }
-    let count = listed?;
     *here = behind;
+    let count = listed?;
     expect(here, 41)?;
     Ok(count)
 }
@@ -280,7 +280,7 @@ fn restricted(
     v: usize,
     state: &mut State,
     out: &mut [i32],
-) -> Result<usize, Refused>
+) -> Result<usize, Refusal>
     requires { F.Begins table.now room level (x + v) state.old × (1 ≤ v) × (v ≤ 4) }
     ensures { F.RestrictionRead ((R.readers room).restriction v x) table.now level x v state.old state.new out.old out.new here.old here.new result }
 {
@@ -338,7 +338,7 @@ fn quantifier(
     scope: usize,
     state: &mut State,
     out: &mut [i32],
-) -> Result<(), Refused>
+) -> Result<(), Refusal>
     requires { F.Begins table.now room above scope state.old
         × (slice_get here.old.rest.now 0 ≡ Some (cond every exclamation interrogation))
         × (is_formula (as_role role) ≡ true) }
@@ -394,13 +394,13 @@ fn operand(
     scope: usize,
     state: &mut State,
     out: &mut [i32],
-) -> Result<(), Refused>
+) -> Result<(), Refusal>
     requires { F.Begins table.now room above scope state.old }
     ensures { F.OperandRead room table.now (as_role role) above scope state.old state.new out.old out.new here.old here.new result }
 {
     skip(here);
     let Some(&b) = here.rest.first() else {
-        return Err(Refused(Refusal::Tptp, here.at));
+        return Err(Refusal::Tptp);
     };
     if b == 40 {
         opening(here, room)?;

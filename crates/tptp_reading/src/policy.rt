@@ -1,6 +1,4 @@
 // A whole text: its tree, with the questions that are asked of its words, and these laid in a buffer.
-ghost use Rattle.std.specs.Prelude.{◌≤◌};
-ghost use Rattle.model.specs.Table.{predicates};
 ghost use Rattle.tptp_tokens.specs.Steps.{Steps};
 ghost use Rattle.tptp_reading.specs.Policy as P;
 
@@ -18,14 +16,36 @@ use tptp_tokens::tokens::{expect, skip, token};
 const ROOM: usize = 255;
 
 // The end of a text, behind blanks.
-fn ended(here: &mut Cursor<'_>) -> Result<(), Refused>
+fn ended(here: &mut Cursor<'_>) -> Result<(), Refusal>
     ensures { Steps P.blanks_ending here.old here.new result }
 {
     skip(here);
     if !here.rest.is_empty() {
-        return Err(Refused(Refusal::Tptp, here.at));
+        return Err(Refusal::Tptp);
     }
     Ok(())
+}
+
+// A whole text from a place on: what is known behind it.
+fn whole_text(table: &[i32], here: &mut Cursor<'_>, out: &mut [i32]) -> Result<State, Refusal>
+    ensures { P.TextRead table.now out.old out.new here.old here.new result }
+{
+    token(here, b"tff")?;
+    expect(here, 40)?;
+    name(here)?;
+    expect(here, bytes::COMMA)?;
+    token(here, b"axiom")?;
+    expect(here, bytes::COMMA)?;
+    let mut state = State {
+        words: 0,
+        asked: Ok(()),
+        moded: Ok(()),
+        set: Marks::NONE,
+    };
+    whole(table, here, ROOM, Role::Formula, 0, 0, &mut state, out)?;
+    expect(here, 46)?;
+    ended(here)?;
+    Ok(state)
 }
 
 // A text, over a table that was checked: what is known behind it.
@@ -33,20 +53,8 @@ pub fn policy(table: &[i32], text: &[u8], out: &mut [i32]) -> Result<State, Refu
     ensures { P.PolicyRead table.now text.now out.old out.new result }
 {
     let mut here = Cursor::new(text);
-    token(&mut here, b"tff")?;
-    expect(&mut here, 40)?;
-    name(&mut here)?;
-    expect(&mut here, bytes::COMMA)?;
-    token(&mut here, b"axiom")?;
-    expect(&mut here, bytes::COMMA)?;
-    let mut state = State {
-        words: 0,
-        asked: Ok(()),
-        moded: Ok(()),
-        set: Marks::NONE,
-    };
-    whole(table, &mut here, ROOM, Role::Formula, 0, 0, &mut state, out)?;
-    expect(&mut here, 46)?;
-    ended(&mut here)?;
-    Ok(state)
+    match whole_text(table, &mut here, out) {
+        Ok(state) => Ok(state),
+        Err(refusal) => Err(Refused(refusal, here.at)),
+    }
 }

@@ -18,7 +18,6 @@ use Rattle.model.specs.Answer.{refused, passed}
 use Rattle.model.specs.TptpReading.{give, ◌>>=◌, look, literal, more_digits, number, natural, integer}
 use Rattle.model.specs.declared.Refusal.{Refusal}
 use Rattle.model.specs.declared.Refusal.TheVariants.{Tptp}
-use Rattle.model.specs.declared.Refused.{Refused}
 use Rattle.tptp_tokens.specs.Steps.{from, Skips, Reads}
 use Rattle.tptp_tokens.specs.Numbers.{More, digit-from, Numbers, Naturals, behind_minus, Magnitudes}
 use Rattle.tptp_tokens.proofs.MovedLaws.{further, past}
@@ -102,7 +101,7 @@ module _ (old : Cursor) (least most : ℕ) where
           go t h = rw (begun t b h, e)
 
       pub number-first :
-          (new : Cursor) (found : Result ℕ Refused) → 48 ≤ least → More most (b - 48) mid new found → Numbers least most old new found
+          (new : Cursor) (found : Result ℕ Refusal) → 48 ≤ least → More most (b - 48) mid new found → Numbers least most old new found
       number-first new (Ok n) k m =
           let one = slice_get_within old.rest.now 0 b h in
           let moved = past old mid 1 (omega (arith, one)) r p in (
@@ -115,7 +114,7 @@ module _ (old : Cursor) (least most : ℕ) where
 
 module _ (old new : Cursor) where
   -- from 0 on, and from 1 on
-  pub natural-number : (found : Result ℕ Refused) → Numbers 48 2147483647 old new found → Naturals old new found
+  pub natural-number : (found : Result ℕ Refusal) → Numbers 48 2147483647 old new found → Naturals old new found
   unfolding natural digit
   natural-number (Ok n) m = (m.0, m.1, m.3)
   natural-number (Err q) m = m
@@ -142,7 +141,7 @@ module _ (old new : Cursor) where
       (decide (leb 48 c))))
       (decide (leb 49 c))
 
-  pub magnitude-number : (found : Result ℕ Refused) → Numbers 49 2147483648 old new found → Magnitudes old new found
+  pub magnitude-number : (found : Result ℕ Refusal) → Numbers 49 2147483648 old new found → Magnitudes old new found
   magnitude-number (Ok n) m = (
     record { moved = m.0.moved; reads = same_test _ _ 2147483648 from_one ∙ m.0.reads },
     omega (arith, m.2),

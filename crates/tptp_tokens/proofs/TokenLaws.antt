@@ -17,7 +17,6 @@ use Rattle.model.specs.Answer.{Outcome, passed, refused}
 use Rattle.model.specs.TptpReading.{Got, Reader, give, onwards, ◌>>=◌, stop, blanks, peek, literal, look, token, opening}
 use Rattle.model.specs.declared.Refusal.{Refusal}
 use Rattle.model.specs.declared.Refusal.TheVariants.{Level, Tptp}
-use Rattle.model.specs.declared.Refused.{Refused}
 use Rattle.tptp_tokens.specs.Steps.{from, got, Skips, Reads, Steps}
 use Rattle.tptp_tokens.proofs.MovedLaws.{further, past}
 
@@ -141,7 +140,7 @@ module _ (old mid : Cursor) (s : Skips old mid) where
   unfolding token
   token-from word = onward blanks (λ _. literal word) old tt mid s.reads.reads
 
-  pub token_steps : (word : Text) (new : Cursor) (r : Result (Unit {0}) Refused) → Steps (literal word) mid new r → Steps (token word) old new r
+  pub token_steps : (word : Text) (new : Cursor) (r : Result (Unit {0}) Refusal) → Steps (literal word) mid new r → Steps (token word) old new r
   token_steps word new (Ok u) l = record { moved = further old mid new s.reads.moved l.moved; reads = token-from word ∙ l.reads }
   token_steps word new (Err e) l = token-from word ∙ l
 

@@ -2,7 +2,7 @@
 use Rattle.std.specs.Prelude.{ℕ, ◌+◌, ◌-◌, ◌≤◌, ◌≡◌, false, length, drop, slice_get, Result, Ok, Err, Some}
 use Rattle.model.specs.Bytes.{blank}
 use Rattle.model.specs.Answer.{Outcome, passed, refused}
-use Rattle.model.specs.declared.Refused.{Refused}
+use Rattle.model.specs.declared.Refusal.{Refusal}
 use Rattle.model.specs.TptpReading.{Got, Reader, blanks}
 use Rattle.text.specs.declared.cursor.Cursor.{Cursor}
 
@@ -30,9 +30,9 @@ pub record Skips (old new : Cursor) : Type 0 where
   pub reads : Reads blanks old tt new
   pub stop : (b : ℕ) → slice_get new.rest.now 0 ≡ Some b → blank b ≡ false
 
-abbrev pub Steps : (reader : Reader (Unit {0})) (old new : Cursor) (step : Result (Unit {0}) Refused) → Type 0
+abbrev pub Steps : (reader : Reader (Unit {0})) (old new : Cursor) (step : Result (Unit {0}) Refusal) → Type 0
 Steps reader old new (Ok u) = Reads reader old tt new
-Steps reader old new (Err e) = from reader old ≡ refused e.0 e.1
+Steps reader old new (Err e) = from reader old ≡ refused e new.at
 
 -- a reader comes to something of which facts hold, or to a refusal
 pub record Value {A : Type 0} (reader : Reader A) (facts : A → Type 0) (old new : Cursor) : Type 0 where
@@ -40,6 +40,6 @@ pub record Value {A : Type 0} (reader : Reader A) (facts : A → Type 0) (old ne
   pub reads : Reads reader old what new
   pub holds : facts what
 
-abbrev pub Valued : {A : Type 0} (reader : Reader A) (facts : A → Type 0) (old new : Cursor) (step : Result (Unit {0}) Refused) → Type 0
+abbrev pub Valued : {A : Type 0} (reader : Reader A) (facts : A → Type 0) (old new : Cursor) (step : Result (Unit {0}) Refusal) → Type 0
 Valued reader facts old new (Ok u) = Value reader facts old new
-Valued reader facts old new (Err e) = from reader old ≡ refused e.0 e.1
+Valued reader facts old new (Err e) = from reader old ≡ refused e new.at

@@ -5,7 +5,7 @@ ghost use Rattle.tptp_tokens.specs.Steps.{Valued};
 ghost use Rattle.tptp_tokens.specs.Laying as L;
 
 use crate::numbers::integer;
-use model::Refused;
+use model::Refusal;
 use text::cursor::Cursor;
 
 // Words are counted so far: beyond, a policy has too many.
@@ -56,7 +56,7 @@ pub fn lay_three(out: &mut [i32], w: usize, tag: usize, v: usize, m: usize)
 }
 
 // A number, which becomes the word at an index.
-pub fn lay_integer(here: &mut Cursor<'_>, out: &mut [i32], w: usize) -> Result<(), Refused>
+pub fn lay_integer(here: &mut Cursor<'_>, out: &mut [i32], w: usize) -> Result<(), Refusal>
     ensures { Valued R.integer (L.Stored w out.old out.new) here.old here.new result }
 {
     lay_word(out, w, integer(here)?);

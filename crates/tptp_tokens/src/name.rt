@@ -5,7 +5,7 @@ ghost use Rattle.model.specs.TptpReading as R;
 ghost use Rattle.tptp_tokens.specs.Steps.{Reads, Steps};
 
 use crate::tokens::skip;
-use model::{Refusal, Refused};
+use model::Refusal;
 use text::cursor::Cursor;
 
 // The byte is a letter, a digit or an underscore.
@@ -23,12 +23,12 @@ fn word_bytes(here: &mut Cursor<'_>)
 }
 
 // A name.
-pub fn name(here: &mut Cursor<'_>) -> Result<(), Refused>
+pub fn name(here: &mut Cursor<'_>) -> Result<(), Refusal>
     ensures { Steps R.name here.old here.new result }
 {
     skip(here);
     if !here.rest.first().is_some_and(u8::is_ascii_lowercase) {
-        return Err(Refused(Refusal::Tptp, here.at));
+        return Err(Refusal::Tptp);
     }
     word_bytes(here);
     Ok(())

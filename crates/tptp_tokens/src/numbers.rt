@@ -3,13 +3,13 @@ ghost use Rattle.std.specs.Prelude.{◌≤◌, ◌<◌, ◌^◌};
 ghost use Rattle.tptp_tokens.specs.Numbers as N;
 
 use crate::tokens::skip;
-use model::{Refusal, Refused};
+use model::Refusal;
 use text::bytes;
 use text::cursor::Cursor;
 use text::word::signed;
 
 // Further digits of a number, up to the most.
-fn more_digits(here: &mut Cursor<'_>, most: usize, first: usize) -> Result<usize, Refused>
+fn more_digits(here: &mut Cursor<'_>, most: usize, first: usize) -> Result<usize, Refusal>
     requires { (first ≤ most) × (most < 2 ^ 32) }
     ensures { N.More most first here.old here.new result }
 {
@@ -23,7 +23,8 @@ fn more_digits(here: &mut Cursor<'_>, most: usize, first: usize) -> Result<usize
         }
         let raised = 10 * n + (b - bytes::NOUGHT) as usize;
         if (n == 0) | (most < raised) {
-            return Err(Refused(Refusal::Tptp, here.at + i));
+            here.pass(i);
+            return Err(Refusal::Tptp);
         }
         n = raised;
     }
@@ -33,7 +34,7 @@ fn more_digits(here: &mut Cursor<'_>, most: usize, first: usize) -> Result<usize
 
 // A number up to the most, of whose digits the first is at least this one. By hand, since the library's `parse` takes a 0 in front and does
 // not tell where it refuses.
-fn number(here: &mut Cursor<'_>, least: u8, most: usize) -> Result<usize, Refused>
+fn number(here: &mut Cursor<'_>, least: u8, most: usize) -> Result<usize, Refusal>
     requires { (48 ≤ least) × (9 ≤ most) × (most < 2 ^ 32) }
     ensures { N.Numbers least most here.old here.new result }
 {
@@ -42,26 +43,26 @@ fn number(here: &mut Cursor<'_>, least: u8, most: usize) -> Result<usize, Refuse
             here.pass(1);
             more_digits(here, most, (b - bytes::NOUGHT) as usize)
         }
-        _ => Err(Refused(Refusal::Tptp, here.at)),
+        _ => Err(Refusal::Tptp),
     }
 }
 
 // The number of a predicate or a variable.
-pub fn natural(here: &mut Cursor<'_>) -> Result<usize, Refused>
+pub fn natural(here: &mut Cursor<'_>) -> Result<usize, Refusal>
     ensures { N.Naturals here.old here.new result }
 {
     number(here, b'0', 2147483647)
 }
 
 // The digits behind a minus. A function of its own, since the proof of `integer` cites its contract.
-fn magnitude(here: &mut Cursor<'_>) -> Result<usize, Refused>
+fn magnitude(here: &mut Cursor<'_>) -> Result<usize, Refusal>
     ensures { N.Magnitudes here.old here.new result }
 {
     number(here, b'1', 2147483648)
 }
 
 // A number, behind blanks.
-pub fn integer(here: &mut Cursor<'_>) -> Result<i32, Refused>
+pub fn integer(here: &mut Cursor<'_>) -> Result<i32, Refusal>
     ensures { N.Integers here.old here.new result }
 {
     skip(here);

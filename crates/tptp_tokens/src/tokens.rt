@@ -1,10 +1,10 @@
-// Tokens of a text, with blanks before them. Each reading passes what it reads.
+// Tokens of a text, with blanks before them. Each reading passes what it reads; one that is refused stops where its refusal has its place.
 ghost use Rattle.std.specs.Prelude.{◌≡◌, [], ◌∷◌};
 ghost use Rattle.model.specs.Bytes.{blank};
 ghost use Rattle.model.specs.TptpReading as R;
 ghost use Rattle.tptp_tokens.specs.Steps.{Skips, Steps};
 
-use model::{Refusal, Refused};
+use model::Refusal;
 use text::bytes;
 use text::cursor::Cursor;
 
@@ -23,24 +23,26 @@ pub fn skip(here: &mut Cursor<'_>)
 }
 
 // A token of one byte.
-pub fn expect(here: &mut Cursor<'_>, c: u8) -> Result<(), Refused>
+pub fn expect(here: &mut Cursor<'_>, c: u8) -> Result<(), Refusal>
     ensures { Steps (R.token (c ∷ [])) here.old here.new result }
 {
     skip(here);
     if here.rest.first() != Some(&c) {
-        return Err(Refused(Refusal::Tptp, here.at));
+        return Err(Refusal::Tptp);
     }
     here.pass(1);
     Ok(())
 }
 
 // These bytes, right here.
-pub fn literal(here: &mut Cursor<'_>, word: &[u8]) -> Result<(), Refused>
+pub fn literal(here: &mut Cursor<'_>, word: &[u8]) -> Result<(), Refusal>
     ensures { Steps (R.literal word.now) here.old here.new result }
 {
+    let text = here.rest;
     for i in 0..word.len() {
-        if here.rest.get(i) != Some(&word[i]) {
-            return Err(Refused(Refusal::Tptp, here.at + i));
+        if text.get(i) != Some(&word[i]) {
+            here.pass(i);
+            return Err(Refusal::Tptp);
         }
     }
     here.pass(word.len());
@@ -48,7 +50,7 @@ pub fn literal(here: &mut Cursor<'_>, word: &[u8]) -> Result<(), Refused>
 }
 
 // A token of these bytes.
-pub fn token(here: &mut Cursor<'_>, word: &[u8]) -> Result<(), Refused>
+pub fn token(here: &mut Cursor<'_>, word: &[u8]) -> Result<(), Refusal>
     ensures { Steps (R.token word.now) here.old here.new result }
 {
     skip(here);
@@ -56,15 +58,15 @@ pub fn token(here: &mut Cursor<'_>, word: &[u8]) -> Result<(), Refused>
 }
 
 // An opening parenthesis, with room for so many more.
-pub fn opening(here: &mut Cursor<'_>, room: usize) -> Result<(), Refused>
+pub fn opening(here: &mut Cursor<'_>, room: usize) -> Result<(), Refusal>
     ensures { Steps (R.opening room) here.old here.new result }
 {
     skip(here);
     if here.rest.first() != Some(&40) {
-        return Err(Refused(Refusal::Tptp, here.at));
+        return Err(Refusal::Tptp);
     }
     if room == 0 {
-        return Err(Refused(Refusal::Level, here.at));
+        return Err(Refusal::Level);
     }
     here.pass(1);
     Ok(())

@@ -3,7 +3,6 @@ use mathlib.Core.Path.{refl}
 use borrow.Author.Rules.{rules}
 use Rattle.tptp_leaves.proofs.LeafLaws.{leaf-dollar, leaf-atom, leaf-negated, leaf-none}
 use Rattle.tptp_leaves.proofs.leaves.leaf.Goals as goal
-use Rattle.tptp_leaves.proofs.leaves.leaf.Goals.{in_default-via-in-Some+in_default, in_default-via-in_default}
 
 pub returns-in-Some-eq36 : goal.returns-in-Some-eq36
 returns-in-Some-eq36 c =
@@ -36,11 +35,12 @@ pub returns-in_default : goal.returns-in_default
 returns-in_default c =
     record {
       kept = record { same = refl; long = refl };
-      reads =
-          elim c.in_default.branch [
-            | in_default-via-in-Some+in_default w ↦
-                leaf-none c.args.here.now c.args.room c.requires (search rules) (search rules) (search rules)
-            | in_default-via-in_default w ↦
-                leaf-none c.args.here.now c.args.room c.requires (search rules) (search rules) (search rules)
-          ];
+      reads = leaf-none c.args.here.now c.args.room c.requires (search rules) (search rules) (search rules);
+    }
+
+pub returns-in_default-2 : goal.returns-in_default-2
+returns-in_default-2 c =
+    record {
+      kept = record { same = refl; long = refl };
+      reads = leaf-none c.args.here.now c.args.room c.requires (search rules) (search rules) (search rules);
     }

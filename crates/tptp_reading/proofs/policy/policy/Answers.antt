@@ -1,77 +1,11 @@
--- `tptp_reading::policy::policy` meets its contract.
-use mathlib.Core.Path.{refl}
-use Rattle.model.specs.Bytes.{bytes}
-use Rattle.model.specs.Reading.{is_formula}
-use Rattle.model.specs.TptpReading.{read_whole, onwards, ◌>>=◌}
-use Rattle.laws.specs.Answer.{passed_on}
-use Rattle.tptp_reading.proofs.PolicyLaws.{policy-from, policy-refused, policy_undotted, policy_unended, policy-read, started}
+-- `tptp_reading::policy::policy` meets its contract: the place of a text's first byte is 0.
+use Rattle.tptp_reading.proofs.PolicyLaws.{policy-from, policy-to}
 use Rattle.tptp_reading.proofs.policy.policy.Goals as goal
 
-pub returns-in_err-token : goal.returns-in_err-token
-unfolding read_whole bytes ◌>>=◌ onwards
-returns-in_err-token c =
-    rw (passed_on _ c.from_residual.ensures.1)
-    (policy-from 255 c.args.text.now c.new-here.result c.new-here.ensures.rest c.new-here.ensures.at (rw c.in_err-token.ensures))
+pub returns-in-Ok : goal.returns-in-Ok
+returns-in-Ok c =
+    let (t, reads, told) = c.in-Ok.ensures in
+    (t, policy-to c.args.text.now c.new-here.result c.new-here.ensures.rest c.new-here.ensures.at t reads, told)
 
-pub returns-in_err-expect : goal.returns-in_err-expect
-unfolding read_whole bytes ◌>>=◌ onwards
-returns-in_err-expect c =
-    rw (passed_on _ c.from_residual-in_err-expect.ensures.1)
-    (policy-from 255 c.args.text.now c.new-here.result c.new-here.ensures.rest c.new-here.ensures.at (rw (c.in_ok-token.ensures.reads, c.in_err-expect.ensures)))
-
-pub returns-in_err-name : goal.returns-in_err-name
-unfolding read_whole bytes ◌>>=◌ onwards
-returns-in_err-name c =
-    rw (passed_on _ c.from_residual-in_err-name.ensures.1)
-    (policy-from 255 c.args.text.now c.new-here.result c.new-here.ensures.rest c.new-here.ensures.at (rw (c.in_ok-token.ensures.reads, c.in_ok-expect.ensures.reads, c.in_err-name.ensures)))
-
-pub returns-in_err-expect-2 : goal.returns-in_err-expect-2
-unfolding read_whole bytes ◌>>=◌ onwards
-returns-in_err-expect-2 c =
-    rw (passed_on _ c.from_residual-in_err-expect-2.ensures.1)
-    (policy-from 255 c.args.text.now c.new-here.result c.new-here.ensures.rest c.new-here.ensures.at (rw (c.in_ok-token.ensures.reads, c.in_ok-expect.ensures.reads, c.in_ok-name.ensures.reads, c.in_err-expect-2.ensures)))
-
-pub returns-in_err-token-2 : goal.returns-in_err-token-2
-unfolding read_whole bytes ◌>>=◌ onwards
-returns-in_err-token-2 c =
-    rw (passed_on _ c.from_residual-in_err-token-2.ensures.1)
-    (policy-from 255 c.args.text.now c.new-here.result c.new-here.ensures.rest c.new-here.ensures.at (rw (c.in_ok-token.ensures.reads, c.in_ok-expect.ensures.reads, c.in_ok-name.ensures.reads, c.in_ok-expect-2.ensures.reads, c.in_err-token-2.ensures)))
-
-pub returns-in_err-expect-3 : goal.returns-in_err-expect-3
-unfolding read_whole bytes ◌>>=◌ onwards
-returns-in_err-expect-3 c =
-    rw (passed_on _ c.from_residual-in_err-expect-3.ensures.1)
-    (policy-from 255 c.args.text.now c.new-here.result c.new-here.ensures.rest c.new-here.ensures.at (rw (c.in_ok-token.ensures.reads, c.in_ok-expect.ensures.reads, c.in_ok-name.ensures.reads, c.in_ok-expect-2.ensures.reads, c.in_ok-token-2.ensures.reads, c.in_err-expect-3.ensures)))
-
-pub returns-in_err-whole : goal.returns-in_err-whole
-unfolding bytes is_formula
-returns-in_err-whole c =
-    rw (passed_on _ c.from_residual-in_err-whole.ensures.1)
-    (policy-refused c.args.text.now 255 c.new-here.ensures.rest c.new-here.ensures.at c.in_ok-token.ensures c.in_ok-expect.ensures c.in_ok-name.ensures
-    c.in_ok-expect-2.ensures c.in_ok-token-2.ensures c.in_ok-expect-3.ensures _ _ c.in_err-whole.ensures)
-
-pub returns-in_err-expect-4 : goal.returns-in_err-expect-4
-unfolding bytes is_formula
-returns-in_err-expect-4 c =
-    rw (passed_on _ c.from_residual-in_err-expect-4.ensures.1)
-    (policy_undotted c.args.text.now 255 c.new-here.ensures.rest c.new-here.ensures.at c.in_ok-token.ensures c.in_ok-expect.ensures c.in_ok-name.ensures
-    c.in_ok-expect-2.ensures c.in_ok-token-2.ensures c.in_ok-expect-3.ensures c.whole.new.here c.in_ok-whole.ensures _ _
-    c.in_err-expect-4.ensures)
-
-pub returns-in_err-ended : goal.returns-in_err-ended
-unfolding bytes is_formula
-returns-in_err-ended c =
-    rw (passed_on _ c.from_residual-in_err-ended.ensures.1)
-    (policy_unended c.args.text.now 255 c.new-here.ensures.rest c.new-here.ensures.at c.in_ok-token.ensures c.in_ok-expect.ensures c.in_ok-name.ensures
-    c.in_ok-expect-2.ensures c.in_ok-token-2.ensures c.in_ok-expect-3.ensures c.whole.new.here c.in_ok-whole.ensures
-    c.expect-4.new.here c.in_ok-expect-4.ensures _ _ c.in_err-ended.ensures)
-
-pub returns : goal.returns
-unfolding bytes is_formula
-returns c = (
-  _,
-  policy-read c.args.text.now 255 c.new-here.ensures.rest c.new-here.ensures.at c.in_ok-token.ensures c.in_ok-expect.ensures c.in_ok-name.ensures
-      c.in_ok-expect-2.ensures c.in_ok-token-2.ensures c.in_ok-expect-3.ensures c.whole.new.here c.in_ok-whole.ensures
-      c.expect-4.new.here c.in_ok-expect-4.ensures c.ended.new.here c.in_ok-ended.ensures,
-  started c.args.table.now _ c.args.out.now _ _ _ c.in_ok-whole.ensures.holds refl,
-)
+pub returns-in-Err : goal.returns-in-Err
+returns-in-Err c = policy-from c.args.text.now c.new-here.result c.new-here.ensures.rest c.new-here.ensures.at c.in-Err.ensures

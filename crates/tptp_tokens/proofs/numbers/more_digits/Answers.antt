@@ -2,7 +2,8 @@
 use native.Mathlib.Omega.{arith}
 use borrow.Author.Rules.{rules}
 use Prim.Native.Nat.{◌+◌, ◌*◌, ◌-◌, ◌≤◌}
-use mathlib.Core.Path.{◌≡◌, sym, ◌∙◌}
+use mathlib.Core.Path.{◌≡◌, sym, ap, ◌∙◌}
+use Rattle.text.specs.declared.cursor.Cursor.{Cursor}
 use lib.ListN.{length, get_or}
 use Rattle.laws.specs.Decimal.{digit-range}
 use Rattle.tptp_tokens.proofs.NumberLaws.{digits_more, digits_bad, digits-stop, digits_end, digits_done}
@@ -30,7 +31,8 @@ returns-then-n-most c =
     let l = c.loop-i in
     let old = c.args.here.now in
     let d = sym c.digit.ensures ∙ c.if-not-digit.false in
-    rw l.invariant.0 (l.invariant.3 ∙ digits_bad old.rest.now l.i c.args.most l.n old.at c.loop-i-test.true d (search rules))
+    let end = c.pass-then-n-most.ensures.at ∙ ap (λ (h : Cursor). h.at + l.i) l.invariant.0 in
+    rw end (l.invariant.3 ∙ digits_bad old.rest.now l.i c.args.most l.n old.at c.loop-i-test.true d (search rules))
 
 pub loop-i-preserved : goal.loop-i-preserved
 loop-i-preserved c =

@@ -3,7 +3,6 @@ use native.Mathlib.Omega.{arith}
 use borrow.Author.Rules.{rules}
 use Rattle.tptp_tokens.proofs.NumberLaws.{number-over, number-other, number-first}
 use Rattle.tptp_tokens.proofs.numbers.number.Goals as goal
-use Rattle.tptp_tokens.proofs.numbers.number.Goals.{in_default-via-in-Some+else-least-b, in_default-via-in_default}
 
 pub returns-in-Some : goal.returns-in-Some
 returns-in-Some c =
@@ -13,8 +12,7 @@ returns-in-Some c =
 
 pub returns-in_default : goal.returns-in_default
 returns-in_default c =
-    let a = c.args in
-    elim c.in_default.branch [
-      | in_default-via-in-Some+else-least-b w ↦ number-other a.here.now a.least a.most w.in-Some.field-0.now (search rules) w.if-least-b.false
-      | in_default-via-in_default w ↦ number-over a.here.now a.least a.most (search rules)
-    ]
+    let a = c.args in number-other a.here.now a.least a.most c.in-Some.field-0.now (search rules) c.if-least-b.false
+
+pub returns-in_default-2 : goal.returns-in_default-2
+returns-in_default-2 c = number-over c.args.here.now c.args.least c.args.most (search rules)

@@ -8,4 +8,5 @@ use Rattle.tptp_tokens.proofs.tokens.literal.Given as goal
 
 abbrev pub invariant-loop-i : goal.invariant-loop-i
 invariant-loop-i l =
-    (l.i ≤ length l.here.rest.now) × (from (literal l.word) l.here ≡ literal (drop l.i l.word) (drop l.i l.here.rest.now) (l.here.at + l.i))
+    (l.here ≡ l.fn.here) × (l.i ≤ length l.fn.here.rest.now)
+    × (from (literal l.word) l.fn.here ≡ literal (drop l.i l.word) (drop l.i l.fn.here.rest.now) (l.fn.here.at + l.i))
