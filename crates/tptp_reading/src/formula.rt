@@ -1,7 +1,6 @@
 // Formulas and restrictions, as they stand in a text: they are read, asked questions 4 to 7 and laid in a buffer in one walk. Each way
 // deeper opens a parenthesis; operands and tuples are loops. What a node is to the node above it hangs, for a first operand, on the
-// connective behind it, which is looked up ahead. A parenthesis takes at most some 900 bytes of stack: what is known is lent, and a node
-// with none below it is read by two calls, so that the frame of an operand has no room for its words.
+// connective behind it, which is looked up ahead. A parenthesis takes at most some 900 bytes of stack: what is known is lent.
 ghost use Rattle.std.specs.Prelude.{◌≡◌, true, cond, ◌+◌, ◌*◌, ◌≤◌, length, slice_get, Some};
 ghost use Rattle.model.specs.Bytes.{bytes, ampersand, bar, exclamation, interrogation};
 ghost use Rattle.model.specs.Level.{restriction};
