@@ -6,8 +6,8 @@ use native.Mathlib.Omega.{arith}
 use mathlib.Core.Path.{◌≡◌, refl, sym, ap, ap₂, ◌∙◌, subst}
 use mathlib.Core.Logic.{⊎_elim}
 use mathlib.Core.Bool.{Bool, true, false, cond}
-use mathlib.Core.List.{[], ◌∷◌, ◌++◌}
-use lib.ListN.{length, get_or, take, drop, take-append-drop, length-drop, drop_of_length-le}
+use mathlib.Core.List.{[], ◌∷◌, ◌++◌, append_assoc}
+use lib.ListN.{length, get_or, take, drop, take-append-drop, length-append, length-drop, drop_of_length-le}
 use lib.Seq.{drop-cons, length-take-le}
 use lib.Dec.{eqb}
 use borrow.Author.Tests.{eqb-true}
@@ -125,9 +125,27 @@ behind_past b old new p =
     ap (behind old.at) p.rest
     ∙ ap (λ (j : ℕ). follow (move_behind b) b old.at (λ next. read_from next j new.rest.now)) (let e : suc old.at ≡ new.at = omega (arith, p.at) in e)
 
+-- places of one text: the same one, behind bytes that were passed, and one after another
+pub same_here : (here : Cursor) → Same here here
+same_here here = record { whole = refl; bytes = []; rest = refl }
+
+pub same_passed : (t : Text) (old new : Cursor) → Passed t old new → Same old new
+same_passed t old new p = record {
+  whole = omega (arith, p.at, ap length p.rest, length-append t new.rest.now);
+  bytes = t;
+  rest = p.rest;
+}
+
+pub same_then : (a b c : Cursor) → Same a b → Same b c → Same a c
+same_then a b c s t = record {
+  whole = t.whole ∙ s.whole;
+  bytes = s.bytes ++ t.bytes;
+  rest = s.rest ∙ ap (λ (r : Text). s.bytes ++ r) t.rest ∙ sym (append_assoc s.bytes t.bytes c.rest.now);
+}
+
 -- a byte that is passed lies in the text
 shorter : (b : ℕ) (old new : Cursor) → Passed (b ∷ []) old new → (old.at < new.at) × Same old new
-shorter b old new p = (omega (arith, p.at), omega (arith, p.at, ap length p.rest))
+shorter b old new p = (omega (arith, p.at), same_passed (b ∷ []) old new p)
 
 pub ends-comma : (old new : Cursor) → Passed (comma ∷ []) old new → EndOf old Comma new
 unfolding move_behind follow goes_on
@@ -151,7 +169,7 @@ module _ (old same mid new : Cursor) (e : same ≡ old) (p : Passed (cr ∷ []) 
       let two = shorter lf mid new q in
       record {
         reads = behind_past cr old mid first ∙ read_past ending lf mid new q;
-        onward = (omega (arith, one.0, two.0), omega (arith, one.1, two.1));
+        onward = (omega (arith, one.0, two.0), same_then old mid new one.1 two.1);
       }
 
   -- no LF behind it
@@ -171,7 +189,7 @@ no_text p t e = rw e refl
 pub ends-text : (old mid new : Cursor) → mid ≡ old → new ≡ mid → length new.rest.now ≡ 0 → EndOf old Line new
 unfolding goes_on
 ends-text old mid new e f r =
-    subst (λ (c : Cursor). EndOf c Line new) (f ∙ e) (record { reads = no_text new.at new.rest.now (empty _ r); onward = (omega (arith, r), refl) })
+    subst (λ (c : Cursor). EndOf c Line new) (f ∙ e) (record { reads = no_text new.at new.rest.now (empty _ r); onward = (omega (arith, r), same_here new) })
 
 ends_other :
     (p : ℕ) (text : Text) → Stops (λ c. eqb c comma) text → Stops (λ c. eqb c cr) text → (text ≡ [] → ⊥) → behind p text ≡ refused Csv p
@@ -280,7 +298,11 @@ module _ (old : Cursor) (i : ℕ) (q : InQuotes old i) (h : i < length old.rest.
   quotes_close new r a e f = record {
     bytes = q.bytes;
     behind = omega (arith, a);
-    same = omega (arith, a, ap length r, length-drop (i + 1) old.rest.now, h);
+    same = record {
+      whole = omega (arith, a, ap length r, length-drop (i + 1) old.rest.now, h);
+      bytes = take (i + 1) old.rest.now;
+      rest = sym (take-append-drop (i + 1) old.rest.now) ∙ ap (λ (t : Text). take (i + 1) old.rest.now ++ t) (sym r);
+    };
     reads = q.reads ∙ ap (attach q.bytes) (closes e ∙ ap₂ (λ (n : ℕ) (t : Text). read_from closing n t) (sym a) (sym r));
     stop = subst (Stops (λ c. eqb c quote)) (sym r) f;
     none = q.none;

@@ -30,6 +30,7 @@ use Rattle.csv_reading.specs.declared.field.End.TheVariants.{Comma, Line}
 use Rattle.std.specs.Prelude.{Option, Some, None}
 use Rattle.std.specs.Option.{is_some}
 use Rattle.text.specs.Reading.{spelt}
+use Rattle.csv_reading.proofs.FieldLaws.{same_here, same_then}
 use Rattle.csv_reading.specs.Field.{add_all, attach, reading, goes_on, Same, Onward, FieldOf}
 use Rattle.csv_reading.specs.Record.{Put, RowAsked, Spelled, Reads}
 
@@ -76,7 +77,7 @@ held_none here h = record {
   contents = [];
   size = refl;
   from = omega arith;
-  same = refl;
+  same = same_here here;
   reads = begins here.at here.rest.now h ∙ then_same _;
   said = refl;
   numbers = λ e. refl;
@@ -193,7 +194,7 @@ ended-comma old here new fields good row e = record {
   contents = e.contents ++ e.content ∷ [];
   size = e.size;
   from = omega (arith, e.from, e.onward.0);
-  same = e.onward.1 ∙ e.same;
+  same = same_then old here new e.same e.onward.1;
   reads = e.reads ∙ go (reading field new);
   said = e.said;
   numbers = e.numbers;
@@ -266,8 +267,8 @@ module _ (table : Words) (old here new : Cursor) (fields : ℕ) (good : Bool) (r
   ended-line r s = record {
     fields = e.contents ++ e.content ∷ [];
     reads = e.reads ∙ go (reading start new);
-    behind = omega (arith, e.from, e.onward.0, e.same, h, e.size, length-append e.contents (e.content ∷ []));
-    same = e.onward.1 ∙ e.same;
+    behind = omega (arith, e.from, e.onward.0, e.same.whole, h, e.size, length-append e.contents (e.content ∷ []));
+    same = same_then old here new e.same e.onward.1;
     spelled = s;
   }
     where

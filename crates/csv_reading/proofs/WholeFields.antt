@@ -26,16 +26,12 @@ use Rattle.csv_reading.specs.declared.field.End.{End}
 use Rattle.csv_reading.specs.declared.field.End.TheVariants.{Comma, Line}
 use Rattle.csv_reading.specs.declared.field.BadByte.{BadByte}
 use Rattle.csv_reading.specs.Field.{attach, behind, reading, Same, Onward, Bare, Quoted, Content, EndOf, FieldOf}
-use Rattle.csv_reading.proofs.FieldLaws.{attach-append, attach-refused, quoting-text, field-text, closing-rest, read_past, empty}
+use Rattle.csv_reading.proofs.FieldLaws.{attach-append, attach-refused, quoting-text, field-text, closing-rest, read_past, empty, same_passed, same_then}
 
 -- what lies behind a place lies behind one before it
 onward-from : (a b c : Cursor) (e : End) → a.at ≤ b.at → Same a b → Onward b e c → Onward a e c
-onward-from a b c Comma h s o = (omega (arith, h, o.0), omega (arith, s, o.1))
-onward-from a b c Line h s o = (omega (arith, h, s, o.0), omega (arith, s, o.1))
-
--- bytes that were passed lie in the text
-passed_same : (t : Text) (a b : Cursor) → Passed t a b → (a.at ≤ b.at) × Same a b
-passed_same t a b p = (omega (arith, p.at), omega (arith, p.at, ap length p.rest, length-append t b.rest.now))
+onward-from a b c Comma h s o = (omega (arith, h, o.0), same_then a b c s o.1)
+onward-from a b c Line h s o = (omega (arith, h, s.whole, o.0), same_then a b c s o.1)
 
 first_of : (t : Text) → 1 ≤ length t → t ≡ get_or t 0 0 ∷ drop 1 t
 first_of t h = drop-cons t 0 0 h
@@ -78,7 +74,7 @@ module _ (old q n m : Cursor) (v : Option ℤ) (more : ℕ) (number : NumberAt q
   quoted-contents p c = record {
     content = number.bytes ++ c.bytes;
     from = omega (arith, p.at, number.passed.at, c.behind);
-    same = c.same ∙ (passed_same _ q n number.passed).1 ∙ (passed_same _ old q p).1;
+    same = same_then old q m (same_passed _ old q p) (same_then q n m (same_passed _ q n number.passed) c.same);
     reads =
         read_past field quote old q p
         ∙ quoted-number
@@ -86,7 +82,7 @@ module _ (old q n m : Cursor) (v : Option ℤ) (more : ℕ) (number : NumberAt q
         ∙ attach-append number.bytes c.bytes _
         ∙ ap (attach _) (closing-rest m.at m.rest.now c.stop);
     is = value n m number.bytes c.bytes v more number.is number.longer c.none
-        (λ k. let s = c.some k in (get_or n.rest.now 0 0, drop 1 n.rest.now, s.0, first_of n.rest.now (omega (arith, c.behind, c.same)), s.1));
+        (λ k. let s = c.some k in (get_or n.rest.now 0 0, drop 1 n.rest.now, s.0, first_of n.rest.now (omega (arith, c.behind, c.same.whole)), s.1));
   }
 
   -- bare
@@ -94,7 +90,7 @@ module _ (old q n m : Cursor) (v : Option ℤ) (more : ℕ) (number : NumberAt q
   bare-contents p b = subst (λ (c : Cursor). Contents c v more m) p.0 (record {
     content = number.bytes ++ b.bytes;
     from = omega (arith, number.passed.at, b.passed.at);
-    same = (passed_same _ n m b.passed).1 ∙ (passed_same _ q n number.passed).1;
+    same = same_then q n m (same_passed _ q n number.passed) (same_passed _ n m b.passed);
     reads =
         ap (read_from field q.at) split
         ∙ field-text (number.bytes ++ b.bytes) q.at m.at m.rest.now (all_append text_data _ _ number.text b.bare)

@@ -1,5 +1,5 @@
 -- What the reading of a field finds, as a part of the reading of the whole text.
-use Rattle.std.specs.Prelude.{ℕ, ℤ, suc, ◌+◌, ◌≤◌, ◌<◌, min, ◌≡◌, Bool, true, false, [], ◌∷◌, length, get_or, eqb, Option, Result, Ok, Err}
+use Rattle.std.specs.Prelude.{ℕ, ℤ, suc, ◌+◌, ◌≤◌, ◌<◌, min, ◌≡◌, Bool, true, false, [], ◌∷◌, ◌++◌, length, get_or, eqb, Option, Result, Ok, Err}
 use Rattle.model.specs.declared.Refusal.TheVariants.{Csv}
 use Rattle.model.specs.declared.Refused.{Refused}
 use Rattle.model.specs.Answer.{Outcome, passed, refused, refused_at, ◌>>=◌}
@@ -47,9 +47,11 @@ goes_on Line here = do
   rs ← reading start here
   passed (add_record rs)
 
--- two places of one text
-abbrev pub Same : (old new : Cursor) → Type 0
-Same old new = new.at + length new.rest.now ≡ old.at + length old.rest.now
+-- two places of one text: bytes stand between them
+pub record Same (old new : Cursor) : Type 0 where
+  pub whole : new.at + length new.rest.now ≡ old.at + length old.rest.now
+  pub bytes : Text
+  pub rest : old.rest.now ≡ bytes ++ new.rest.now
 
 -- a place behind another one; behind a line that may be the same, at the end of the text
 abbrev pub Onward : (old : Cursor) (end : End) (new : Cursor) → Type 0
