@@ -123,6 +123,11 @@ abbrev pub Binding : (scratch : Words) (from scope : ℕ) (start held : Held) (i
 Binding scratch from scope start held i =
     (ρ : List ℤ) → Outer start scope ρ → Outer held (scope + i) (ρ ++ take i (drop from scratch))
 
+pub binding-none : (scratch : Words) (from scope : ℕ) (start : Held) → Binding scratch from scope start start 0
+binding-none scratch from scope start ρ o =
+    subst (λ (n : ℕ). Outer start n (ρ ++ [])) (sym (add-zero scope))
+    (subst (λ (σ : List ℤ). Outer start scope σ) (sym (append-nil ρ)) o)
+
 pub binding-more :
     (scratch : Words) (from scope : ℕ) (start held after : Held) (i : ℕ) (k : ℤ) →
     from + i < length scratch →
@@ -141,55 +146,6 @@ binding-more scratch from scope start held after i k inside is more so ρ o =
     (subst (λ (σ : List ℤ). Outer after (scope + i + 1) σ)
     (append_assoc ρ (take i part) (k ∷ []) ∙ ap (λ (l : List ℤ). ρ ++ l) (sym next))
     (outer-more (ρ ++ take i part) k (scope + i) refl more (so ρ o)))
-
--- the numbers of an instance copied behind those of the outer variables, and their marks set
-module _
-    (scratch : Words) (from scope v : ℕ) (start : Held) (small : scope + v ≤ 16) (inside : from + v ≤ length scratch)
-    (numbers : length start.numbers ≡ 16) (marks : length start.marks ≡ 16) where
-  abbrev given : Words
-  given = take v (drop from scratch)
-
-  abbrev copied : ℕ → Held
-  copied i = record { numbers = paste start.numbers scope given i; marks = paste start.marks scope (replicate v true) i }
-
-  given-long : length given ≡ v
-  given-long = length-take-le v (drop from scratch) (rw length-drop (omega arith))
-
-  copied-binds : (i : ℕ) → i ≤ v → Binding scratch from scope start (copied i) i
-  copied-binds zero h = λ ρ o.
-      subst (λ (n : ℕ). Outer (copied 0) n (ρ ++ [])) (sym (add-zero scope))
-      (subst (λ (σ : List ℤ). Outer (copied 0) scope σ) (sym (append-nil ρ))
-      (subst (λ (held : Held). Outer held scope ρ)
-      (ap₂ (λ (ns : Words) (ms : List Bool). let held : Held = record { numbers = ns; marks = ms } in held)
-      (paste-zero start.numbers scope given) (paste-zero start.marks scope (replicate v true))) o))
-  copied-binds (suc i) h =
-      let k = get_or given i (pos 0) in
-      let k-is : k ≡ get_or scratch (from + i) (pos 0)
-      = get_or-take v (drop from scratch) i (pos 0) (omega arith) ∙ get_or-drop from scratch i (pos 0) in
-      let set-number = paste-suc start.numbers scope given i (pos 0) (omega arith) (omega (arith, given-long)) in
-      let mark : get_or (replicate v true) i true ≡ true = get_or-replicate v i true true (omega arith) in
-      let set-mark = paste-suc start.marks scope (replicate v true) i true (omega arith) (omega (arith, length-replicate v true)) in
-      subst (λ (n : ℕ). Binding scratch from scope start (copied (suc i)) n) (add-one i)
-      (subst (λ (held : Held). Binding scratch from scope start held (i + 1))
-      (ap₂ (λ (ns : Words) (ms : List Bool). let held : Held = record { numbers = ns; marks = ms } in held)
-      set-number (ap (set (paste start.marks scope (replicate v true) i) (scope + i)) (sym mark) ∙ set-mark))
-      (binding-more scratch from scope start (copied i) _ i k (omega arith) k-is (λ e b. held-bind b (scope + i) k) (copied-binds i (omega arith))))
-
-  -- as the code copies them
-  pub instance-binds :
-      (ns : Words) (ms : List Bool) →
-      ns ≡ take (from + v - from) (drop from scratch) →
-      ms ≡ replicate (length (take (scope + v - scope) (drop scope start.marks))) true →
-      Binding scratch from scope start (record { numbers = put_mid scope (scope + v - scope) start.numbers ns; marks = put_mid scope (scope + v - scope) start.marks ms }) v
-  instance-binds ns ms p q =
-      let n : scope + v - scope ≡ v = omega arith in
-      let m : from + v - from ≡ v = omega arith in
-      let all : length (take (scope + v - scope) (drop scope start.marks)) ≡ v = length-take-le _ (drop scope start.marks) (rw length-drop (omega arith)) ∙ n in
-      subst (λ (held : Held). Binding scratch from scope start held v)
-      (ap₂ (λ (xs : Words) (ys : List Bool). let held : Held = record { numbers = xs; marks = ys } in held)
-      (sym (put_mid-paste scope (scope + v - scope) start.numbers ns given v (p ∙ ap (λ (k : ℕ). take k (drop from scratch)) m) (sym n) (sym given-long)))
-      (sym (put_mid-paste scope (scope + v - scope) start.marks ms (replicate v true) v (q ∙ ap (λ (k : ℕ). replicate k true) all) (sym n) (sym (length-replicate v true)))))
-      (copied-binds v (omega arith))
 
 -- an atom or a comparison stands in any role as in a restriction
 atom-restricts :
@@ -325,13 +281,13 @@ module _
       values (outer ρ) o.0 role above scope b p ts next node ∙ ap (value_in table (rows log) p) (terms-numbers ρ ts)
 
   pub reduces_known :
-      (v : Bool) → found ≡ Some v → (out : Words) → ReducesAtom table words log held scope b at out out (Plain (same v b))
+      (v r : Bool) → found ≡ Some v → same v b ≡ r → (out : Words) → ReducesAtom table words log held scope b at out out (Plain r)
   unfolding reduce settle
-  reduces_known v is out ρ o role above p ts next node places =
+  reduces_known v r is e out ρ o role above p ts next node places =
       let told = outer-value ρ o role above p ts next node in
-      let tree : reduce table (rows log) (atom b p ts) ρ ≡ plain (same v b)
-      = ap (λ (x : Value). settle x b (put (atom b p ts) ρ)) (sym told ∙ ap as_value is) in
-      subst (λ (t : Tree). Answers places 0 t out out (Plain (same v b))) (sym tree) (answers-plain (same v b) out places)
+      let tree : reduce table (rows log) (atom b p ts) ρ ≡ plain r
+      = ap (λ (x : Value). settle x b (put (atom b p ts) ρ)) (sym told ∙ ap as_value is) ∙ ap plain e in
+      subst (λ (t : Tree). Answers places 0 t out out (Plain r)) (sym tree) (answers-plain r out places)
 
   pub reduces_open :
       found ≡ None →

@@ -1,6 +1,6 @@
 // The reduction of ground atoms and comparisons, all of whose variables are outer ones.
-ghost use Rattle.std.specs.Prelude.{◌≤◌};
-ghost use Rattle.nodes.specs.Ground.{HereLiteral, GrownAtom, HereCompare, Stays, ReducesAtom, ReducesCompare};
+ghost use Rattle.std.specs.Prelude.{List, ◌++◌, ◌+◌, ◌*◌, ◌≤◌, length, take, drop, ℤ};
+ghost use Rattle.nodes.specs.Ground.{Outer, HereLiteral, GrownAtom, HereCompare, Stays, ReducesAtom, ReducesCompare};
 
 use environments::environment::Environment;
 use environments::terms;
@@ -66,4 +66,27 @@ pub fn compare(words: &[i32], environment: Environment, holds: bool, at: usize) 
     ensures { ReducesCompare words.now environment holds at result }
 {
     Reduced::Plain(holds == terms::compare(environment, words, at))
+}
+
+// The environment with v variables more, bound to the numbers of an instance in a place of scratch. A loop, since copies of a length that is
+// not known before are calls of their own.
+pub fn instance(
+    environment: Environment,
+    scratch: &[i32],
+    place: usize,
+    scope: usize,
+    v: usize,
+) -> Environment
+    requires { (scope + v ≤ 16) × (17 * place + 17 ≤ length scratch.now) }
+    ensures { (ρ : List ℤ) →
+        Outer environment scope ρ →
+        Outer result (scope + v) (ρ ++ take v (drop (17 * place + scope) scratch.now)) }
+{
+    let from = Environment::WORDS * place + scope;
+    let mut bound = environment;
+    for i in 0..v {
+        bound.numbers[scope + i] = scratch[from + i];
+        bound.marks[scope + i] = true;
+    }
+    bound
 }

@@ -2,6 +2,7 @@
 ghost use Rattle.std.specs.Prelude.{◌≡◌, List, ◌++◌, ◌+◌, ◌*◌, ◌≤◌, length, take, drop, ℤ};
 ghost use Rattle.nodes.specs.Ground as G;
 
+use crate::ground::instance;
 use environments::environment::Environment;
 
 // The environment that binds the variables in scope and no other, and how many they are. It goes by reference: a walk of 64 levels
@@ -23,14 +24,9 @@ impl Outer {
             G.Outer self.now.environment self.now.scope ρ →
             G.Outer result.environment (self.now.scope + v) (ρ ++ take v (drop (17 * place + self.now.scope) scratch.now)) }
     {
-        let scope = self.scope;
-        let from = Environment::WORDS * place + scope;
-        let mut environment = self.environment;
-        environment.numbers[scope..scope + v].copy_from_slice(&scratch[from..from + v]);
-        environment.marks[scope..scope + v].fill(true);
         Outer {
-            environment,
-            scope: scope + v,
+            environment: instance(self.environment, scratch, place, self.scope, v),
+            scope: self.scope + v,
         }
     }
 }

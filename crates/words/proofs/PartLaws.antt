@@ -1,17 +1,13 @@
--- A part of words, from number i on: its first word and those behind it; and the test whether two lists of words are equal.
+-- A part of words, from number i on: its first word and those behind it; and two parts compared word by word.
 use Prim.Native.Nat.{ℕ, suc, ◌+◌, ◌-◌, ◌≤◌, ◌<◌}
 use native.Mathlib.Omega.{arith}
-use mathlib.Core.Path.{◌≡◌, sym, ap, ap₂, ◌∙◌}
-use mathlib.Core.Logic.{⊎_elim}
-use mathlib.Core.List.{List, [], ◌∷◌}
+use mathlib.Core.Path.{◌≡◌, ap, ap₂, ◌∙◌}
+use mathlib.Core.Bool.{Bool, true, false, ◌&&◌}
+use mathlib.Core.List.{[], ◌∷◌}
 use lib.ListN.{length, get_or, take, drop}
 use lib.Seq.{drop-cons}
-use lib.IntN.{ℤ, pos}
-use lib.Pointwise.{pointwise, pointwise_decides}
-use Rattle.std.proofs.Common.{int_eq}
-use Rattle.std.proofs.lemmas.Bool.Decides.{Decides-int_eq}
-use Rattle.model.specs.Words.{Words, equal_all}
-use Rattle.laws.specs.Words.Tests.{decide, clash, equal_all-true, equal_all-refl}
+use lib.IntN.{pos}
+use Rattle.model.specs.Words.{Words, equal, equal_all}
 
 -- a part of words from number i on: its first word, and the part from the next on
 module _ (ws : Words) (at n : ℕ) where
@@ -34,14 +30,25 @@ module _ (ws : Words) (at n : ℕ) where
   pub part-last : (i : ℕ) → n ≤ i → part_from i ≡ []
   part-last i h = let none : n - i ≡ 0 = omega arith in ap (λ (k : ℕ). take k (drop (at + i) ws)) none
 
--- the library's test of two lists of words is that of model: both say whether they are equal
-pub equal-pointwise : (xs ys : List ℤ) → pointwise int_eq xs ys ≡ equal_all xs ys
-equal-pointwise xs ys =
-    let decides = pointwise_decides Decides-int_eq xs ys in
-    ⊎_elim
-    (λ e. decides.1 (equal_all-true xs ys e) ∙ sym e)
-    (λ e. ⊎_elim
-    (λ f. let same : xs ≡ ys = decides.0 f in clash (ap (equal_all xs) (sym same) ∙ equal_all-refl xs) e)
-    (λ f. f ∙ sym e)
-    (decide (pointwise int_eq xs ys)))
-    (decide (equal_all xs ys))
+-- two parts are equal, from number i on
+module _ (a : Words) (at : ℕ) (b : Words) (from n : ℕ) where
+  abbrev pub equal_from : (i : ℕ) → Bool
+  equal_from i = equal_all (part_from a at n i) (part_from b from n i)
+
+  pub equal-first : equal_all (take n (drop at a)) (take n (drop from b)) ≡ equal_from 0
+  equal-first = ap₂ equal_all (part-first a at n) (part-first b from n)
+
+  module _ (i : ℕ) (h : i < n) (l : at + n ≤ length a) (k : from + n ≤ length b) where
+    equal_next : equal_from i ≡ (equal (get_or a (at + i) (pos 0)) (get_or b (from + i) (pos 0)) && equal_from (i + 1))
+    unfolding equal_all
+    equal_next = ap₂ equal_all (part-next a at n i h l) (part-next b from n i h k)
+
+    pub equal_on : equal (get_or a (at + i) (pos 0)) (get_or b (from + i) (pos 0)) ≡ true → equal_from i ≡ equal_from (i + 1)
+    equal_on q = equal_next ∙ ap (λ (x : Bool). x && equal_from (i + 1)) q
+
+    pub equal_off : equal (get_or a (at + i) (pos 0)) (get_or b (from + i) (pos 0)) ≡ false → equal_from i ≡ false
+    equal_off q = equal_next ∙ ap (λ (x : Bool). x && equal_from (i + 1)) q
+
+  pub equal-last : (i : ℕ) → n ≤ i → equal_from i ≡ true
+  unfolding equal_all
+  equal-last i h = ap₂ equal_all (part-last a at n i h) (part-last b from n i h)

@@ -1,22 +1,36 @@
 -- Signed words of 32 bits: what the machine reads back from their bits, their magnitude, and tests on them.
 use Prim.Native.Nat.{ℕ, suc, ◌+◌, ◌-◌, ◌^◌, ◌<◌}
+use native.Mathlib.Nat.{zero-add}
 use native.Mathlib.Omega.{arith}
 use mathlib.Core.Path.{◌≡◌, refl, sym, ap, ◌∙◌}
 use mathlib.Core.Logic.{⊎_elim}
 use mathlib.Core.Bool.{true, false, true≢false, false≢true, ◌&&◌}
-use lib.Dec.{leb, ltb, eqb, leb-zero}
+use lib.Dec.{T, leb, ltb, eqb, leb-zero}
 use lib.IntN.{ℤ, pos, negsuc, nat_abs, ◌+ℤ◌, ◌-ℤ◌}
-use lib.Signed.{le_z, lt_z}
+use lib.Signed.{le_z, lt_z, non_neg}
 use mir.Syntax.{w32, w64}
 use mir.Val.{SFits, of_z}
 use borrow.Author.Tests.{ltb-true, eqb-true, eqb-false, eq-eqb, ne_eqb, le-ltb}
 use Rattle.model.specs.Words.{at_least, within, below, equal}
 use Rattle.laws.specs.Words.Tests.{decide}
 
--- 0 minus a negative word fits
+-- what is not below 0 is not negative
+pub not_negative : (x : ℤ) → lt_z x (pos 0) ≡ false → T (non_neg x)
+not_negative (pos n) e = tt
+not_negative (negsuc n) e = absurd (true≢false e)
+
+-- 0 minus a negative word: it fits, is not negative, and has the word's magnitude
 pub minus-fits : (x : ℤ) → SFits w32 x → lt_z x (pos 0) ≡ true → SFits w64 (pos 0 -ℤ x)
 minus-fits (pos n) h e = absurd (omega (arith, ltb-true n 0 e))
 minus-fits (negsuc n) h e = record { sfits = omega (arith, h.sfits) }
+
+pub minus-non_neg : (x : ℤ) → lt_z x (pos 0) ≡ true → T (non_neg (pos 0 -ℤ x))
+minus-non_neg (pos n) e = absurd (omega (arith, ltb-true n 0 e))
+minus-non_neg (negsuc n) e = tt
+
+pub minus_abs : (x : ℤ) → lt_z x (pos 0) ≡ true → nat_abs (pos 0 -ℤ x) ≡ nat_abs x
+minus_abs (pos n) e = absurd (omega (arith, ltb-true n 0 e))
+minus_abs (negsuc n) e = zero-add (suc n)
 
 -- a word plus 2 ^ 31 is a number, and fits
 pub raised : (x : ℤ) → SFits w32 x → (y : ℕ) × (x +ℤ pos (2 ^ 31) ≡ pos y) × (y < 2 ^ 32)

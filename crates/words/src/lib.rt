@@ -104,10 +104,16 @@ pub fn is(s: &[i32], i: usize, n: usize) -> bool
     value(s, i) == n
 }
 
-// Whether n words of one slice from an index on are those of another from an index on. A function of its own, for the same reason.
+// Whether n words of one slice from an index on are those of another from an index on. By a loop: the library's test of two slices
+// takes nearly twice as long for tuples whose first words are equal.
 pub fn equal_words(a: &[i32], at: usize, b: &[i32], from: usize, n: usize) -> bool
     requires { (at + n ≤ length a.now) × (from + n ≤ length b.now) }
     ensures { result ≡ W.equal_all (take n (drop at a.now)) (take n (drop from b.now)) }
 {
-    &a[at..at + n] == &b[from..from + n]
+    for i in 0..n {
+        if a[at + i] != b[from + i] {
+            return false;
+        }
+    }
+    true
 }

@@ -1,12 +1,30 @@
--- `words::equal_words` meets its contract: the library's test says whether the words are equal.
-use Rattle.std.proofs.Common.{arith, ◌≡◌, ap₂, ◌∙◌, ◌-◌, ◌+◌, take, drop}
-use Rattle.model.specs.Words.{equal_all}
-use Rattle.words.proofs.PartLaws.{equal-pointwise}
+-- `words::equal_words` meets its contract. The loop's invariant: the words are equal if those from number i on are.
+use Prim.Native.Nat.{◌-◌}
+use native.Mathlib.Omega.{arith}
+use mathlib.Core.Path.{sym, ◌∙◌}
+use borrow.Author.Rules.{rules}
+use Rattle.words.proofs.Signed.{bits-equal, bits-unequal}
+use Rattle.words.proofs.PartLaws.{equal_on, equal_off, equal-last}
 use Rattle.words.proofs.equal_words.Goals as goal
+
+pub returns-then-a-at : goal.returns-then-a-at
+returns-then-a-at c =
+    let a = c.args in
+    sym
+    (c.loop-i.invariant.1 ∙ equal_off a.a.now a.at a.b.now a.from a.n c.loop-i.i
+    c.loop-i-test.true c.requires.0 c.requires.1
+    (bits-unequal _ _ (search rules) (search rules) c.if-a-at.true))
+
+pub loop-i-preserved : goal.loop-i-preserved
+loop-i-preserved c =
+    let a = c.args in (
+      omega arith,
+      c.loop-i.invariant.1 ∙ equal_on a.a.now a.at a.b.now a.from a.n c.loop-i.i
+          c.loop-i-test.true c.requires.0 c.requires.1
+          (bits-equal _ _ (search rules) (search rules) c.if-a-at.false),
+    )
 
 pub returns : goal.returns
 returns c =
     let a = c.args in
-    let n : a.at + a.n - a.at ≡ a.n = omega arith in
-    let m : a.from + a.n - a.from ≡ a.n = omega arith in
-    c.eq.ensures ∙ equal-pointwise _ _ ∙ ap₂ (λ i j. equal_all (take i (drop a.at a.a.now)) (take j (drop a.from a.b.now))) n m
+    sym (c.loop-i.invariant.1 ∙ equal-last a.a.now a.at a.b.now a.from a.n c.loop-i.i c.loop-i-test.false)

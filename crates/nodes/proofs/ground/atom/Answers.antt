@@ -13,7 +13,7 @@ pub returns-in-Some : goal.returns-in-Some
 returns-in-Some c =
     let a = c.args in
     reduces_known a.log.now.table.now a.words.now a.log.now.rows.now a.environment a.scope a.holds a.at
-    _ c.value_at-found.ensures c.in-Some.value c.in-Some.is a.out.now
+    _ c.value_at-found.ensures c.in-Some.value _ c.in-Some.is (grind arith) a.out.now
 
 pub returns-in-None : goal.returns-in-None
 returns-in-None c =
