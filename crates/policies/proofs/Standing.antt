@@ -50,13 +50,16 @@ module _ (table words : Words) (role : Role) (above scope at : ℕ) where
   has tag e c next node =
       subst (λ (t : Tag). Has t c) (sym (e ∙ root_tag table words role above scope at next c node)) (has_root c)
 
--- a node stands below the last level, and within the words
+-- a node stands below the last level, and within the words; so do nodes
 module _ (table words : Words) (role : Role) (above scope at : ℕ) where
   pub low : Here table words role above scope at → above + 1 ≤ 64
   low (c, next, node) = omega (arith, greatest-least c role above, node.levels)
 
   pub inside : Here table words role above scope at → at + 1 ≤ length words
   inside (c, next, node) = omega (arith, encode_nonempty c, node.stands.ends, node.stands.fits)
+
+  pub inside-all : (n : ℕ) → HereAll table words role above scope n at → at ≤ length words
+  inside-all n (ts, next, e, nodes) = omega (arith, nodes.stands.ends, nodes.stands.fits)
 
 -- fewer variables in scope are in scope
 scope-more : (words : Words) (scope first n : ℕ) → scope ≤ 16 → all (in_scope words scope) (places first n) ≡ true → all (in_scope words 16) (places first n) ≡ true

@@ -8,6 +8,7 @@ use Rattle.model.specs.Reading as R
 use Rattle.model.specs.Reading.{repeat, read_node}
 use Rattle.policies.specs.declared.policy.Walked.{Walked}
 use Rattle.model.specs.declared.Refused.{Refused}
+use Rattle.model.specs.declared.Refusal.{Refusal}
 
 -- nodes read, or a refusal
 abbrev pub Told : Type 0
@@ -15,6 +16,11 @@ Told = Result Walked Refused
 
 abbrev pub walked : ℕ → ℕ → Told
 walked next level = Ok (record { next = next; level = level })
+
+-- nodes read, or a refusal with the place where it lies apart
+abbrev pub placed : ℕ → Result Walked Refusal → Told
+placed place (Ok w) = Ok w
+placed place (Err q) = Err (refused_at q place)
 
 -- a node in a role, under a node at the level `above`
 unfoldable pub told : Role → ℕ → Outcome (R.Read Tree) → Told

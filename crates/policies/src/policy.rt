@@ -2,7 +2,7 @@
 ghost use Rattle.std.specs.Prelude.{◌≡◌, ◌≤◌, length};
 ghost use Rattle.model.specs.Reading.{read_policy};
 ghost use Rattle.policies.specs.Node.{as_role};
-ghost use Rattle.policies.specs.Policy.{NodeTold, NodesTold, BothTold, told_policy};
+ghost use Rattle.policies.specs.Policy.{placed, NodeTold, NodesTold, BothTold, told_policy};
 
 use crate::depth::Depth;
 use crate::node;
@@ -17,22 +17,29 @@ pub struct Walked {
     pub level: usize,
 }
 
+// By hand in two things, since each node pays for them. These functions return a refusal's reason alone, and write its place to
+// `place`: a `Refused` has seven bytes between its parts, where the index of a `Walked` lies, and each return would store and load
+// these again in pieces (a check slower by a quarter, where nodes are small). And they take the words and an index: a `Spot` goes by
+// a copy in memory, one for each call, and is made for the questions alone (with one for each call here the stack is a quarter larger).
+
 // n nodes one behind another, in one role.
 #[cycle(children_quantified_walk)]
 fn children(
     table: &[i32],
-    spot: Spot<'_>,
+    words: &[i32],
     role: Role,
     depth: Depth,
     n: usize,
-) -> Result<Walked, Refused>
-    ensures { NodesTold table.now spot.entry.words.now (as_role role) depth.level depth.scope n spot.entry.at result }
+    at: usize,
+    place: &mut usize,
+) -> Result<Walked, Refusal>
+    requires { at ≤ length words.now }
+    ensures { NodesTold table.now words.now (as_role role) depth.level depth.scope n at (placed place.new result) }
 {
-    let Spot { words, at } = spot;
     let mut next = at;
     let mut level = depth.level;
     for _ in 0..n {
-        let child = walk(table, Spot { words, at: next }, role, depth)?;
+        let child = walk(table, words, role, depth, next, place)?;
         next = child.next;
         level = level.max(child.level);
     }
@@ -41,15 +48,18 @@ fn children(
 
 // The restriction of a quantifier, and the body behind it.
 #[cycle(children_quantified_walk)]
-fn quantified(table: &[i32], spot: Spot<'_>, depth: Depth) -> Result<Walked, Refused>
-    ensures { BothTold table.now spot.entry.words.now depth.level depth.scope spot.entry.at result }
+fn quantified(
+    table: &[i32],
+    words: &[i32],
+    depth: Depth,
+    at: usize,
+    place: &mut usize,
+) -> Result<Walked, Refusal>
+    requires { at ≤ length words.now }
+    ensures { BothTold table.now words.now depth.level depth.scope at (placed place.new result) }
 {
-    let restriction = walk(table, spot, Role::Restriction, depth)?;
-    let behind = Spot {
-        words: spot.words,
-        at: restriction.next,
-    };
-    let body = walk(table, behind, Role::Formula, depth)?;
+    let restriction = walk(table, words, Role::Restriction, depth, at, place)?;
+    let body = walk(table, words, Role::Formula, depth, restriction.next, place)?;
     Ok(Walked {
         next: body.next,
         level: restriction.level.max(body.level),
@@ -58,15 +68,30 @@ fn quantified(table: &[i32], spot: Spot<'_>, depth: Depth) -> Result<Walked, Ref
 
 // The node at an index, and the nodes below it.
 #[cycle(children_quantified_walk)]
-fn walk(table: &[i32], spot: Spot<'_>, role: Role, depth: Depth) -> Result<Walked, Refused>
-    ensures { NodeTold table.now spot.entry.words.now (as_role role) depth.level depth.scope spot.entry.at result }
+fn walk(
+    table: &[i32],
+    words: &[i32],
+    role: Role,
+    depth: Depth,
+    at: usize,
+    place: &mut usize,
+) -> Result<Walked, Refusal>
+    requires { at ≤ length words.now }
+    ensures { NodeTold table.now words.now (as_role role) depth.level depth.scope at (placed place.new result) }
 {
-    let Spot { words, at } = spot;
     let tag = node::tag_at(words, at);
-    node::questions(table, spot, tag, role, depth)?;
+    if let Err(Refused(reason, refused)) = node::questions(
+        table,
+        Spot { words, at },
+        tag,
+        role,
+        depth,
+    ) {
+        *place = refused;
+        return Err(reason);
+    }
     let level = depth.level + node::cost(role, tag);
     let next = at + node::size(words, tag, at);
-    let behind = Spot { words, at: next };
     match tag {
         Tag::Join(b) => {
             let n = words::value(words, at + 1);
@@ -74,7 +99,7 @@ fn walk(table: &[i32], spot: Spot<'_>, role: Role, depth: Depth) -> Result<Walke
                 level,
                 scope: depth.scope,
             };
-            children(table, behind, node::under(role, b), below, n)
+            children(table, words, node::under(role, b), below, n, next, place)
         }
         Tag::Quantifier(_) => {
             let v = words::value(words, at + 1);
@@ -82,14 +107,14 @@ fn walk(table: &[i32], spot: Spot<'_>, role: Role, depth: Depth) -> Result<Walke
                 level,
                 scope: depth.scope + v,
             };
-            quantified(table, behind, below)
+            quantified(table, words, below, next, place)
         }
         Tag::Some => {
             let below = Depth {
                 level,
                 scope: depth.scope + 1,
             };
-            walk(table, behind, Role::Restriction, below)
+            walk(table, words, Role::Restriction, below, next, place)
         }
         _ => Ok(Walked { next, level }),
     }
@@ -106,15 +131,11 @@ pub fn ask_policy(table: &[i32], policy: &[i32]) -> Result<Walked, Refused>
     if POLICY_LIMIT < n {
         return Err(Refused(Refusal::PolicyLength, 0));
     }
-    let root = walk(
-        table,
-        Spot {
-            words: policy,
-            at: 0,
-        },
-        Role::Formula,
-        Depth::ROOT,
-    )?;
+    let mut place = 0;
+    let root = match walk(table, policy, Role::Formula, Depth::ROOT, 0, &mut place) {
+        Ok(root) => root,
+        Err(reason) => return Err(Refused(reason, place)),
+    };
     if root.next != n {
         return Err(Refused(Refusal::Shape, root.next));
     }

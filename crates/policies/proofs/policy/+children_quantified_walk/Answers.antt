@@ -12,6 +12,7 @@ use Rattle.laws.specs.Answer.{passed_on}
 use Rattle.laws.specs.Reading.Nodes.{asked}
 use Rattle.tables.specs.Checked.{outcome}
 use Rattle.policies.specs.Node.{as_tag, as_role}
+use Rattle.policies.specs.Policy.{placed}
 use Rattle.policies.specs.declared.node.Tag.{Tag}
 use Rattle.policies.specs.declared.node.Tag.TheVariants.{Plain, Atom, Compare, Join, Quantifier, Some, Unused}
 use Rattle.policies.proofs.PolicyRead.{read_fits, left-first, left-last, left-refused}
@@ -35,25 +36,25 @@ pub children-loop-init : goal.children-loop-init
 children-loop-init t c =
     let s = c.args in (
       search rules,
-      s.spot.within,
+      c.requires,
       search rules,
-      left-first s.table.now s.spot.words.now (as_role s.role) s.depth.level s.depth.scope s.n s.spot.at,
+      left-first s.table.now s.words.now (as_role s.role) s.depth.level s.depth.scope s.n s.at,
     )
 
 pub children-walk-requires : goal.children-walk-requires
-children-walk-requires t c = omega (arith, c.decreases)
+children-walk-requires t c = (omega (arith, c.decreases), c.loop.invariant.1)
 
 pub children-returns-in_err-child : goal.children-returns-in_err-child
 children-returns-in_err-child t c =
     let s = c.args in
     rw (passed_on _ c.from_residual.ensures.1)
-    (left-refused s.table.now s.spot.words.now (as_role s.role) s.depth.level s.depth.scope s.n s.spot.at
+    (left-refused s.table.now s.words.now (as_role s.role) s.depth.level s.depth.scope s.n s.at
     c.loop.counter
     c.loop.next
     c.loop.level
     c.loop.invariant.3
     c.loop-test.true
-    c.in_err-child.was
+    (ap (placed _) c.in_err-child.was)
     c.walk.ensures)
 
 pub children-loop-preserved : goal.children-loop-preserved
@@ -61,23 +62,23 @@ children-loop-preserved t c =
     let s = c.args in
     let l = c.loop in (
       omega (arith, c.loop-test.true),
-      read_fits s.table.now s.spot.words.now (as_role s.role) s.depth.level s.depth.scope l.next c.in_ok-child.was c.walk.ensures,
+      read_fits s.table.now s.words.now (as_role s.role) s.depth.level s.depth.scope l.next (ap (placed _) c.in_ok-child.was) c.walk.ensures,
       omega (arith, c.max-level.ensures, c.loop.invariant.2),
       rw c.max-level.ensures
-          (left-read s.table.now s.spot.words.now (as_role s.role) s.depth.level s.depth.scope s.n s.spot.at
+          (left-read s.table.now s.words.now (as_role s.role) s.depth.level s.depth.scope s.n s.at
           l.counter
           l.next
           l.level
           l.invariant.3
           c.loop-test.true
-          c.in_ok-child.was
+          (ap (placed _) c.in_ok-child.was)
           c.walk.ensures),
     )
 
 pub children-returns : goal.children-returns
 children-returns t c =
     let s = c.args in
-    left-last s.table.now s.spot.words.now (as_role s.role) s.depth.level s.depth.scope s.n s.spot.at
+    left-last s.table.now s.words.now (as_role s.role) s.depth.level s.depth.scope s.n s.at
     c.loop.counter
     c.loop.next
     c.loop.level
@@ -89,119 +90,105 @@ pub quantified-returns-in_err-restriction : goal.quantified-returns-in_err-restr
 quantified-returns-in_err-restriction t c =
     let s = c.args in
     rw (passed_on _ c.from_residual.ensures.1)
-    (restriction-refused s.table.now s.spot.words.now s.depth.level s.depth.scope s.spot.at c.walk.ensures c.in_err-restriction.was)
+    (restriction-refused s.table.now s.words.now s.depth.level s.depth.scope s.at c.walk.ensures (ap (placed _) c.in_err-restriction.was))
 
-pub quantified-invariant_of-behind : goal.quantified-invariant_of-behind
-quantified-invariant_of-behind t c =
-    let s = c.args in
-    record { within = read_fits s.table.now s.spot.words.now restriction s.depth.level s.depth.scope s.spot.at c.in_ok-restriction.was c.walk.ensures }
+pub quantified-walk-requires-2 : goal.quantified-walk-requires-2
+quantified-walk-requires-2 t c =
+    let s = c.args in (
+      omega (arith, c.decreases),
+      read_fits s.table.now s.words.now restriction s.depth.level s.depth.scope s.at (ap (placed _) c.in_ok-restriction.was) c.walk.ensures,
+    )
 
 pub quantified-returns-in_err-body : goal.quantified-returns-in_err-body
 quantified-returns-in_err-body t c =
     let s = c.args in
     rw (passed_on _ c.from_residual-in_err-body.ensures.1)
-    (body_refused s.table.now s.spot.words.now s.depth.level s.depth.scope s.spot.at c.walk.ensures c.in_ok-restriction.was c.walk-2.ensures c.in_err-body.was)
+    (body_refused s.table.now s.words.now s.depth.level s.depth.scope s.at c.walk.ensures (ap (placed _) c.in_ok-restriction.was) c.walk-2.ensures (ap (placed _) c.in_err-body.was))
 
 pub quantified-returns : goal.quantified-returns
 quantified-returns t c =
     let s = c.args in
     rw c.max.ensures
-    (both_read s.table.now s.spot.words.now s.depth.level s.depth.scope s.spot.at c.walk.ensures c.in_ok-restriction.was
+    (both_read s.table.now s.words.now s.depth.level s.depth.scope s.at c.walk.ensures (ap (placed _) c.in_ok-restriction.was)
     c.walk-2.ensures
-    c.in_ok-body.was)
+    (ap (placed _) c.in_ok-body.was))
 
-pub walk-returns-in_err-questions : goal.walk-returns-in_err-questions
-walk-returns-in_err-questions t c =
+pub walk-returns-in-Err : goal.walk-returns-in-Err
+walk-returns-in-Err t c =
     let s = c.args in
-    rw (passed_on _ c.from_residual.ensures.1)
-    (refused-tells s.table.now s.spot.words.now (as_role s.role) s.depth.level s.depth.scope s.spot.at c.args.depth.levels (as_tag c.tag_at-tag.result)
+    refused-tells s.table.now s.words.now (as_role s.role) s.depth.level s.depth.scope s.at c.args.depth.levels (as_tag c.tag_at-tag.result)
     c.tag_at-tag.ensures
-    c.in_err-questions.was
-    c.questions.ensures)
+    c.in-Err.is
+    c.questions.ensures
 
 pub walk-overflow_add-level : goal.walk-overflow_add-level
 walk-overflow_add-level t c =
-    let asks = ap outcome (sym c.in_ok-questions.was) ∙ c.questions.ensures in omega (arith, (asked _ _ _ _ _ _ _ (sym asks)).level, c.cost.ensures)
+    let asks = ap outcome (sym c.in_default.is) ∙ c.questions.ensures in omega (arith, (asked _ _ _ _ _ _ _ (sym asks)).level, c.cost.ensures)
 
 pub walk-size-requires : goal.walk-size-requires
 walk-size-requires t c =
-    let asks = ap outcome (sym c.in_ok-questions.was) ∙ c.questions.ensures in
+    let asks = ap outcome (sym c.in_default.is) ∙ c.questions.ensures in
     let s = c.args in
-    fits-there s.spot.words.now (as_tag c.tag_at-tag.result) (as_role s.role) s.depth.scope s.spot.at (asked _ _ _ _ _ _ _ (sym asks)).fits
+    fits-there s.words.now (as_tag c.tag_at-tag.result) (as_role s.role) s.depth.scope s.at (asked _ _ _ _ _ _ _ (sym asks)).fits
 
 pub walk-overflow_add-next : goal.walk-overflow_add-next
 walk-overflow_add-next t c =
-    let node = entered c.args.depth.levels c.tag_at-tag.ensures c.in_ok-questions.was c.questions.ensures c.cost.ensures c.size.ensures in
+    let node = entered c.args.depth.levels c.tag_at-tag.ensures c.in_default.is c.questions.ensures c.cost.ensures c.size.ensures in
     omega (arith, next_fits node)
 
 pub walk-invariant_of-below : goal.walk-invariant_of-below
 walk-invariant_of-below t c =
-    let node = entered c.args.depth.levels c.tag_at-tag.ensures c.in_ok-questions.was c.questions.ensures c.cost.ensures c.size.ensures in
+    let node = entered c.args.depth.levels c.tag_at-tag.ensures c.in_default.is c.questions.ensures c.cost.ensures c.size.ensures in
     record { levels = level-fits node; scopes = c.args.depth.scopes }
 
 pub walk-children-requires : goal.walk-children-requires
 walk-children-requires t c =
-    let node = entered c.args.depth.levels c.tag_at-tag.ensures c.in_ok-questions.was c.questions.ensures c.cost.ensures c.size.ensures in
-    omega (arith, level_down node, level-fits node, c.decreases)
+    let node = entered c.args.depth.levels c.tag_at-tag.ensures c.in_default.is c.questions.ensures c.cost.ensures c.size.ensures in
+    (omega (arith, level_down node, level-fits node, c.decreases), next_fits node)
 
 pub walk-overflow_add-below : goal.walk-overflow_add-below
 walk-overflow_add-below t c =
-    let node = entered c.args.depth.levels c.tag_at-tag.ensures c.in_ok-questions.was c.questions.ensures c.cost.ensures c.size.ensures in
+    let node = entered c.args.depth.levels c.tag_at-tag.ensures c.in_default.is c.questions.ensures c.cost.ensures c.size.ensures in
     omega (arith, quantifier-range node (ap as_tag c.in-Quantifier.is), c.value-v.ensures)
 
 pub walk-invariant_of-below-in-Quantifier : goal.walk-invariant_of-below-in-Quantifier
 walk-invariant_of-below-in-Quantifier t c =
-    let node = entered c.args.depth.levels c.tag_at-tag.ensures c.in_ok-questions.was c.questions.ensures c.cost.ensures c.size.ensures in record {
+    let node = entered c.args.depth.levels c.tag_at-tag.ensures c.in_default.is c.questions.ensures c.cost.ensures c.size.ensures in record {
       levels = level-fits node;
       scopes = omega (arith, quantifier-range node (ap as_tag c.in-Quantifier.is), c.value-v.ensures);
     }
 
 pub walk-quantified-requires : goal.walk-quantified-requires
 walk-quantified-requires t c =
-    let node = entered c.args.depth.levels c.tag_at-tag.ensures c.in_ok-questions.was c.questions.ensures c.cost.ensures c.size.ensures in
-    omega (arith, level_down node, level-fits node, c.decreases)
+    let node = entered c.args.depth.levels c.tag_at-tag.ensures c.in_default.is c.questions.ensures c.cost.ensures c.size.ensures in
+    (omega (arith, level_down node, level-fits node, c.decreases), next_fits node)
 
 pub walk-invariant_of-below-in-Some : goal.walk-invariant_of-below-in-Some
 walk-invariant_of-below-in-Some t c =
-    let node = entered c.args.depth.levels c.tag_at-tag.ensures c.in_ok-questions.was c.questions.ensures c.cost.ensures c.size.ensures in
+    let node = entered c.args.depth.levels c.tag_at-tag.ensures c.in_default.is c.questions.ensures c.cost.ensures c.size.ensures in
     record { levels = level-fits node; scopes = some-range node (ap as_tag c.in-Some.is) }
 
 pub walk-walk-requires : goal.walk-walk-requires
 walk-walk-requires t c =
-    let node = entered c.args.depth.levels c.tag_at-tag.ensures c.in_ok-questions.was c.questions.ensures c.cost.ensures c.size.ensures in
-    omega (arith, level_down node, level-fits node, c.decreases)
+    let node = entered c.args.depth.levels c.tag_at-tag.ensures c.in_default.is c.questions.ensures c.cost.ensures c.size.ensures in
+    (omega (arith, level_down node, level-fits node, c.decreases), next_fits node)
 
 pub walk-returns-in-Join : goal.walk-returns-in-Join
 walk-returns-in-Join t c =
-    let node = entered c.args.depth.levels c.tag_at-tag.ensures c.in_ok-questions.was c.questions.ensures c.cost.ensures c.size.ensures in
+    let node = entered c.args.depth.levels c.tag_at-tag.ensures c.in_default.is c.questions.ensures c.cost.ensures c.size.ensures in
     join-tells node (ap as_tag c.in-Join.is) c.under.ensures c.value-n.ensures c.children.ensures
 
 pub walk-returns-in-Quantifier : goal.walk-returns-in-Quantifier
 walk-returns-in-Quantifier t c =
-    let node = entered c.args.depth.levels c.tag_at-tag.ensures c.in_ok-questions.was c.questions.ensures c.cost.ensures c.size.ensures in
+    let node = entered c.args.depth.levels c.tag_at-tag.ensures c.in_default.is c.questions.ensures c.cost.ensures c.size.ensures in
     quantifier-tells node (ap as_tag c.in-Quantifier.is) (ap (λ (n : ℕ). c.args.depth.scope + n) c.value-v.ensures) c.quantified.ensures
 
 pub walk-returns-in-Some : goal.walk-returns-in-Some
 walk-returns-in-Some t c =
-    let node = entered c.args.depth.levels c.tag_at-tag.ensures c.in_ok-questions.was c.questions.ensures c.cost.ensures c.size.ensures in
+    let node = entered c.args.depth.levels c.tag_at-tag.ensures c.in_default.is c.questions.ensures c.cost.ensures c.size.ensures in
     some-tells node (ap as_tag c.in-Some.is) c.walk.ensures
 
-pub walk-returns-in_default : goal.walk-returns-in_default
-walk-returns-in_default t c =
-    let node = entered c.args.depth.levels c.tag_at-tag.ensures c.in_ok-questions.was c.questions.ensures c.cost.ensures c.size.ensures in
-    leaf-tells node (leaf c.tag_at-tag.result (c.in_default.not-Join, c.in_default.not-Quantifier, c.in_default.not-Some))
-
-pub walk-invariant_of-behind : goal.walk-invariant_of-behind
-walk-invariant_of-behind t c =
-    let node = entered c.args.depth.levels c.tag_at-tag.ensures c.in_ok-questions.was c.questions.ensures c.cost.ensures c.size.ensures in
-    record { within = next_fits node }
-
-pub walk-invariant_of-behind-in-Quantifier : goal.walk-invariant_of-behind-in-Quantifier
-walk-invariant_of-behind-in-Quantifier t c =
-    let node = entered c.args.depth.levels c.tag_at-tag.ensures c.in_ok-questions.was c.questions.ensures c.cost.ensures c.size.ensures in
-    record { within = next_fits node }
-
-pub walk-invariant_of-behind-in-Some : goal.walk-invariant_of-behind-in-Some
-walk-invariant_of-behind-in-Some t c =
-    let node = entered c.args.depth.levels c.tag_at-tag.ensures c.in_ok-questions.was c.questions.ensures c.cost.ensures c.size.ensures in
-    record { within = next_fits node }
+pub walk-returns-in_default-tag : goal.walk-returns-in_default-tag
+walk-returns-in_default-tag t c =
+    let node = entered c.args.depth.levels c.tag_at-tag.ensures c.in_default.is c.questions.ensures c.cost.ensures c.size.ensures in
+    leaf-tells node (leaf c.tag_at-tag.result (c.in_default-tag.not-Join, c.in_default-tag.not-Quantifier, c.in_default-tag.not-Some))

@@ -19,6 +19,6 @@ decreases-walk l = 130 - 2 * l.depth.level
 abbrev pub invariant-children-loop : goal.invariant-children-loop
 invariant-children-loop l =
     (l.counter ≤ l.n)
-    × (l.next ≤ length l.spot.words.now)
+    × (l.next ≤ length l.words)
     × (l.depth.level ≤ l.level)
-    × Left l.table l.spot.words.now (as_role l.role) l.depth.level l.depth.scope l.n l.spot.at l.counter l.next l.level
+    × Left l.table l.words (as_role l.role) l.depth.level l.depth.scope l.n l.at l.counter l.next l.level
