@@ -1,9 +1,11 @@
 -- Laws for the writing of texts one behind another.
-use Prim.Native.Nat.{ℕ, ◌≤◌}
+use Prim.Native.Nat.{ℕ, ◌+◌, ◌≤◌, ◌<◌}
 use native.Mathlib.Omega.{arith}
 use mathlib.Core.Path.{◌≡◌, refl, sym, ap, ◌∙◌, subst}
 use mathlib.Core.List.{[], ◌++◌, append_assoc, append-nil}
-use lib.ListN.{length, take, length-append}
+use native.Mathlib.Numerals.{add-one}
+use lib.ListN.{length, take, set, get_or, length-append}
+use lib.Seq.{paste, paste-zero, paste-suc, take-paste, take-length}
 use borrow.Author.Tests.{le-leb, lt-leb}
 use Rattle.model.specs.Bytes.{Text}
 use Rattle.std.specs.Prelude.{Option, Some, None}
@@ -13,6 +15,33 @@ use Rattle.std.specs.Borrow.{MutBor}
 use Rattle.text.specs.Put.{Puts, told, Writes}
 use Rattle.text.specs.Adds.{PutsBehind, Adds, Begins}
 use Rattle.text.specs.declared.writer.Writer.{Writer}
+
+-- the first bytes of a text are copied to an index
+pub record Copied (old : Text) (at : ℕ) (text out : Text) (i : ℕ) : Type 0 where
+  pub few : i ≤ length text
+  pub is : out ≡ paste old at text i
+
+module _ {old : Text} {at : ℕ} {text : Text} where
+  pub copied_none : Copied old at text old 0
+  copied_none = record { few = omega arith; is = paste-zero old at text }
+
+  module _ {out : Text} {i : ℕ} (c : Copied old at text out i) (room : at + length text ≤ length old) where
+    pub copied_more : (b : ℕ) → i < length text → b ≡ get_or text i 0 → Copied old at text (set out (at + i) b) (i + 1)
+    copied_more b h e = record {
+      few = omega arith;
+      is =
+          ap (λ (x : ℕ). set out (at + i) x) e
+          ∙ ap (λ (l : Text). set l (at + i) (get_or text i 0)) c.is
+          ∙ paste-suc old at text i 0 (omega arith) h
+          ∙ ap (paste old at text) (sym (add-one i));
+    }
+
+    pub copied_all : length text ≤ i → take (at + length text) out ≡ take at old ++ text
+    copied_all h =
+        let all : i ≡ length text = omega (arith, c.few) in
+        ap (take (at + length text)) (c.is ∙ ap (paste old at text) all)
+        ∙ take-paste old at text (length text) (omega arith) (omega arith)
+        ∙ ap (λ (l : Text). take at old ++ l) (take-length text)
 
 -- the same text
 pub adds_is : {a b : Text} {w w' : Writer} → b ≡ a → Adds a w w' → Adds b w w'
@@ -39,6 +68,25 @@ adds_then {a} {b} {w₁} {w₂} {w₃} h k = record {
   long = k.long ∙ h.long;
   puts = puts-both a b w₁.put w₁.out.now w₂.out.now w₃.out.now w₂.put w₃.put h.puts h.long k.puts;
 }
+
+-- a text that a writer put from an index on, in a buffer that it has left
+pub puts_from :
+    {text out' : Text} {at : ℕ} {w w' : Writer} → Adds text w w' → w.put ≡ Some at → out' ≡ w'.out.now → Puts text at w.out.now out' w'.put
+puts_from {text} {out'} {at} {w} {w'} h e left = rw left (rw e at h.puts)
+
+-- so it is what a writer puts that stands there
+pub adds_from :
+    {text : Text} {at : ℕ} {w w' : Writer} → Puts text at w.out.now w'.out.now w'.put → w.put ≡ Some at →
+    w'.out.ghost_name ≡ w.out.ghost_name →
+    length w'.out.now ≡ length w.out.now →
+    Adds text w w'
+adds_from {text} {at} {w} {w'} h e same long = record { same = same; long = long; puts = rw e h }
+
+pub puts_fit :
+    (text : Text) (at : ℕ) (out out' : Text) (put : Option ℕ) → Puts text at out out' put → length out' ≡ length out →
+    ForSome put (λ next. next ≤ length out')
+puts_fit text at out out' None h long = λ n e. absurd (none-some n e)
+puts_fit text at out out' (Some next) h long = λ n e. let same : n ≡ next = cc in omega (arith, h.fits)
 
 -- nothing more
 pub adds_none : (w : Writer) → Adds [] w w

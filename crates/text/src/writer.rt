@@ -1,5 +1,5 @@
 // What is written of a text, one part behind another, into a buffer that may be too short.
-ghost use Rattle.std.specs.Prelude.{◌≤◌, length};
+ghost use Rattle.std.specs.Prelude.{◌≡◌, ◌+◌, ◌++◌, ◌≤◌, length, take};
 ghost use Rattle.std.specs.Option.{ForSome};
 
 use crate::writing;
@@ -12,8 +12,20 @@ pub struct Writer<'a> {
     ghost fits: { ForSome put (λ at. at ≤ length out.now) },
 }
 
+// Bytes at an index of a text. By hand, and inlined at each call, since the texts there are short and of a known length: by a
+// `copy_from_slice` an excluded tuple took half as long again, and the archive for C needed `memcpy`.
+#[inline(always)]
+fn put_bytes(out: &mut [u8], at: usize, bytes: &[u8])
+    requires { at + length bytes.now ≤ length out.old }
+    ensures { take (at + length bytes.now) out.new ≡ take at out.old ++ bytes.now }
+{
+    for i in 0..bytes.len() {
+        out[at + i] = bytes[i];
+    }
+}
+
 impl<'a> Writer<'a> {
-    ghost use Rattle.std.specs.Prelude.{◌≡◌, Some, cond};
+    ghost use Rattle.std.specs.Prelude.{Some, cond};
     ghost use Rattle.model.specs.Words.{word};
     ghost use Rattle.model.specs.Decimal.{digits, decimal};
     ghost use Rattle.text.specs.Adds.{Adds, Begins};
@@ -26,6 +38,7 @@ impl<'a> Writer<'a> {
     }
 
     // Bytes as they are.
+    #[inline(always)]
     pub fn bytes(&mut self, bytes: &[u8])
         ensures { Adds bytes.now self.old self.new }
     {
@@ -37,15 +50,20 @@ impl<'a> Writer<'a> {
             self.put = None;
             return;
         }
-        self.out[at..next].copy_from_slice(bytes);
+        put_bytes(self.out, at, bytes);
         self.put = Some(next);
     }
 
     // One of two texts.
+    #[inline(always)]
     pub fn either(&mut self, first: bool, yes: &[u8], no: &[u8])
         ensures { Adds (cond first yes.now no.now) self.old self.new }
     {
-        self.bytes(if first { yes } else { no });
+        if first {
+            self.bytes(yes);
+        } else {
+            self.bytes(no);
+        }
     }
 
     // A number that is not negative.

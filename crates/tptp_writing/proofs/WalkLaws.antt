@@ -142,13 +142,12 @@ module _
         ap (λ (t : Tree). node_text true t scope) q.is
         ∙ quantifier-text every v scope m q.excluded.list q.restricts.tree q.body.tree q.number
 
+    -- there was no room for its restriction
     pub quantifier-full :
-        {w : Writer} → Adds (head_text every scope v (eqb m 0)) w w₁ → r₁ ≡ None → Prints (node_text true h.tree scope) h.next w w₂ None
-    quantifier-full head e =
-        let node = one q.restricts in
-        let full = node.full e in
+        {w : Writer} → Adds (head_text every scope v (eqb m 0)) w w₁ → w₂.put ≡ None → Prints (node_text true h.tree scope) h.next w w₂ None
+    quantifier-full head full =
         prints_full h.next
-        (adds_is (whole ∙ sym (append_assoc (head_text every scope v (eqb m 0)) _ _)) (adds_short _ (adds_then head node.adds) full))
+        (adds_is (whole ∙ sym (append_assoc (head_text every scope v (eqb m 0)) _ _)) (adds_short _ (adds_then head (one q.restricts).adds) full))
         full
 
     module _ {body : ℕ} (found : r₁ ≡ Some body) where

@@ -113,6 +113,8 @@ fn quantifier(
         scope: depth.scope + v,
     };
     let body = node(words, w, false, below, first)?;
+    // Behind a full text the excluded tuples are not gone over.
+    w.put?;
     tuples::put_tuples(w, &words[at + 3..first], v, depth.scope);
     w.either(every, b"=>", b"&");
     let next = node(words, w, false, below, body);

@@ -201,9 +201,15 @@ pub quantifier-returns-in_err-body : goal.quantifier-returns-in_err-body
 quantifier-returns-in_err-body t c =
     let a = c.args in
     λ h.
-    rw c.from_residual.ensures
-    (quantifier-full (quantified a.words.now a.depth.level a.depth.scope a.at h a.every _ _ _ c.requires.0 c.value-v.ensures c.value-m.ensures refl)
-    c.node.ensures c.put_head.ensures c.in_err-body.was)
+    let q = quantified a.words.now a.depth.level a.depth.scope a.at h a.every _ _ _ c.requires.0 c.value-v.ensures c.value-m.ensures refl in
+    rw c.from_residual.ensures (quantifier-full q c.node.ensures c.put_head.ensures ((c.node.ensures q.restricts).full c.in_err-body.was))
+
+pub quantifier-returns-in_err-w : goal.quantifier-returns-in_err-w
+quantifier-returns-in_err-w t c =
+    let a = c.args in
+    λ h.
+    let q = quantified a.words.now a.depth.level a.depth.scope a.at h a.every _ _ _ c.requires.0 c.value-v.ensures c.value-m.ensures refl in
+    rw c.from_residual-in_err-w.ensures (quantifier-full q c.node.ensures c.put_head.ensures c.in_err-w.was)
 
 pub quantifier-returns : goal.quantifier-returns
 unfolding bytes
