@@ -22,7 +22,7 @@ use Rattle.model.specs.declared.Refusal.TheVariants.{Tptp}
 use Rattle.laws.specs.Words.Tests.{decide}
 use Rattle.laws.specs.Answer.{refused-passed, passed-same}
 use Rattle.text.specs.declared.cursor.Cursor.{Cursor}
-use Rattle.tptp_tokens.specs.Steps.{from, Reads, Steps}
+use Rattle.tptp_tokens.specs.Steps.{from, Reads, Skips, Steps}
 use Rattle.tptp_binders.specs.Ahead.{stopping, StopsBehind, StopsAt, Foretells, begins}
 use Rattle.tptp_tokens.proofs.TokenLaws.{here, over}
 
@@ -95,6 +95,23 @@ blanks-rest (b ∷ t) p =
     (λ e. rw e (blanks-rest t _))
     (λ e. rw e (p, refl))
     (decide (blank b))
+
+-- behind blanks a text begins as the place there
+pub begins-there : (old new : Cursor) → Skips old new → (c : ℕ) → begins c old.rest.now ≡ begins_with c new.rest.now
+unfolding begins
+begins-there old new s c =
+    ap (λ (g : Got (Unit {0})). begins_with c g.rest) (passed-same (sym (blanks-rest old.rest.now old.at).1 ∙ s.reads.reads))
+
+-- of what begins as no quantifier nothing is told
+pub untold :
+    (old new : Cursor) → Skips old new → (a b : Bool) → a ≡ begins_with 33 new.rest.now → b ≡ begins_with 63 new.rest.now →
+    (a || b) ≡ false → (r : Bool) → Foretells old.rest.now r
+untold old new s a b all exists neither r = record {
+  tells = λ yes.
+      let none : (begins 33 old.rest.now || begins 63 old.rest.now) ≡ false =
+      rw (begins-there old new s 33, begins-there old new s 63, sym all, sym exists) neither in
+      cc;
+}
 
 -- a token of one byte is read if the text begins with it
 module _ (c : ℕ) where

@@ -5,6 +5,7 @@ use mathlib.Core.Path.{◌≡◌, refl, sym, ap, ◌∙◌}
 use mathlib.Core.Bool.{Bool, true, false, cond}
 use mathlib.Core.List.{[], ◌∷◌, ◌++◌}
 use lib.ListN.{length, take}
+use borrow.Author.Tests.{lt-ltb}
 use Rattle.model.specs.Bytes.{Text, bytes, comma}
 use Rattle.model.specs.Answer.{Outcome, passed, refused}
 use Rattle.model.specs.Decimal.{digits}
@@ -27,6 +28,11 @@ never-full x word l h = let few = digits-few 10 x in omega arith
 pub variable-word : (x n : ℕ) (word word' : Text) → take 1 word ≡ 88 ∷ [] → Wrote (digits 10 x) 1 word word' n → take n word' ≡ variable_token x
 unfolding variable_token bytes
 variable-word x n word word' e w = w.stands ∙ ap (λ (t : Text). t ++ digits 10 x) e
+
+-- a number below ten is one digit
+pub variable-short : (x : ℕ) → x < 10 → 88 ∷ (48 + x) ∷ [] ≡ variable_token x
+unfolding variable_token bytes digits
+variable-short x h = rw (lt-ltb x 10 h) refl
 
 -- what is left of the variables of a binder behind the first of them
 unfoldable pub others : ℕ → ℕ → Reader ℕ

@@ -5,7 +5,7 @@ ghost use Rattle.model.specs.TptpReading.{begins_with, begins_tuple, begins_excl
 ghost use Rattle.tptp_binders.specs.Ahead.{StopsBehind, StopsAt, Foretells, begins};
 
 use text::cursor::Cursor;
-use tptp_tokens::tokens::expect;
+use tptp_tokens::tokens::{expect, skip};
 
 // How many bytes stand before the first connective or closing parenthesis outside the parentheses opened in them: all, if there is none.
 fn stop_index(rest: &[u8]) -> usize
@@ -49,7 +49,9 @@ pub fn stands(here: &Cursor<'_>, c: u8) -> bool
 pub fn under_all(here: &Cursor<'_>) -> bool
     ensures { Foretells here.now.rest.now result }
 {
-    if !(begins(here, 33) | begins(here, 63)) {
+    let mut first = *here;
+    skip(&mut first);
+    if !(stands(&first, 33) | stands(&first, 63)) {
         return true;
     }
     stands(&stop(here), 38)

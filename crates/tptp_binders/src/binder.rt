@@ -24,10 +24,14 @@ fn named(here: &mut Cursor<'_>, word: &mut [u8], x: usize) -> Result<(), Refusal
     token(here, &word[..n])
 }
 
-// The token of a variable.
+// The token of a variable. One of one digit needs no room for its name, by hand: with the room, excluded tuples took a quarter more time.
+#[inline(always)]
 pub fn variable(here: &mut Cursor<'_>, x: usize) -> Result<(), Refusal>
     ensures { Steps (R.token (variable_token x)) here.old here.new result }
 {
+    if x < 10 {
+        return token(here, &[88, bytes::NOUGHT + x as u8]);
+    }
     let mut word = [88; 11];
     named(here, &mut word, x)
 }

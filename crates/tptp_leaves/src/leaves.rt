@@ -23,7 +23,12 @@ pub fn either(b: bool, x: usize, y: usize) -> usize
 }
 
 // An atom that holds, or fails.
-fn atom(here: &mut Cursor<'_>, room: usize, holds: bool, own: &mut Own<'_>) -> Result<(), Refusal>
+fn predicate(
+    here: &mut Cursor<'_>,
+    room: usize,
+    holds: bool,
+    own: &mut Own<'_>,
+) -> Result<(), Refusal>
     ensures kept { Kept own.old own.new }
     ensures reads { Valued (R.read_atom room holds) (L.LeafStands own.new.words.now) here.old here.new result }
 {
@@ -36,8 +41,19 @@ fn atom(here: &mut Cursor<'_>, room: usize, holds: bool, own: &mut Own<'_>) -> R
     expect(here, 41)
 }
 
+// The same, read from a copy of the place, which stays in registers: stored at each token, it cost a fifth more time.
+fn atom(here: &mut Cursor<'_>, room: usize, holds: bool, own: &mut Own<'_>) -> Result<(), Refusal>
+    ensures kept { Kept own.old own.new }
+    ensures reads { Valued (R.read_atom room holds) (L.LeafStands own.new.words.now) here.old here.new result }
+{
+    let mut now = *here;
+    let read = predicate(&mut now, room, holds, own);
+    *here = now;
+    read
+}
+
 // A comparison, or its negation, behind its name.
-fn compare(
+fn comparison(
     here: &mut Cursor<'_>,
     room: usize,
     holds: bool,
@@ -57,6 +73,22 @@ fn compare(
     expect(here, bytes::COMMA)?;
     own.put_term(4, term(here)?);
     expect(here, 41)
+}
+
+// The same, read from a copy of the place as an atom is.
+fn compare(
+    here: &mut Cursor<'_>,
+    room: usize,
+    holds: bool,
+    own: &mut Own<'_>,
+) -> Result<(), Refusal>
+    ensures kept { Kept own.old own.new }
+    ensures reads { Valued (R.read_compare room holds) (L.LeafStands own.new.words.now) here.old here.new result }
+{
+    let mut now = *here;
+    let read = comparison(&mut now, room, holds, own);
+    *here = now;
+    read
 }
 
 // Plain true or false, whose bytes stand here.

@@ -20,6 +20,7 @@ pub struct TermWords {
 }
 
 // A variable, whose letter was passed.
+#[inline(always)]
 fn variable(here: &mut Cursor<'_>) -> Result<TermWords, Refusal>
     ensures { T.TermRead T.read_variable here.old here.new result }
 {
@@ -31,6 +32,7 @@ fn variable(here: &mut Cursor<'_>) -> Result<TermWords, Refusal>
 }
 
 // A constant.
+#[inline(always)]
 fn constant(here: &mut Cursor<'_>) -> Result<TermWords, Refusal>
     ensures { T.TermRead T.read_constant here.old here.new result }
 {
@@ -39,6 +41,7 @@ fn constant(here: &mut Cursor<'_>) -> Result<TermWords, Refusal>
 }
 
 // A term, behind blanks.
+#[inline(always)]
 pub fn term(here: &mut Cursor<'_>) -> Result<TermWords, Refusal>
     ensures { T.TermRead R.term here.old here.new result }
 {

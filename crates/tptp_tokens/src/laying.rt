@@ -56,6 +56,7 @@ pub fn lay_three(out: &mut [i32], w: usize, tag: usize, v: usize, m: usize)
 }
 
 // A number, which becomes the word at an index.
+#[inline(always)]
 pub fn lay_integer(here: &mut Cursor<'_>, out: &mut [i32], w: usize) -> Result<(), Refusal>
     ensures { Valued R.integer (L.Stored w out.old out.new) here.old here.new result }
 {

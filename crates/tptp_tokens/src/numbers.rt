@@ -9,6 +9,7 @@ use text::cursor::Cursor;
 use text::word::signed;
 
 // Further digits of a number, up to the most.
+#[inline(always)]
 fn more_digits(here: &mut Cursor<'_>, most: usize, first: usize) -> Result<usize, Refusal>
     requires { (first ≤ most) × (most < 2 ^ 32) }
     ensures { N.More most first here.old here.new result }
@@ -34,6 +35,7 @@ fn more_digits(here: &mut Cursor<'_>, most: usize, first: usize) -> Result<usize
 
 // A number up to the most, of whose digits the first is at least this one. By hand, since the library's `parse` takes a 0 in front and does
 // not tell where it refuses.
+#[inline(always)]
 fn number(here: &mut Cursor<'_>, least: u8, most: usize) -> Result<usize, Refusal>
     requires { (48 ≤ least) × (9 ≤ most) × (most < 2 ^ 32) }
     ensures { N.Numbers least most here.old here.new result }
@@ -48,6 +50,7 @@ fn number(here: &mut Cursor<'_>, least: u8, most: usize) -> Result<usize, Refusa
 }
 
 // The number of a predicate or a variable.
+#[inline(always)]
 pub fn natural(here: &mut Cursor<'_>) -> Result<usize, Refusal>
     ensures { N.Naturals here.old here.new result }
 {
@@ -55,6 +58,7 @@ pub fn natural(here: &mut Cursor<'_>) -> Result<usize, Refusal>
 }
 
 // The digits behind a minus. A function of its own, since the proof of `integer` cites its contract.
+#[inline(always)]
 fn magnitude(here: &mut Cursor<'_>) -> Result<usize, Refusal>
     ensures { N.Magnitudes here.old here.new result }
 {
@@ -62,6 +66,7 @@ fn magnitude(here: &mut Cursor<'_>) -> Result<usize, Refusal>
 }
 
 // A number, behind blanks.
+#[inline(always)]
 pub fn integer(here: &mut Cursor<'_>) -> Result<i32, Refusal>
     ensures { N.Integers here.old here.new result }
 {

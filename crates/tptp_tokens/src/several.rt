@@ -6,6 +6,7 @@ use model::Refusal;
 use text::cursor::Cursor;
 
 // Whether one more of them follows, behind this byte, which is passed then.
+#[inline(always)]
 pub fn another(here: &mut Cursor<'_>, c: u8) -> Result<bool, Refusal>
     ensures { AnotherRead c here.old here.new result }
 {

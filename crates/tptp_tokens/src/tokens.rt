@@ -1,4 +1,6 @@
 // Tokens of a text, with blanks before them. Each reading passes what it reads; one that is refused stops where its refusal has its place.
+// What is read for each token is put into its callers by a hint, also in the other modules: so the copy of a place that a caller reads from
+// stays in registers. As calls, that store the place in memory, the readings took a third more time for excluded tuples.
 ghost use Rattle.std.specs.Prelude.{◌≡◌, [], ◌∷◌};
 ghost use Rattle.model.specs.Bytes.{blank};
 ghost use Rattle.model.specs.TptpReading as R;
@@ -16,6 +18,7 @@ fn is_blank(b: u8) -> bool
 }
 
 // Blanks, as many as there are.
+#[inline(always)]
 pub fn skip(here: &mut Cursor<'_>)
     ensures { Skips here.old here.new }
 {
@@ -23,6 +26,7 @@ pub fn skip(here: &mut Cursor<'_>)
 }
 
 // A token of one byte.
+#[inline(always)]
 pub fn expect(here: &mut Cursor<'_>, c: u8) -> Result<(), Refusal>
     ensures { Steps (R.token (c ∷ [])) here.old here.new result }
 {
@@ -35,6 +39,7 @@ pub fn expect(here: &mut Cursor<'_>, c: u8) -> Result<(), Refusal>
 }
 
 // These bytes, right here.
+#[inline(always)]
 pub fn literal(here: &mut Cursor<'_>, word: &[u8]) -> Result<(), Refusal>
     ensures { Steps (R.literal word.now) here.old here.new result }
 {
@@ -49,7 +54,8 @@ pub fn literal(here: &mut Cursor<'_>, word: &[u8]) -> Result<(), Refusal>
     Ok(())
 }
 
-// A token of these bytes.
+// A token of these bytes. The hint is a weaker one: in the header of a text its loop over blanks stays a call.
+#[inline]
 pub fn token(here: &mut Cursor<'_>, word: &[u8]) -> Result<(), Refusal>
     ensures { Steps (R.token word.now) here.old here.new result }
 {
@@ -58,6 +64,7 @@ pub fn token(here: &mut Cursor<'_>, word: &[u8]) -> Result<(), Refusal>
 }
 
 // An opening parenthesis, with room for so many more.
+#[inline(always)]
 pub fn opening(here: &mut Cursor<'_>, room: usize) -> Result<(), Refusal>
     ensures { Steps (R.opening room) here.old here.new result }
 {

@@ -1,4 +1,4 @@
--- `tptp_leaves::leaves::atom` meets its contract.
+-- `tptp_leaves::leaves::predicate` meets its contract.
 use mathlib.Core.List.{[], ◌∷◌}
 use Rattle.model.specs.Bytes.{bytes}
 use Rattle.model.specs.Tree.{atom}
@@ -9,7 +9,7 @@ use Rattle.tptp_tokens.proofs.MovedLaws.{further}
 use Rattle.tptp_tokens.proofs.BehindLaws.{closed_from}
 use Rattle.tptp_leaves.proofs.TermLaws.{kept-further}
 use Rattle.tptp_leaves.proofs.LeafLaws.{atom-stands}
-use Rattle.tptp_leaves.proofs.leaves.atom.Goals as goal
+use Rattle.tptp_leaves.proofs.leaves.predicate.Goals as goal
 
 pub returns-in_err-expect : goal.returns-in_err-expect
 unfolding read_atom bytes ◌>>=◌ onwards

@@ -1,8 +1,8 @@
--- `tptp_binders::tuples::tuples` meets its contract. The loop's invariant: so many tuples were read and laid.
+-- `tptp_binders::tuples::listed` meets its contract. The loop's invariant: so many tuples were read and laid.
 use native.Mathlib.Omega.{arith}
 use Rattle.laws.specs.Answer.{passed_on}
 use Rattle.tptp_binders.proofs.TuplesLaws.{tupling_none, tupling_refused, tupling_stop, tupling_stuck, tupling_more}
-use Rattle.tptp_binders.proofs.tuples.tuples.Goals as goal
+use Rattle.tptp_binders.proofs.tuples.listed.Goals as goal
 
 pub loop-here-init : goal.loop-here-init
 loop-here-init c =

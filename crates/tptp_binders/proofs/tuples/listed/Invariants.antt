@@ -1,7 +1,7 @@
--- `tptp_binders::tuples::tuples` meets its contract. The loop's invariant: so many tuples were read and laid.
+-- `tptp_binders::tuples::listed` meets its contract. The loop's invariant: so many tuples were read and laid.
 use lib.ListN.{length}
 use Rattle.tptp_binders.proofs.TuplesLaws.{Tupling}
-use Rattle.tptp_binders.proofs.tuples.tuples.Given as goal
+use Rattle.tptp_binders.proofs.tuples.listed.Given as goal
 
 abbrev pub invariant-loop-here : goal.invariant-loop-here
 invariant-loop-here l = Tupling l.room l.v l.x l.w l.fn.here l.here l.fn.out l.out l.count l.to

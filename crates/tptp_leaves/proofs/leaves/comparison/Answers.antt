@@ -1,4 +1,4 @@
--- `tptp_leaves::leaves::compare` meets its contract.
+-- `tptp_leaves::leaves::comparison` meets its contract.
 use mathlib.Core.Path.{◌≡◌, sym}
 use mathlib.Core.List.{[], ◌∷◌}
 use Rattle.std.proofs.Common.{rules, to_z, of_z, w32}
@@ -11,7 +11,7 @@ use Rattle.tptp_tokens.proofs.MovedLaws.{further}
 use Rattle.tptp_tokens.proofs.BehindLaws.{closed_from}
 use Rattle.tptp_leaves.proofs.TermLaws.{kept-further}
 use Rattle.tptp_leaves.proofs.LeafLaws.{compare-stands}
-use Rattle.tptp_leaves.proofs.leaves.compare.Goals as goal
+use Rattle.tptp_leaves.proofs.leaves.comparison.Goals as goal
 
 pub returns-in_err-opening : goal.returns-in_err-opening
 unfolding read_compare bytes ◌>>=◌ onwards
