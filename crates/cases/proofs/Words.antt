@@ -1,31 +1,35 @@
 -- The numbers in front of a text, read one after another.
-use Rattle.std.proofs.Common.{◌≡◌, ◌<◌, ℕ, ℤ, List, [], ◌∷◌, ◌++◌, length, sym, subst, append_assoc, append-nil}
-use Rattle.std.specs.Char.{is_whitespace, is_not_whitespace}
-use Rattle.std.specs.Str.{NoCharPasses, EmptyOrStartsWithPassing}
-use Rattle.std.specs.Str.Parse.{signed_digits_value}
-use Rattle.cases.specs.Given.{FirstWord, Spells, Numbers}
+use Rattle.std.proofs.Common.{◌≡◌, ◌<◌, ◌+◌, ◌-◌, ℕ, suc, ℤ, List, [], ◌∷◌, ◌++◌, refl, ◌∙◌, append_assoc, append-nil, length, take, set, arith}
+use Rattle.std.proofs.lemmas.List.{take_more_set}
+use Rattle.text.specs.declared.cursor.Cursor.{Cursor}
+use Rattle.model.specs.Answer.{refused}
+use Rattle.model.specs.TptpReading.{integer}
+use Rattle.model.specs.declared.Refusal.{Refusal}
+use Rattle.tptp_tokens.specs.Steps.{from, got}
+use Rattle.cases.specs.Given.{numbers, followed}
 
--- what was read stands in front of the numbers of what is left
-abbrev pub Front : (text rest : List ℕ) (seen : List ℤ) → Type 0
-Front text rest seen = (ns : List ℤ) → Numbers rest ns → Numbers text (seen ++ ns)
+module _
+    (whole words : List ℤ) (room n : ℕ) (here : Cursor)
+    (so : whole ≡ take n words ++ numbers (room - n) here.rest.now here.at)
+  where
+    -- one number more
+    pub numbers_more :
+        n < room → n < length words → (k : ℤ) (next : Cursor) → from integer here ≡ got k next →
+        whole ≡ take (n + 1) (set words n k) ++ numbers (room - (n + 1)) next.rest.now next.at
+    unfolding numbers followed
+    numbers_more l few k next reads =
+        let more : room - n ≡ suc (room - (n + 1)) = omega (arith, l) in
+        so ∙ rw (more, reads, take_more_set words n k few, append_assoc (take n words) (k ∷ []) (numbers (room - (n + 1)) next.rest.now next.at)) refl
 
--- one number more
-pub front_more : (text rest : List ℕ) (seen : List ℤ) {next word : List ℕ} {n : ℤ} →
-    Front text rest seen →
-    FirstWord rest word next →
-    Spells word →
-    n ≡ signed_digits_value 10 word →
-    Front text next (seen ++ (n ∷ []))
-front_more text rest seen {next} {word} {n} front first spells is = λ ns more.
-    subst (Numbers text) (sym (append_assoc seen (n ∷ []) ns)) (front (n ∷ ns) (word, next, first, spells, is, more))
+    -- no number, or no room for one
+    pub numbers_stop : n < room → (q : Refusal) (p : ℕ) → from integer here ≡ refused q p → whole ≡ take n words
+    unfolding numbers followed
+    numbers_stop l q p reads =
+        let more : room - n ≡ suc (room - (n + 1)) = omega (arith, l) in
+        so ∙ rw (more, reads) (append-nil (take n words))
 
--- the end
-pub front_end : (text rest : List ℕ) (seen : List ℤ) → Front text rest seen → Numbers rest [] → Numbers text seen
-front_end text rest seen front ended = subst (Numbers text) (append-nil seen) (front [] ended)
-
--- what `split_whitespace` says of a word, as a record
-pub first_word : (text word rest : List ℕ) →
-    (gap : List ℕ) × (text ≡ gap ++ (word ++ rest)) × (0 < length word) × NoCharPasses is_not_whitespace gap × NoCharPasses is_whitespace word
-    × ((more : List ℕ) × EmptyOrStartsWithPassing is_whitespace rest more) →
-    FirstWord text word rest
-first_word text word rest item = record { gap = item.0; whole = item.1; some = item.2; blank = item.3; solid = item.4; ends = item.5 }
+    pub numbers_full : room ≡ n → whole ≡ take n words
+    unfolding numbers
+    numbers_full e =
+        let none : room - n ≡ 0 = omega (arith, e) in
+        so ∙ rw none (append-nil (take n words))

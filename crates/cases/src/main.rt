@@ -7,24 +7,35 @@ mod call;
 mod given;
 mod show;
 
-use anyhow::{Context, Result};
+ghost use Rattle.std.specs.Prelude.{◌≡◌, ◌≤◌, length, take};
+
 use call::Call;
-use given::Given;
+use given::{Given, List, split};
 use model::Answer;
 use show::{Spaced, Verdict};
-use std::io;
+use std::io::Read;
+
+// Room for what a call takes, lent to each case: a list that was read stands there until another one is given.
+#[derive(Drop)]
+struct Room {
+    table: [i32; 771],
+    policy: [i32; 200],
+    log: [i32; 32776],
+    scratch: [i32; 60],
+    text: [u8; 300],
+    buffer: [i32; 60],
+}
 
 // Makes a call, which writes to the scratch, the text and the buffer that it is lent.
 fn ask(
     call: Call,
-    given: &Given,
+    table: &[i32],
+    policy: &[i32],
+    log: &[i32],
     scratch: &mut [i32],
     text: &mut [u8],
     buffer: &mut [i32],
 ) -> Answer {
-    let table = given.table.as_slice();
-    let policy = given.policy.as_slice();
-    let log = given.log.as_slice();
     match call {
         Call::CheckPolicy => auditor::check_policy(table, policy),
         Call::CheckLog => auditor::check_log(table, log),
@@ -37,64 +48,121 @@ fn ask(
     }
 }
 
-// Runs a case, on copies of the scratch and the text that are given, and prints the answer and what the call left of what it may
-// write to.
+// Runs a case, and prints the answer and what the call left of what it may write to. What can't be printed is passed over.
 fn case(
-    rt: &(impl Print + AllocGlobal),
+    rt: &impl Print,
     call: Call,
-    name: &str,
-    given: &Given,
-    buffer: &mut [i32],
-) -> io::Result<()> {
-    let mut scratch = given.scratch.clone()?;
-    let mut text = given.text.clone()?;
-    let answer = Verdict(ask(call, given, &mut scratch, &mut text, buffer));
-    match call {
-        Call::WriteLog | Call::WritePolicy => println!(rt; "{name} {answer}{}", Spaced(&text)),
-        Call::Reduce => {
-            println!(rt; "{name} {answer}{}", Spaced(buffer))?;
-            println!(rt; "{name} scratch{}", Spaced(&scratch))
-        }
-        _ => println!(rt; "{name} {answer}{}", Spaced(buffer)),
+    name: &[u8],
+    list: &[u8],
+    given: &mut Given<'_>,
+    room: &mut Room,
+) {
+    let Room {
+        table,
+        policy,
+        log,
+        scratch,
+        text,
+        buffer,
+    } = room;
+    let t = given::read_list(given.table, 1, table);
+    let p = given::read_list(given.policy, 0, policy);
+    let l = given::read_list(given.log, 0, log);
+    given.table = List::Read(t);
+    given.policy = List::Read(p);
+    given.log = List::Read(l);
+    let s = given::words(given.scratch, 5, scratch);
+    let x = given::bytes(given.text, text);
+    let b = given::words(list, -7, buffer);
+    let scratch = &mut scratch[..s];
+    let text = &mut text[..x];
+    let buffer = &mut buffer[..b];
+    let _ = Print::write_all(rt, name);
+    let answer = Verdict(ask(
+        call,
+        &table[..t],
+        &policy[..p],
+        &log[..l],
+        scratch,
+        text,
+        buffer,
+    ));
+    let _ = match call {
+        Call::WriteLog | Call::WritePolicy => println!(rt; " {answer}{}", Spaced(text)),
+        _ => println!(rt; " {answer}{}", Spaced(buffer)),
+    };
+    if call == Call::Reduce {
+        let _ = Print::write_all(rt, name);
+        let _ = println!(rt; " scratch{}", Spaced(scratch));
     }
 }
 
-// Reads the line that the input begins with: what the cases below it are given, or a case, which is run. Any other is passed over.
-fn line(rt: &(impl Print + AllocGlobal), given: &mut Given, input: &str) -> Result<()> {
-    let Some((first, rest)) = input.split_once(char::is_whitespace) else {
-        return Ok(());
+// Reads the line that the input begins with: from where the cases below it are given something, or a case, which is run. Any other is
+// passed over. A word or a name ends with the first byte that is no more than a blank.
+fn line<'a>(rt: &impl Print, given: &mut Given<'a>, room: &mut Room, input: &'a [u8]) {
+    let Some((first, rest)) = split(input, b' ') else {
+        return;
     };
-    let alloc = rt.alloc();
+    let Ok(first) = str::from_utf8(first) else {
+        return;
+    };
     match first {
-        "table" => given.table = given::words(alloc, rest, 1)?,
-        "policy" => given.policy = given::words(alloc, rest, 0)?,
-        "log" => given.log = given::words(alloc, rest, 0)?,
-        "scratch" => given.scratch = given::words(alloc, rest, 5)?,
-        "text" => given.text = given::bytes(alloc, rest)?,
+        "table" => given.table = List::Unread(rest),
+        "policy" => given.policy = List::Unread(rest),
+        "log" => given.log = List::Unread(rest),
+        "scratch" => given.scratch = rest,
+        "text" => given.text = rest,
         _ => {
             if let Ok(call) = Call::try_from(first) {
-                let (name, rest) = rest.split_once(char::is_whitespace).unwrap_or((rest, ""));
-                let mut buffer = given::words(alloc, rest, -7)?;
-                case(rt, call, name, given, &mut buffer)?;
+                let (name, list) = split(rest, b' ').unwrap_or((rest, b""));
+                case(rt, call, name, list, given, room);
             }
         }
     }
-    Ok(())
 }
 
 // Reads each line of the input.
-fn lines(rt: &(impl Print + AllocGlobal), input: &str) -> Result<()> {
-    let mut given = Given::new(rt.alloc());
+fn lines(rt: &impl Print, input: &[u8]) {
+    let mut room = Room {
+        table: [0; 771],
+        policy: [0; 200],
+        log: [0; 32776],
+        scratch: [0; 60],
+        text: [0; 300],
+        buffer: [0; 60],
+    };
+    let mut given = Given::new(input);
     let mut rest = input;
     // By hand: a line is read together with all that follows it, since a list may go on over further lines.
     while !rest.is_empty() {
-        line(rt, &mut given, rest)?;
-        rest = rest.split_once('\n').map_or("", |(_, below)| below);
+        line(rt, &mut given, &mut room, rest);
+        let Some((_, below)) = split(rest, b'\n') else {
+            return;
+        };
+        rest = below;
     }
-    Ok(())
 }
 
-fn main(rt: HostRuntime) -> Result<()> {
-    let input = io::read_to_string(rt.alloc(), rt.reader()).context("reading standard input")?;
-    lines(&rt, &input)
+// What can be read goes to the front of a slice. How many bytes that are.
+fn read(reader: &mut impl Read, out: &mut [u8]) -> usize
+    ensures { (result ≤ length out.new) × (result ≡ length (take result out.new)) }
+{
+    let mut n = 0;
+    // By hand: the library's `read_exact` does not say how much it read before it failed.
+    while n < out.len() {
+        let Ok(more) = reader.read(&mut out[n..]) else {
+            return n;
+        };
+        if more == 0 {
+            return n;
+        }
+        n += more;
+    }
+    n
+}
+
+fn main(rt: HostRuntime) {
+    let mut input = [0; 65536];
+    let n = read(&mut rt.reader(), &mut input);
+    lines(&rt, &input[..n]);
 }

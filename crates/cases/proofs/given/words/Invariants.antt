@@ -1,6 +1,9 @@
--- The numbers that are read are those in front of what is left of the text.
-use Rattle.cases.proofs.Words.{Front}
+-- The numbers that are read, and those of what is left, are those of the text.
+use Rattle.std.proofs.Common.{◌≡◌, ◌++◌, ◌-◌, length, take, drop}
+use Rattle.cases.specs.Given.{numbers}
 use Rattle.cases.proofs.given.words.Given as goal
 
-abbrev pub invariant-loop-word : goal.invariant-loop-word
-invariant-loop-word l = Front l.text l.word-iterator.rest.now l.words.items
+abbrev pub invariant-loop-n : goal.invariant-loop-n
+invariant-loop-n l =
+    (numbers (length l.initial.words) l.text 0 ≡ take l.n l.words ++ numbers (length l.initial.words - l.n) l.here.rest.now l.here.at)
+    × (drop l.n l.words ≡ drop l.n l.initial.words)
