@@ -101,7 +101,7 @@ pub fn write_policy(table: &[i32], policy: &[i32], buffer: &mut [u8]) -> Answer
     ensures answers_as { AnswersAs (C.write_policy_call table.now policy.now (length buffer.old)).answer result }
     ensures buffer_after { buffer.new ≡ (C.write_policy_call table.now policy.now (length buffer.old)).buffer }
 {
-    let answer = policy_texts::write(table, policy, buffer);
-    clear(buffer, counted(answer), 0);
-    answer
+    let written = policy_texts::write(table, policy, buffer);
+    clear(buffer, counted(written), 0);
+    written
 }

@@ -10,12 +10,13 @@ use lib.Dec.{eqb}
 use lib.IntN.{pos}
 use Rattle.model.specs.Words.{Words, word}
 use Rattle.model.specs.Lists.{span, all}
-use Rattle.model.specs.Answer.{Outcome, passed, refused, ask, ◌>>=◌}
+use Rattle.model.specs.Answer.{Outcome, passed, refused, ask, question, in_order, refusal_of, ◌>>=◌}
 use Rattle.model.specs.Level.{restriction}
 use Rattle.model.specs.Mode.{Variables, bindings}
 use Rattle.model.specs.Tree.{Tree}
 use Rattle.model.specs.declared.Refusal.{Refusal}
-use Rattle.model.specs.declared.Refusal.TheVariants.{Mode}
+use Rattle.model.specs.declared.Refusal.TheVariants.{Table, PolicyLength, Shape, Level, Predicate, Variable, Mode, LogLength, Row}
+use Rattle.model.specs.declared.Refusal.TheVariants.{Repeat, Scratch, Room, Csv, Record, Tptp}
 use Rattle.tables.specs.Checked.{outcome}
 use Rattle.std.specs.Prelude.{Result, Ok, Err, MatchResult, IsErrAnd}
 use Rattle.std.proofs.lemmas.Result.{err_from_is_err_and}
@@ -28,6 +29,25 @@ use Rattle.modes.specs.declared.mode.Bound.{Bound}
 use Rattle.tptp_state.specs.Told.{Passed, told, moved, LeafBound, Dropped, Introduced}
 use Rattle.tptp_state.specs.declared.state.State.{State}
 use Rattle.tptp_tokens.proofs.LayingLaws.{sets_last}
+
+-- a refusal is that of its number
+pub refusal_again : (r : Refusal) → refusal_of (question r) ≡ r
+unfolding refusal_of in_order question
+refusal_again Table = refl
+refusal_again PolicyLength = refl
+refusal_again Shape = refl
+refusal_again Level = refl
+refusal_again Predicate = refl
+refusal_again Variable = refl
+refusal_again Mode = refl
+refusal_again LogLength = refl
+refusal_again Row = refl
+refusal_again Repeat = refl
+refusal_again Scratch = refl
+refusal_again Room = refl
+refusal_again Csv = refl
+refusal_again Record = refl
+refusal_again Tptp = refl
 
 -- a refusal at another place
 pub refused_there :

@@ -6,9 +6,9 @@ use Rattle.auditor.proofs.write_policy.Goals as goal
 pub returns : goal.returns
 unfolding write_policy_call
 returns c =
-    let told = text-cleared _ c.args.buffer.now c.write-answer.new.buffer _ _ _
-    c.write-answer.ensures
-    c.write-answer.auto.buffer
+    let told = text-cleared _ c.args.buffer.now c.write-written.new.buffer _ _ _
+    c.write-written.ensures
+    c.write-written.auto.buffer
     c.counted.ensures
     c.clear.ensures in record {
       answers_as = told.0;

@@ -1,5 +1,5 @@
 -- The number of a refusal is its question's: by cases on the refusal.
-use Rattle.std.proofs.Common.{◌≡◌, ◌+◌}
+use Rattle.std.proofs.Common.{arith, ◌≡◌, ◌+◌, ◌≤◌}
 use mathlib.Core.Path.{refl}
 use Rattle.model.specs.Answer.{question}
 use Rattle.model.specs.declared.Refusal.{Refusal}
@@ -25,5 +25,23 @@ numbered Csv = refl
 numbered Record = refl
 numbered Tptp = refl
 
+few : (r : Refusal) → question r ≤ 15
+unfolding question
+few Table = omega arith
+few PolicyLength = omega arith
+few Shape = omega arith
+few Level = omega arith
+few Predicate = omega arith
+few Variable = omega arith
+few Mode = omega arith
+few LogLength = omega arith
+few Row = omega arith
+few Repeat = omega arith
+few Scratch = omega arith
+few Room = omega arith
+few Csv = omega arith
+few Record = omega arith
+few Tptp = omega arith
+
 pub returns : goal.returns
-returns c = numbered c.args.refusal
+returns c = omega (arith, numbered c.args.refusal, few c.args.refusal)

@@ -23,5 +23,5 @@ returns-then-is_empty c =
 pub returns : goal.returns
 returns c =
     let back : to_z w32 (of_z w32 c.from.result) ≡ c.from.result = search rules in
-    plain-written c.args.value c.args.buffer.now _ _ (back ∙ c.from.ensures ∙ ap (λ (n : ℕ). pos n) (word c.args.value)) (omega arith)
+    plain-written c.args.value c.args.buffer.now _ _ (back ∙ c.from.ensures ∙ ap (λ (n : ℕ). pos n) (word _ ∙ grind arith)) (omega arith)
     (omega (arith, eqb-false _ 0 (sym c.is_empty.ensures ∙ c.if-is_empty.false)))
