@@ -1,4 +1,4 @@
-// The reduction of ground atoms and comparisons, all of whose variables are outer ones.
+// The reduction of ground atoms and comparisons, all of whose variables are outer ones, and the environment of an instance.
 ghost use Rattle.std.specs.Prelude.{List, ◌++◌, ◌+◌, ◌*◌, ◌≤◌, length, take, drop, ℤ};
 ghost use Rattle.nodes.specs.Ground.{Outer, HereLiteral, GrownAtom, HereCompare, Stays, ReducesAtom, ReducesCompare};
 

@@ -92,7 +92,7 @@ fn tuple(
     closed(here, v)
 }
 
-// The same, whatever the place is lent from.
+// Excluded tuples one behind another, wherever the place is lent from.
 fn listed(
     here: &mut Cursor<'_>,
     room: usize,
