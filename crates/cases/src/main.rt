@@ -8,6 +8,7 @@ mod given;
 mod show;
 
 ghost use Rattle.std.specs.Prelude.{◌≡◌, ◌≤◌, length, take};
+ghost use Rattle.std.specs.Io.KnownBytes.{Consumes};
 
 use call::Call;
 use given::{Given, List, split};
@@ -143,9 +144,10 @@ fn lines(rt: &impl Print, input: &[u8]) {
     }
 }
 
-// What can be read goes to the front of a slice. How many bytes that are.
-fn read(reader: &mut impl Read, out: &mut [u8]) -> usize
-    ensures { (result ≤ length out.new) × (result ≡ length (take result out.new)) }
+// What can be read goes to the front of a slice: the next bytes of the reader, in their order. How many they are.
+fn read<R: Read>(reader: &mut R, out: &mut [u8]) -> usize
+    ensures front { (result ≤ length out.new) × (result ≡ length (take result out.new)) }
+    ensures bytes { Consumes (R.remaining reader.old) (R.remaining reader.new) (take result out.new) }
 {
     let mut n = 0;
     // By hand: the library's `read_exact` does not say how much it read before it failed.
